@@ -37,7 +37,7 @@ use Rattle.mega_actions.specs.of_proposing.declared.work.Work.{Work}
 use Rattle.mega_core.specs.Acted.{Acted, HasActed, IsEnd, IsValidate, ended}
 use Rattle.mega_core.specs.Beginning.{at_begin, has_begun, marks_unless}
 use Rattle.mega_core.specs.Kind.{FitsKind}
-use Rattle.mega_stepping.specs.Positions.{Keeps}
+use Rattle.mega_stepping.specs.Behind.{Keeps}
 use Rattle.mega_core.specs.Represents.{Represents}
 use Rattle.mega_core.proofs.Fitting.{begin_fits}
 use Rattle.mega_core.proofs.Quiet.{begun_marks, refusal_plain}

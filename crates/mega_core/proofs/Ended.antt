@@ -34,8 +34,7 @@ use Rattle.mega_stepping.specs.declared.note.Note.{Note}
 use Rattle.mega_core.specs.Kind.{FitsKind}
 use Rattle.mega_core.specs.Made.{Made}
 use Rattle.mega_stepping.specs.Notes.{met_of}
-use Rattle.mega_stepping.specs.Positions.{Keeps}
-use Rattle.mega_stepping.specs.Touching.{is_behind}
+use Rattle.mega_stepping.specs.Behind.{Keeps, is_behind}
 use Rattle.mega_core.specs.Represents.{Represents}
 use Rattle.mega_stepping.specs.Staging.{Stages}
 use Rattle.mega_core.proofs.Alike.{IsApart, alike_tells, alike_then, all_apart_alike, validates_alike}

@@ -38,7 +38,8 @@ use Rattle.mega_stepping.specs.of_leases.Opening.{AreOwed}
 use Rattle.mega_stepping.specs.of_voter.Holding.{Recalls}
 use Rattle.mega_stepping.specs.declared.applying.Before.{Before}
 use Rattle.mega_stepping.specs.Positions.{before_at}
-use Rattle.mega_stepping.specs.Touching.{asked_groups, is_behind, touched}
+use Rattle.mega_stepping.specs.Behind.{is_behind}
+use Rattle.mega_stepping.specs.Touching.{asked_groups, touched}
 use Rattle.mega_stepping.proofs.Groups.{has, no_log}
 use Rattle.mega_stepping.proofs.of_voter.Grouped.{groups_sorted, sorted_same}
 use Rattle.mega_core.specs.Acted.{Acted}

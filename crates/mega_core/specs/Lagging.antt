@@ -9,7 +9,7 @@ use Rattle.mega_wal.specs.Kept.{is_group}
 use Rattle.mega_rules.specs.Members.{has_rows}
 use Rattle.mega_rules.specs.Met.{Met}
 use Rattle.mega_stepping.specs.declared.applying.Before.{Before}
-use Rattle.mega_stepping.specs.Touching.{is_behind}
+use Rattle.mega_stepping.specs.Behind.{is_behind}
 
 -- a group is among them
 abbrev pub lags : BTreeSet GroupId → GroupId → Bool

@@ -7,8 +7,8 @@ ghost use Rattle.mega_wal.specs.Kept.{is_group};
 ghost use Rattle.mega_rules.specs.Met.{Met};
 ghost use Rattle.mega_replica.specs.Following.{progress_at};
 ghost use Rattle.mega_stepping.specs.Notes.{met_of};
-ghost use Rattle.mega_stepping.specs.Positions.{Keeps, note_since};
-ghost use Rattle.mega_stepping.specs.Touching.{is_behind};
+ghost use Rattle.mega_stepping.specs.Behind.{Keeps, is_behind};
+ghost use Rattle.mega_stepping.specs.Positions.{note_since};
 ghost use Rattle.mega_core.specs.Lagging.{is_watched, lags};
 
 use mega_actions::Replica;

@@ -4,7 +4,8 @@ ghost use Rattle.mega_base.specs.declared.names.GroupId.{GroupId as Group};
 ghost use Rattle.mega_rules.specs.Members.{has_rows};
 ghost use Rattle.mega_rules.specs.Met.{Met};
 ghost use Rattle.mega_replica.specs.Following.{progress_at};
-ghost use Rattle.mega_stepping.specs.Positions.{Keeps, before_at};
+ghost use Rattle.mega_stepping.specs.Behind.{Keeps};
+ghost use Rattle.mega_stepping.specs.Positions.{before_at};
 ghost use Rattle.mega_stepping.specs.Touching.{behind};
 ghost use Rattle.mega_core.specs.Lagging.{KnowsLagging};
 

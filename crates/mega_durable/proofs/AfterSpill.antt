@@ -19,7 +19,7 @@ use Rattle.mega_core.specs.declared.fault.StepFault.{StepFault}
 use Rattle.mega_core.specs.declared.fault.StepFault.TheVariants as step
 use Rattle.mega_core.specs.declared.node.Node.{Node}
 use Rattle.mega_core.specs.Faults.{of_store}
-use Rattle.mega_core.specs.of_stepping.Positions.{Keeps}
+use Rattle.mega_core.specs.of_stepping.Behind.{Keeps}
 use Rattle.mega_durable.specs.declared.fault.UpFault.{UpFault}
 use Rattle.mega_durable.specs.declared.fault.UpFault.TheVariants.{Cut, Log, Step as Failed, Unformed}
 use Rattle.mega_durable.specs.Spilling.{MaySpill, SpillUsed, step_fault_of}

@@ -17,7 +17,7 @@ use Rattle.mega_wal.specs.declared.kept.Kept.{Kept}
 use Rattle.mega_core.specs.declared.fault.StepFault.{StepFault}
 use Rattle.mega_core.specs.declared.fault.StepFault.TheVariants as step
 use Rattle.mega_core.specs.declared.node.Node.{Node}
-use Rattle.mega_core.specs.of_stepping.Positions.{Keeps}
+use Rattle.mega_core.specs.of_stepping.Behind.{Keeps}
 use Rattle.mega_durable.specs.declared.fault.UpFault.{UpFault}
 use Rattle.mega_durable.specs.declared.fault.UpFault.TheVariants as up
 

@@ -15,12 +15,7 @@ use std::alloc::Global;
 use std::collections::BTreeMap;
 
 /// Adds an entry with this row under each of these keys.
-fn place(
-    alloc: Global,
-    entries: &mut Rows,
-    stored: &Row,
-    keys: Vec<Bytes>,
-) -> Result<(), NoMemory>
+fn place(alloc: Global, entries: &mut Rows, stored: &Row, keys: Vec<Bytes>) -> Result<(), NoMemory>
     ensures { OnOk result (entries.new.entries ≡ placed entries.old.entries stored.now keys.items) }
 {
     for key in keys {

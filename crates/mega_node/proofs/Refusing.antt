@@ -6,12 +6,11 @@ use Rattle.mega_disk.specs.declared.records.Records.{Ghosts}
 use Rattle.mega_server.specs.of_durable.declared.starting.NotStarted.{NotStarted}
 use Rattle.mega_server.specs.of_durable.declared.starting.NotStarted.TheVariants as refused
 use Rattle.mega_server.specs.of_durable.Starting.{IsRefused}
-use Rattle.mega_serve.specs.declared.fault.NodeFault.{NodeFault}
-use Rattle.mega_serve.specs.declared.fault.NodeFault.TheVariants as node
-use Rattle.mega_serve.specs.declared.fault.ServeFault.{ServeFault}
-use Rattle.mega_serve.specs.declared.fault.ServeFault.TheVariants as serve
-use Rattle.mega_serve.specs.Causes.{IsCaused}
-use Rattle.mega_serve.specs.Stepping.{Devices}
+use Rattle.mega_serve.specs.of_page.declared.fault.NodeFault.{NodeFault}
+use Rattle.mega_serve.specs.of_page.declared.fault.NodeFault.TheVariants as node
+use Rattle.mega_serve.specs.of_page.declared.fault.ServeFault.{ServeFault}
+use Rattle.mega_serve.specs.of_page.declared.fault.ServeFault.TheVariants as serve
+use Rattle.mega_serve.specs.Causes.{Devices, IsCaused}
 use Rattle.mega_voter.specs.declared.voter.Voter.{Voter}
 use Rattle.mega_voter.specs.Used.{LogUsed}
 use Rattle.mega_wal.specs.declared.answers.LogFault.{LogFault}

@@ -18,7 +18,8 @@ use Rattle.mega_serve.specs.Lines.{record_text}
 use Rattle.mega_serve.specs.Pages.{ArePut, GoesOn, Stops}
 use Rattle.mega_serve.specs.Turns.{Ended, EndsIn, HasBegun, HasTurned, MayServe, Runs, Proceeds, schema_of, served_by, setting_of, turns_of}
 use Rattle.mega_serve.proofs.Ending.{ended_further, none_begun}
-use Rattle.mega_serve.proofs.Going.{all_nothing, proceeds_further}
+use Rattle.mega_serve.proofs.Giving.{all_nothing}
+use Rattle.mega_serve.proofs.Going.{proceeds_further}
 use Rattle.mega_server.specs.Forming.{notes_shown}
 use Rattle.mega_transcript.specs.declared.item.Item.{Item}
 use Rattle.mega_transcript.specs.declared.item.Item.TheVariants.{Start}

@@ -6,14 +6,14 @@ use Rattle.mega_server.specs.of_core.of_stepping.declared.note.Note.{Note}
 use Rattle.mega_handler.specs.Named.{Meaning, Meanings}
 use Rattle.mega_link.specs.Datagrams.{Datagram}
 use Rattle.mega_promises.specs.Served.{Served}
-use Rattle.mega_serve.specs.declared.fault.NodeFault.{NodeFault}
-use Rattle.mega_serve.specs.declared.fault.NodeFault.TheVariants as node
-use Rattle.mega_serve.specs.declared.fault.ServeFault.{ServeFault}
-use Rattle.mega_serve.specs.declared.fault.ServeFault.TheVariants as serve
+use Rattle.mega_serve.specs.of_page.declared.fault.NodeFault.{NodeFault}
+use Rattle.mega_serve.specs.of_page.declared.fault.NodeFault.TheVariants as node
+use Rattle.mega_serve.specs.of_page.declared.fault.ServeFault.{ServeFault}
+use Rattle.mega_serve.specs.of_page.declared.fault.ServeFault.TheVariants as serve
 use Rattle.mega_serve.specs.declared.steps.Steps.{Ghosts as StepsGhosts}
 use Rattle.mega_serve.specs.declared.waiting.Waiting.{Waiting}
 use Rattle.mega_serve.specs.Pages.{GoesOn, Stops}
-use Rattle.mega_serve.specs.Stepping.{Devices, HaveFailed}
+use Rattle.mega_serve.specs.Causes.{Devices, HaveFailed}
 use Rattle.mega_serve.specs.Turns.{HasBegun, HasTurned, IsServing}
 use Rattle.mega_node.specs.declared.stop.Stop.{Stop}
 use Rattle.mega_node.specs.declared.stop.Stop.TheVariants.{Device, Full, NoMemory, Sink, Unformed}

@@ -15,7 +15,7 @@ ghost use Rattle.mega_node.specs.Outside.{told_by};
 ghost use Rattle.mega_node.specs.Serving.{HasTurnedOff, HasTurnedOn, IsDue};
 ghost use Rattle.mega_node.specs.Starting.{HandsBack, HasStarted};
 ghost use Rattle.mega_node.specs.Stops.{IsOverStop};
-ghost use Rattle.mega_serve.specs.Stepping.{HaveGone};
+ghost use Rattle.mega_serve.specs.Causes.{HaveGone};
 
 use crate::opening::open_logs;
 use crate::record::write_start;

@@ -4,7 +4,7 @@ ghost use Rattle.mega_base.specs.Causes.{Rose};
 ghost use Rattle.mega_cluster.specs.declared.cluster.Cluster.{Cluster as Members};
 ghost use Rattle.mega_link.specs.Datagrams.{Datagram};
 ghost use Rattle.mega_serve.specs.declared.waiting.Waiting.{Waiting as Waits};
-ghost use Rattle.mega_serve.specs.Stepping.{HaveGone};
+ghost use Rattle.mega_serve.specs.Causes.{HaveGone};
 ghost use Rattle.mega_serve.specs.Turns.{EndsIn, HasBegun, HasTurned, Runs};
 ghost use Rattle.mega_node.specs.Serving.{IsDue, node_stop, serve_stop};
 ghost use Rattle.mega_node.specs.Stops.{IsServeStop};

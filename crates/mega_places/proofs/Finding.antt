@@ -1,10 +1,10 @@
--- What is found of a message that can be delivered or dropped.
+-- What is found of a message that can be delivered.
 use Rattle.std.proofs.Common.{◌≡◌, ℕ, ◌-◌, ◌&&◌, not, nat_le, nat_lt, Bool, true, false, cond, List, [], ◌∷◌, find, length, Option, Some, None, is_some, refl, sym, ap, ◌∙◌, subst, zero, suc, arith}
 use Rattle.std.proofs.lemmas.Bool.Decides.{nat_tests}
 use Rattle.std.specs.List.{range_with_len, slice_get}
 use Rattle.mega_cluster.specs.declared.cluster.Cluster.{Cluster}
 use Rattle.mega_wire.specs.declared.message.Message.{Message}
-use Rattle.mega_schedule.specs.declared.world_event.WorldEvent.TheVariants.{Deliver, Drop}
+use Rattle.mega_schedule.specs.declared.world_event.WorldEvent.TheVariants.{Deliver}
 use Rattle.mega_transcript.specs.declared.item.Item.{Item}
 use Rattle.mega_transcript.specs.Tape.{is_sent, is_taken, sent_count}
 use Rattle.mega_promises.specs.Messages.{is_deliverable, is_dropped, message_of, next_delivery, receiver_up}
@@ -56,14 +56,6 @@ next_of c now n (Some message) sent is can =
 pub next_happens : (c : Cluster) (mail : Mail) (now : Standing) (n : ℕ) → Carries mail now.tape → next_delivery (up now) now.tape ≡ Some n → refusal c now (Deliver n) ≡ None
 next_happens c mail now n r is =
     next_of c now n (message_of now.tape n) (found_sent mail now.tape n r) refl (passes (is_deliverable (up now) now.tape) (range_with_len 1 (sent_count now.tape)) n is)
-
--- a message that may be dropped was sent
-pub drop_sent : (c : Cluster) (now : Standing) (n : ℕ) → refusal c now (Drop n) ≡ None → is_sent now.tape n ≡ true
-drop_sent c now n none = by (is_sent now.tape n) none
-  where
-    by : (t : Bool) → because (not t) 3 (because (is_dropped now.tape n) 4 None) ≡ None → t ≡ true
-    by true none = refl
-    by false none = cc
 
 -- no message is handed over that was not sent, or whose receiver is down
 pub none_refused : (c : Cluster) (mail : Mail) (now : Standing) (n : ℕ) → Carries mail now.tape → message_of now.tape n ≡ None → refusal c now (Deliver n) ≡ None → ⊥

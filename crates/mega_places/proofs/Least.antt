@@ -12,9 +12,10 @@ use Rattle.mega_promises.specs.Runs.{Standing, up}
 use Rattle.mega_places.specs.declared.mail.Mail.{Mail}
 use Rattle.mega_places.specs.declared.place.Place.{Place}
 use Rattle.mega_places.specs.Carries.{Carries, is_waiting, message_at}
-use Rattle.mega_places.specs.Least.{IsLeast}
+use Rattle.mega_verdicts.specs.Least.{IsLeast}
 use Rattle.mega_places.specs.Members.{is_up_at}
-use Rattle.mega_places.specs.Waits.{goes_to, waits_among, waits_for}
+use Rattle.mega_places.specs.Waits.{goes_to, waits_among}
+use Rattle.mega_verdicts.specs.Waiting.{waits_for}
 use Rattle.mega_places.proofs.Finding.{found_sent}
 use Rattle.mega_places.proofs.Joining.{up_within}
 

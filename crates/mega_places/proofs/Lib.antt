@@ -1,6 +1,7 @@
 pub mod Anew
 pub mod Breaking
 pub mod Carrying
+pub mod Dropping
 pub mod Failing
 pub mod Finding
 pub mod Fuses

@@ -11,7 +11,8 @@ use Rattle.mega_transcript.specs.Tape.{is_sent, is_taken, sent_count}
 use Rattle.mega_promises.specs.Messages.{is_dropped, message_of}
 use Rattle.mega_places.specs.declared.mail.Mail.{Mail}
 use Rattle.mega_places.specs.Carries.{Carries, is_waiting, message_at}
-use Rattle.mega_places.specs.Waits.{goes_to, waits_for}
+use Rattle.mega_places.specs.Waits.{goes_to}
+use Rattle.mega_verdicts.specs.Waiting.{waits_for}
 
 pub get_last : {X : Type 0} (xs : List X) (m : X) (n : ℕ) → slice_get (xs ++ m ∷ []) n ≡ cond (length xs == n) (Some m) (slice_get xs n)
 get_last [] m zero = refl

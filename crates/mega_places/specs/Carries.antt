@@ -8,7 +8,8 @@ use Rattle.mega_transcript.specs.declared.item.Item.{Item}
 use Rattle.mega_transcript.specs.Tape.{is_sent, is_taken, sent_count}
 use Rattle.mega_promises.specs.Messages.{is_dropped, message_of}
 use Rattle.mega_places.specs.declared.mail.Mail.{Mail}
-use Rattle.mega_places.specs.Waits.{goes_to, waits_for}
+use Rattle.mega_places.specs.Waits.{goes_to}
+use Rattle.mega_verdicts.specs.Waiting.{waits_for}
 
 -- the message of a number, counted from 1
 abbrev pub message_at : List Message → ℕ → Option Message

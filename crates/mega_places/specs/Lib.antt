@@ -3,7 +3,6 @@ pub mod Faults
 pub mod Fusing
 pub mod Kept
 pub mod Lapses
-pub mod Least
 pub mod LogFuses
 pub mod Members
 pub mod Starting

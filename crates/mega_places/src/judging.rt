@@ -12,6 +12,7 @@ use crate::places::member_of;
 use crate::safety::{Lapse, Safety};
 use mega_base::Epoch;
 use mega_transcript::Item;
+use mega_verdicts::is_first;
 
 /// Whether the node of this number is up, and its coordinator counts a cell under an epoch.
 fn counts(places: &[Place], node: u8, cell: u8, epoch: Epoch) -> bool
@@ -42,5 +43,5 @@ fn breaks(places: &[Place], safety: &Safety, item: &Item) -> bool
 pub fn breaks_first(places: &[Place], safety: &Safety, item: &Item) -> bool
     ensures { (c : Cluster) (ruled : ℕ → RuleNode) → AreMembers c places.now ruled → AreLapsesOf safety.now.lapses (λ me. (ruled me).met) → result ≡ (not safety.now.is_told && breaks c ruled item.now) }
 {
-    !safety.is_told && breaks(places, safety, item)
+    is_first(safety.is_told, breaks(places, safety, item))
 }

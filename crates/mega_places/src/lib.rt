@@ -16,7 +16,6 @@ mod remains;
 mod safety;
 mod starting;
 mod stepping;
-mod waiting;
 
 pub use fallen::Fallen;
 pub use fault::WorldFault;

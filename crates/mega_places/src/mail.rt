@@ -1,17 +1,21 @@
 //! All messages between the nodes, numbered from 1, with those that wait, by receiver, and those that are dropped.
-ghost use Rattle.std.specs.Prelude.{◌≡◌, ◌+◌, ◌++◌, ◌==◌, ◌&&◌, not, [], ◌∷◌, ℕ, List, true, length, OnOk};
+ghost use Rattle.std.specs.Prelude.{◌≡◌, ◌+◌, ◌++◌, ◌==◌, ◌&&◌, not, [], ◌∷◌, ℕ, List, true, length, IfOk, OnOk, Some, None};
 ghost use Rattle.std.specs.Option.{option_copied};
+ghost use Rattle.mega_cluster.specs.declared.cluster.Cluster.{Cluster};
 ghost use Rattle.mega_promises.specs.Items.{numbered};
 ghost use Rattle.mega_promises.specs.Messages.{is_dropped, message_of};
+ghost use Rattle.mega_promises.specs.Runs.{Standing, refusal};
+ghost use Rattle.mega_schedule.specs.declared.world_event.WorldEvent.TheVariants as event;
 ghost use Rattle.mega_transcript.specs.declared.item.Item.{Item as OnTape};
 ghost use Rattle.mega_transcript.specs.declared.item.Item.TheVariants as item;
 ghost use Rattle.mega_transcript.specs.Tape.{is_sent, onto, sent_count};
 ghost use Rattle.mega_places.specs.Carries.{Carries};
-ghost use Rattle.mega_places.specs.Waits.{waits_for};
+ghost use Rattle.mega_places.specs.Waits.{receiver_of};
+ghost use Rattle.mega_verdicts.specs.Waiting.{waits_for};
 
-use crate::waiting::{forget, keep};
 use mega_base::{Copied, Items, NoMemory};
 use mega_transcript::{Item, Tape};
+use mega_verdicts::{drop_message, forget, keep};
 use mega_wire::Message;
 use std::alloc::Global;
 use std::collections::BTreeSet;
@@ -82,13 +86,27 @@ impl Mail {
         self.ends_waiting(number);
     }
 
-    /// A message that was sent is dropped.
-    pub fn drops(&mut self, number: u64) -> Result<(), NoMemory>
-        ensures { OnOk result ((tape : List OnTape) → Carries self.old tape → is_sent tape number ≡ true → Carries self.new (item.Dropped number ∷ tape)) }
+    /// The receiver of the message of a number, where one was sent.
+    fn receiver(&self, number: u64) -> Option<u8>
+        ensures { (tape : List OnTape) → Carries self.now tape → result ≡ receiver_of (message_of tape number) }
     {
-        self.ends_waiting(number);
-        self.dropped.insert(number)?;
-        Ok(())
+        match self.message(number) {
+            Some(message) => Some(message.to),
+            None => None,
+        }
+    }
+
+    /// The message of a number is dropped, or why it is not: 3, none of this number was sent; 4, it was dropped before.
+    pub fn drop_message(&mut self, number: u64) -> Result<Option<u8>, NoMemory>
+        ensures value { IfOk result (λ refused. (c : Cluster) (now : Standing) → Carries self.old now.tape → refused ≡ refusal c now (event.Drop number)) }
+        ensures same { IfOk result (λ refused. (why : ℕ) → refused ≡ Some why → self.new ≡ self.old) }
+        ensures dropped { IfOk result (λ refused. refused ≡ None → (tape : List OnTape) → Carries self.old tape → Carries self.new (item.Dropped number ∷ tape)) }
+    {
+        let to = self.receiver(number);
+        match drop_message(&mut self.waiting, &mut self.dropped, to, number) {
+            Ok(why) => Ok(why),
+            Err(refused) => Err(refused),
+        }
     }
 
     /// A message is sent, under the next number.

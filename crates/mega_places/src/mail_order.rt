@@ -3,14 +3,15 @@ ghost use Rattle.std.specs.Prelude.{◌≡◌, ◌&&◌, ℕ, length};
 ghost use Rattle.mega_promises.specs.Messages.{next_delivery};
 ghost use Rattle.mega_promises.specs.Runs.{Standing, up};
 ghost use Rattle.mega_places.specs.Carries.{Carries};
-ghost use Rattle.mega_places.specs.Least.{IsLeast};
+ghost use Rattle.mega_verdicts.specs.Least.{IsLeast};
 ghost use Rattle.mega_places.specs.Members.{is_up_at};
-ghost use Rattle.mega_places.specs.Waits.{waits_among, waits_for};
+ghost use Rattle.mega_places.specs.Waits.{waits_among};
+ghost use Rattle.mega_verdicts.specs.Waiting.{waits_for};
 
 use crate::mail::Mail;
 use crate::place::Place;
 use crate::places::member_of;
-use crate::waiting::{first_for, lesser};
+use mega_verdicts::{first_for, lesser};
 
 impl Mail {
     /// The least number of a message that waits for a node, if the node is up and any does.

@@ -19,6 +19,7 @@ use crate::place::Place;
 use crate::remains::Remains;
 use mega_disk::MemRecords;
 use mega_durable::Cut;
+use mega_verdicts::CutOff;
 use std::alloc::Global;
 use std::mem;
 
@@ -113,18 +114,11 @@ fn cut_off(place: Place, cut: Cut) -> Fallen
     match place {
         Place::Up(member) => {
             let Member { up, fuse } = member;
-            let remains = Remains::OnDisk(up.close());
-            if keeps_record(fuse) {
-                return Fallen {
-                    remains,
-                    fuse: None,
-                    owed: Some(cut),
-                };
-            }
+            let is_kept = keeps_record(fuse);
             Fallen {
-                remains,
+                remains: Remains::OnDisk(up.close()),
                 fuse: None,
-                owed: None,
+                owed: CutOff::Step { is_kept, cut }.owes(),
             }
         }
         Place::Down(fallen) => fallen,

@@ -21,6 +21,7 @@ use mega_disk::MemRecords;
 use mega_durable::mega_core::mega_stepping::Note;
 use mega_durable::{Cut, Down, NotStarted, Started, Up};
 use mega_rows::VersionedRows;
+use mega_verdicts::CutOff;
 use mega_voter::Voter;
 use std::alloc::Global;
 
@@ -102,7 +103,7 @@ fn started(
         Err(NotStarted::Cut { records }) => Err(NotBegun::Cut(Fallen {
             remains: Remains::OnDisk(records),
             fuse: None,
-            owed,
+            owed: CutOff::Start { owed }.owes(),
         })),
         Err(NotStarted::StartsFull { records: _records }) => Err(NotBegun::Limit),
         Err(

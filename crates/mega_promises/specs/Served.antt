@@ -1,5 +1,5 @@
 -- The run of a node that is served over links: the record that it writes, what it puts out, and what its journal has then.
-use Rattle.std.specs.Prelude.{◌≡◌, ◌⊎◌, ℕ, ◌+◌, ◌==◌, ◌&&◌, Bool, if◌then◌else◌, List, [], ◌∷◌, ◌++◌, codes, decimal, filter, filter_map, find, flat_map, fold, map, reverse, take, Option, Some, None, Result, Ok, Err}
+use Rattle.std.specs.Prelude.{◌≡◌, ◌⊎◌, ℕ, ◌+◌, ◌==◌, ◌&&◌, Bool, if◌then◌else◌, List, [], ◌∷◌, ◌++◌, codes, decimal, filter, filter_map, find, flat_map, fold, map, reverse, Option, Some, None, Result, Ok, Err}
 use Rattle.std.specs.List.{list_any}
 use Rattle.mega_base.specs.declared.names.OpId.{OpId}
 use Rattle.mega_cluster.specs.declared.cluster.Cluster.{Cluster}
@@ -7,8 +7,8 @@ use Rattle.mega_schema.specs.declared.schema.Schema.{Schema}
 use Rattle.mega_handler.specs.Named.{Meanings}
 use Rattle.mega_wire.specs.declared.message.Message.{Message}
 use Rattle.mega_wire.specs.declared.message.Body.{Body}
-use Rattle.mega_wire.specs.declared.message.Body.TheVariants.{Accepted, Promise, Reply, Request as Requests}
-use Rattle.mega_wire.specs.Messages.{message_at, message_text}
+use Rattle.mega_wire.specs.declared.message.Body.TheVariants.{Accepted, Promise, Request as Requests}
+use Rattle.mega_wire.specs.Messages.{message_at}
 use Rattle.mega_base.specs.Reading.{whole_of}
 use Rattle.mega_outcome.specs.declared.answer.Answer.{Answer}
 use Rattle.mega_outcome.specs.declared.request.Request.{Request}
@@ -21,23 +21,13 @@ use Rattle.mega_wal.specs.History.{starts_of}
 use Rattle.mega_wal.specs.Kept.{Represents}
 use Rattle.mega_transcript.specs.declared.item.Item.{Item}
 use Rattle.mega_transcript.specs.Answers.{answer_words}
+pub use Rattle.mega_transcript.specs.Recorded.{Got, Line, Noted, OfClient, OfNode, Peer, Put, joined, put_in, put_out, reply_line}
 use Rattle.mega_rules.specs.Met.{Met, Answers, Begins, Decides, Grants, Lapses, Ticks}
 use Rattle.mega_rules.specs.Operations.{Node, Operation}
 use Rattle.mega_rules.specs.Steps.{Event, Begin, Step, Take, Tick, op_of, start, start_items, step}
 use Rattle.mega_promises.specs.Items.{number, shown}
 use Rattle.mega_promises.specs.NodeRuns.{met_of}
 use Rattle.mega_promises.specs.Runs.{names_nothing, setting}
-
--- who is at the other end: a node, or a client, numbered from 1 in order of first appearance
-pub data Peer : Type 0 where
-  OfNode : (node : ℕ) → Peer
-  OfClient : (client : ℕ) → Peer
-
--- a line of the record: what the node noted, as on a tape, a datagram that it got, and one that it put out
-pub data Line : Type 0 where
-  Noted : (item : Item) → Line
-  Got : (from : Peer) (bytes : List ℕ) → Line
-  Put : (to : Peer) (bytes : List ℕ) → Line
 
 -- a turn: a reading of the clock, and then what a receive gives, if anything, under the handlers that are there
 pub record Turn : Type 0 where
@@ -80,17 +70,6 @@ kept_of made = filter_map kept_of_note made.notes ++ filter_map (λ (m : Message
 
 abbrev pub noted : ℕ → List Met → List Line
 noted me notes = map Noted (flat_map (shown me) notes)
-
-abbrev pub put_out : List Message → List Line
-put_out messages = map (λ (m : Message). Put (OfNode m.to) (message_text m)) messages
-
--- a reply to a client: of its answer the words alone, and of them the first 65,000 bytes
-abbrev pub joined : List (List ℕ) → List ℕ
-joined [] = []
-joined (word ∷ words) = word ++ flat_map (λ (next : List ℕ). 32 ∷ next) words
-
-abbrev pub reply_line : ℕ → ℕ → ℕ → List (List ℕ) → Line
-reply_line me client token words = Put (OfClient client) (message_text (record { from = me; to = 0; body = Reply token (take 65000 (joined words)) }))
 
 abbrev pub answered_line : Schema → ℕ → Answer → Option Waiting → List Line
 answered_line schema me answer None = []
@@ -174,12 +153,6 @@ served_start c me first before = record {
 
 abbrev pub served : Cluster → ℕ → (List ℕ → Wish) → Meanings → List JournalItem → List Turn → Served
 served c me wish first before turns = fold (turned c me wish) (served_start c me first before) turns
-
--- what is put out
-abbrev pub put_in : Line → Option (Peer × List ℕ)
-put_in (Put to bytes) = Some (to, bytes)
-put_in (Got from bytes) = None
-put_in (Noted item) = None
 
 -- the journal of a log that was compacted: one body stands in the place of all items before it, and says what they say, as the logs of a voter
 -- keep it; items since stand behind it. Journals stand newest first

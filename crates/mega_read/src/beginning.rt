@@ -1,25 +1,10 @@
 //! A read begins: local where its group is valid, else by a poll of all voters.
 ghost use Rattle.std.specs.Prelude.{◌≡◌, IfOk};
-ghost use Rattle.mega_read.specs.Catching.{first_reading, local_read, polled_read};
+ghost use Rattle.mega_read.specs.Catching.{local_read, polled_read};
 
 use crate::reading::{Move, Reader, Reading, Stage};
 use mega_base::{Epoch, Items, NoMemory};
 use std::alloc::Global;
-
-/// A read that has asked nobody yet.
-pub fn first_reading(alloc: Global, now: u64) -> Reading
-    ensures { result ≡ first_reading now }
-{
-    Reading {
-        noted: None,
-        asked: Items::new(alloc),
-        stage: Stage::Polling {
-            heard: Items::new(alloc),
-            best: 0,
-            sent: now,
-        },
-    }
-}
 
 /// A read of a valid group: local, through the greatest position that its node accepted or decided.
 pub fn local_read(alloc: Global, asked: Items<u8>, top: u64) -> Move

@@ -10,5 +10,5 @@ mod kept;
 mod reading;
 mod sending;
 
-pub use beginning::{first_reading, local_read};
+pub use beginning::local_read;
 pub use reading::{Move, Reader, Reading, Search, Stage};

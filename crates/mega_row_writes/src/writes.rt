@@ -32,12 +32,7 @@ fn push_gone(
 }
 
 /// Adds the deletions of the entries that are gone.
-fn add_gone(
-    alloc: Global,
-    writes: &mut Vec<Write>,
-    old: &Rows,
-    new: &Rows,
-) -> Result<(), NoMemory>
+fn add_gone(alloc: Global, writes: &mut Vec<Write>, old: &Rows, new: &Rows) -> Result<(), NoMemory>
     ensures { OnOk result (writes.new.items ≡ writes.old.items ++ gone new.now.entries old.now.entries) }
 {
     for (key, row) in old {
@@ -79,12 +74,7 @@ fn push_fresh(
 }
 
 /// Adds the entries that are new or changed.
-fn add_fresh(
-    alloc: Global,
-    writes: &mut Vec<Write>,
-    old: &Rows,
-    new: &Rows,
-) -> Result<(), NoMemory>
+fn add_fresh(alloc: Global, writes: &mut Vec<Write>, old: &Rows, new: &Rows) -> Result<(), NoMemory>
     ensures { OnOk result (writes.new.items ≡ writes.old.items ++ fresh old.now.entries new.now.entries) }
 {
     for (key, row) in new {

@@ -26,13 +26,14 @@ use Rattle.mega_promises.specs.Served.{Asks, Got, Line, Noted, OfClient, OfNode,
 use Rattle.mega_serve.specs.declared.steps.Made.{Made}
 use Rattle.mega_serve.specs.declared.steps.Steps.{Ghosts}
 use Rattle.mega_serve.specs.declared.waiting.Waiting.{Waiting as Waits}
-use Rattle.mega_serve.specs.Lines.{datagram_of, line_text, record_text}
-use Rattle.mega_serve.specs.Pages.{GoesOn, Stops}
+use Rattle.mega_page.specs.Lines.{datagram_of, line_text, record_text}
+use Rattle.mega_page.specs.Pages.{GoesOn, Stops}
 use Rattle.mega_serve.specs.Replies.{item_reply, waiting_of}
 use Rattle.mega_serve.specs.Stepping.{IsMade}
 use Rattle.mega_serve.specs.Turns.{Ended, EndsIn, EndsOnce, GainsAll, HasBegun, HasTurned, IsServing, LacksReceive, MayReceive, MayServe, MayTurn, Runs, Proceeds, readings_of, received_in, schema_of, served_by, setting_of, turn_of, turned_by, turns_of}
 use Rattle.mega_serve.specs.Wishes.{wish_of}
-use Rattle.mega_serve.proofs.Going.{all_nothing, all_twice}
+use Rattle.mega_page.proofs.Giving.{all_nothing}
+use Rattle.mega_serve.proofs.Going.{all_twice}
 use Rattle.mega_serve.proofs.Joining.{gains_more, gains_nothing, gains_one, may_split, served_on}
 use Rattle.mega_serve.proofs.Stepped.{replies_shown}
 

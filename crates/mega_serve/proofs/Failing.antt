@@ -1,13 +1,11 @@
 -- Devices and sinks only go on, and a fault that came later is told from before on.
-use Rattle.std.proofs.Common.{◌≡◌, ◌⊎◌, inl, inr, ℕ, ◌≤◌, Err, Ok, Result, arith}
-use Rattle.std.specs.Prelude.{OnErr}
+use Rattle.std.proofs.Common.{◌≡◌, ◌⊎◌, inl, inr, ℕ, ◌≤◌, arith}
 use Rattle.mega_base.specs.Causes.{Rose}
-use Rattle.mega_serve.specs.declared.fault.NodeFault.{NodeFault}
-use Rattle.mega_serve.specs.declared.fault.NodeFault.TheVariants.{BadRecord, DiskFault, Full, NoMemory as NodeNoMemory, Spent, Unformed}
-use Rattle.mega_serve.specs.declared.fault.ServeFault.{ServeFault}
-use Rattle.mega_serve.specs.declared.fault.ServeFault.TheVariants.{NoMemory, Node, SinkFault}
-use Rattle.mega_serve.specs.Causes.{IsCaused}
-use Rattle.mega_serve.specs.Stepping.{Devices, HaveFailed, HaveGone, IsDueTo}
+use Rattle.mega_page.specs.declared.fault.NodeFault.{NodeFault}
+use Rattle.mega_page.specs.declared.fault.NodeFault.TheVariants.{BadRecord, DiskFault, Full, NoMemory as NodeNoMemory, Spent, Unformed}
+use Rattle.mega_page.specs.declared.fault.ServeFault.{ServeFault}
+use Rattle.mega_page.specs.declared.fault.ServeFault.TheVariants.{NoMemory, Node, SinkFault}
+use Rattle.mega_page.specs.Causes.{Devices, HaveFailed, HaveGone, IsCaused, IsDueTo}
 
 pub gone_nowhere : (devices : Devices) → HaveGone devices devices
 gone_nowhere devices = (omega (arith), omega (arith))
@@ -34,8 +32,3 @@ pub caused_later : (fault : ServeFault) (a b c : Devices) (x y z : ℕ) → Have
 caused_later (Node fault) a b c x y z gone more caused = due_later fault a b c gone caused
 caused_later SinkFault a b c x y z gone more caused = rose_later x y z more caused
 caused_later NoMemory a b c x y z gone more caused = tt
-
--- what holds however a call ended
-pub however : {A E : Type 0} (X : Type 0) (ended : Result A E) → X → OnErr ended X
-however X (Ok found) x = tt
-however X (Err fault) x = x

@@ -12,7 +12,7 @@ use Rattle.mega_promises.specs.Served.{Served, Turn, received, ticked}
 use Rattle.mega_serve.specs.declared.steps.Steps.{Ghosts}
 use Rattle.mega_serve.specs.declared.waiting.Waiting.{Waiting as Waits}
 use Rattle.mega_serve.specs.Turns.{GainsAll, HasTurned, IsServing, MayReceive, MayServe, MayTurn, Runs, TurnsOnce, Proceeds, schema_of, served_by, setting_of, turn_of, turned_by, turns_of}
-use Rattle.mega_serve.specs.Lines.{datagram_of}
+use Rattle.mega_page.specs.Lines.{datagram_of}
 use Rattle.mega_serve.specs.Wishes.{wish_of}
 use Rattle.mega_serve.proofs.Going.{stays, proceeds_further}
 

@@ -1,7 +1,7 @@
 pub mod Words
-pub mod Gathering
 pub mod Going
 pub mod Stepped
 pub mod Joining
 pub mod Ending
 pub mod Failing
+pub use Rattle.mega_page.proofs.Giving

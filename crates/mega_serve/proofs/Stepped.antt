@@ -21,7 +21,7 @@ use Rattle.mega_promises.specs.Served.{Asks, Line, Noted, Served, Waiting, answe
 use Rattle.mega_serve.specs.declared.steps.Made.{Made}
 use Rattle.mega_serve.specs.declared.steps.Steps.{Ghosts}
 use Rattle.mega_serve.specs.declared.waiting.Waiting.{Waiting as Waits}
-use Rattle.mega_serve.specs.Pages.{GoesOn}
+use Rattle.mega_page.specs.Pages.{GoesOn}
 use Rattle.mega_serve.specs.Replies.{item_reply, waiting_of, waits_for}
 use Rattle.mega_serve.specs.Stepping.{IsMade}
 use Rattle.mega_serve.specs.Turns.{IsServing, Proceeds}

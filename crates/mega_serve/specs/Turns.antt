@@ -15,8 +15,8 @@ use Rattle.mega_promises.specs.Runs.{names_nothing, setting}
 use Rattle.mega_promises.specs.Served.{Asks, Line, OfClient, OfNode, Peer, Refuses, Served, Turn, Wish, is_from, ticked, turned}
 use Rattle.mega_serve.specs.declared.steps.Steps.{Ghosts}
 use Rattle.mega_serve.specs.declared.waiting.Waiting.{Waiting as Waits}
-use Rattle.mega_serve.specs.Lines.{datagram_of}
-use Rattle.mega_serve.specs.Pages.{GoesOn, Stops}
+use Rattle.mega_page.specs.Lines.{datagram_of}
+use Rattle.mega_page.specs.Pages.{GoesOn, Stops}
 use Rattle.mega_serve.specs.Replies.{waiting_of}
 use Rattle.mega_serve.specs.Wishes.{wish_of}
 

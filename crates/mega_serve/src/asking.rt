@@ -6,14 +6,12 @@ ghost use Rattle.mega_rules.specs.Steps.{Begin};
 ghost use Rattle.mega_promises.specs.Runs.{is_empty, names_nothing};
 ghost use Rattle.mega_promises.specs.Served.{Asks, Line, Noted, Served, refused_by, wished};
 ghost use Rattle.mega_serve.specs.declared.waiting.Waiting.{Waiting as Waits};
-ghost use Rattle.mega_serve.specs.Pages.{IsPage};
-ghost use Rattle.mega_serve.specs.Causes.{IsCaused};
-ghost use Rattle.mega_serve.specs.Stepping.{HaveGone};
+ghost use Rattle.mega_page.specs.Pages.{IsPage};
+ghost use Rattle.mega_page.specs.Causes.{HaveGone, IsCaused};
 ghost use Rattle.mega_serve.specs.Turns.{Ended, IfSome, IsServing, Proceeds, schema_of, setting_of, wished_event};
 ghost use Rattle.mega_serve.specs.Wishes.{wish_of};
 
-use crate::fault::ServeFault;
-use crate::page::Page;
+use crate::replying;
 use crate::steps::{Event, Steps};
 use crate::turning::step;
 use crate::waiting::{Waiting, await_answer};
@@ -21,6 +19,7 @@ use mega_base::{Copied, GroupId, NoMemory, OpId, Text};
 use mega_io::Sink;
 use mega_link::Link;
 use mega_outcome::Request;
+use mega_page::{Page, ServeFault};
 use mega_schedule::{Ask, LineFault, asked};
 use mega_schema::Schema;
 use mega_transcript::Item;
@@ -121,7 +120,7 @@ fn refuse<S: Steps, L: Link, O: Sink>(
     ensures taken { L.taken link.new ≡ L.taken link.old }
 {
     let mut page = page;
-    page.refuse(alloc, node.number(), client, token, kind, reason)?;
+    replying::refuse(&mut page, alloc, node.number(), client, token, kind, reason)?;
     match page.give(link, out) {
         Ok(()) => Ok(()),
         Err(fault) => Err(fault),

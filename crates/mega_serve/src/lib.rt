@@ -2,8 +2,6 @@
 #![tactic(auto)]
 
 mod asking;
-mod fault;
-mod page;
 mod receiving;
 mod replying;
 mod serving;
@@ -12,7 +10,7 @@ mod texts;
 mod turning;
 mod waiting;
 
-pub use fault::{NodeFault, ServeFault};
+pub use mega_page::{NodeFault, ServeFault};
 pub use serving::serve;
 pub use steps::{Event, Made, Steps};
 pub use waiting::Waiting;

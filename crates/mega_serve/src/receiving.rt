@@ -5,22 +5,20 @@ ghost use Rattle.mega_handler.specs.Named.{Meanings};
 ghost use Rattle.mega_wire.specs.Messages.{message_at};
 ghost use Rattle.mega_promises.specs.Served.{Line, OfClient, Served, given, is_from, received, takes_message, with_lines};
 ghost use Rattle.mega_serve.specs.declared.waiting.Waiting.{Waiting as Waits};
-ghost use Rattle.mega_serve.specs.Lines.{peer_of};
-ghost use Rattle.mega_serve.specs.Pages.{IsPage};
-ghost use Rattle.mega_serve.specs.Causes.{IsCaused};
-ghost use Rattle.mega_serve.specs.Stepping.{HaveGone};
+ghost use Rattle.mega_page.specs.Lines.{peer_of};
+ghost use Rattle.mega_page.specs.Pages.{IsPage};
+ghost use Rattle.mega_page.specs.Causes.{HaveGone, IsCaused};
 ghost use Rattle.mega_serve.specs.Turns.{Ended, IfSome, IsServing, MayReceive, Proceeds, brought_by, message_event, requested_event, schema_of, setting_of};
 ghost use Rattle.mega_serve.specs.Wishes.{wish_of};
 
 use crate::asking::ask_by;
-use crate::fault::ServeFault;
-use crate::page::Page;
 use crate::steps::{Event, Steps};
 use crate::turning::step;
 use crate::waiting::Waiting;
 use mega_base::FieldFault;
 use mega_io::Sink;
 use mega_link::{Link, Peer};
+use mega_page::{Page, ServeFault};
 use mega_wire::{Body, Message, decode};
 use std::alloc::Global;
 

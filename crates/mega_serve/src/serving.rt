@@ -1,23 +1,22 @@
 //! The turns of a served node: in each one reading of the clock with its tick, and then exactly one receive.
-ghost use Rattle.std.specs.Prelude.{◌≡◌, ◌≤◌, ℕ, List, [], ◌∷◌, length, take, Err, IfErr, IfOk, OnErr, OnOk, IfSome, Option, option_map};
+ghost use Rattle.std.specs.Prelude.{◌≡◌, ◌≤◌, ℕ, List, [], ◌∷◌, length, take, Err, IfErr, IfOk, OnErr, OnOk, Option, option_map};
 ghost use Rattle.mega_handler.specs.Named.{Meanings};
-ghost use Rattle.mega_link.specs.Datagrams.{Datagram, Gains, given};
+ghost use Rattle.mega_link.specs.Datagrams.{Datagram, Gains};
 ghost use Rattle.mega_promises.specs.Served.{Served, received};
 ghost use Rattle.mega_serve.specs.declared.waiting.Waiting.{Waiting as Waits};
-ghost use Rattle.mega_serve.specs.Lines.{datagram_of};
-ghost use Rattle.mega_serve.specs.Causes.{IsCaused};
-ghost use Rattle.mega_serve.specs.Stepping.{HaveGone};
+ghost use Rattle.mega_page.specs.Lines.{datagram_of};
+ghost use Rattle.mega_page.specs.Causes.{HaveGone, IsCaused};
 ghost use Rattle.mega_serve.specs.Turns.{Ended, EndsIn, EndsOnce, HasBegun, HasTurned, IsServing, MayReceive, Runs, TurnsOnce, Proceeds, schema_of, setting_of};
 ghost use Rattle.mega_serve.specs.Wishes.{wish_of};
 
-use crate::fault::ServeFault;
 use crate::receiving::receive;
 use crate::steps::Steps;
 use crate::turning::tick;
 use crate::waiting::Waiting;
 use mega_base::NoMemory;
 use mega_io::Sink;
-use mega_link::{Clock, Link, Peer};
+use mega_link::{Clock, Link};
+use mega_page::{ServeFault, hear};
 use std::alloc::Global;
 
 /// The room that a receive asks for.
@@ -28,17 +27,6 @@ fn room_of(alloc: Global) -> Result<Vec<u8>, NoMemory>
     ensures { IfOk result (λ room. length room.items ≡ 65507) }
 {
     Ok(vec![in alloc; 0u8; ROOM]?)
-}
-
-/// A datagram that is there, and how many of its bytes lie in the room.
-fn hear<L: Link>(link: &mut L, room: &mut [u8]) -> Option<(Peer, usize)>
-    requires { 65507 ≤ length room.old }
-    ensures room { length room.new ≡ length room.old }
-    ensures bound { IfSome result (λ found. found.1 ≤ length room.new) }
-    ensures taken { Gains (L.taken link.old) (L.taken link.new) (given result room.new) }
-    ensures sent { L.sent link.new ≡ L.sent link.old }
-{
-    link.receive(room)
 }
 
 /// The first so many bytes.

@@ -11,11 +11,12 @@ ghost use Rattle.mega_rules.specs.Operations.{Node as RuleNode, Setting};
 ghost use Rattle.mega_rules.specs.Steps.{Event as RuleEvent, op_of, step};
 ghost use Rattle.mega_promises.specs.Runs.{setting};
 ghost use Rattle.mega_promises.specs.Served.{is_open_at, kept_of};
-ghost use Rattle.mega_serve.specs.Stepping.{Devices, HaveGone, IsDueTo, IsMade, event_of};
+ghost use Rattle.mega_page.specs.Causes.{Devices, HaveGone, IsDueTo};
+ghost use Rattle.mega_serve.specs.Stepping.{IsMade, event_of};
 
-use crate::fault::NodeFault;
 use mega_base::{Items, OpId, Text};
 use mega_outcome::Request;
+use mega_page::NodeFault;
 use mega_schema::Schema;
 use mega_transcript::Item;
 use mega_wire::Message;

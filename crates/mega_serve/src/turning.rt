@@ -8,45 +8,43 @@ ghost use Rattle.mega_promises.specs.Items.{number};
 ghost use Rattle.mega_handler.specs.Named.{Meanings};
 ghost use Rattle.mega_rules.specs.Steps.{Tick, step};
 ghost use Rattle.mega_promises.specs.Served.{Line, Noted, Served, put_out, recorded, ticked};
-ghost use Rattle.mega_serve.specs.Pages.{IsPage};
+ghost use Rattle.mega_page.specs.Pages.{IsPage};
 ghost use Rattle.mega_serve.specs.Replies.{item_reply, waiting_of};
-ghost use Rattle.mega_serve.specs.Stepping.{HaveGone, event_of};
-ghost use Rattle.mega_serve.specs.Causes.{IsCaused};
+ghost use Rattle.mega_page.specs.Causes.{HaveGone, IsCaused};
+ghost use Rattle.mega_serve.specs.Stepping.{event_of};
 ghost use Rattle.mega_serve.specs.Turns.{Ended, IsServing, Proceeds, schema_of, setting_of};
 
-use crate::fault::ServeFault;
-use crate::page::Page;
+use crate::replying::reply_all;
 use crate::steps::{Event, Made, Steps};
 use crate::waiting::{Waiting, keep_open};
 use mega_base::{NoMemory, NodeId};
 use mega_io::Sink;
 use mega_link::Link;
+use mega_page::{Page, ServeFault};
 use mega_schema::Schema;
 use mega_transcript::Item;
 use std::alloc::Global;
 
-impl Page {
-    /// What a step made: what it shows, what it sends, and its replies to clients.
-    fn show(
-        &mut self,
-        alloc: Global,
-        schema: &Schema,
-        me: u8,
-        waiting: &[Waiting],
-        made: &Made,
-    ) -> Result<(), NoMemory>
-        requires least { 1 ≤ me }
-        requires most { me ≤ 9 }
-        requires lines { All HasLine made.now.items }
-        requires messages { All IsMessage made.now.sends }
-        ensures { OnOk result ((lines : List Line) → IsPage schema.now self.old lines →
-            IsPage schema.now self.new (((lines ++ map Noted made.now.items) ++ put_out made.now.sends) ++ flat_map (item_reply schema.now me (map waiting_of waiting.now)) made.now.items)) }
-    {
-        self.note_all(alloc, schema, made.items.as_slice())?;
-        self.put_all(alloc, made.sends.as_slice())?;
-        self.reply_all(alloc, schema, me, waiting, made.items.as_slice())?;
-        Ok(())
-    }
+/// What a step made: what it shows, what it sends, and its replies to clients.
+fn show(
+    page: &mut Page,
+    alloc: Global,
+    schema: &Schema,
+    me: u8,
+    waiting: &[Waiting],
+    made: &Made,
+) -> Result<(), NoMemory>
+    requires least { 1 ≤ me }
+    requires most { me ≤ 9 }
+    requires lines { All HasLine made.now.items }
+    requires messages { All IsMessage made.now.sends }
+    ensures { OnOk result ((lines : List Line) → IsPage schema.now page.old lines →
+        IsPage schema.now page.new (((lines ++ map Noted made.now.items) ++ put_out made.now.sends) ++ flat_map (item_reply schema.now me (map waiting_of waiting.now)) made.now.items)) }
+{
+    page.note_all(alloc, schema, made.items.as_slice())?;
+    page.put_all(alloc, made.sends.as_slice())?;
+    reply_all(page, alloc, schema, me, waiting, made.items.as_slice())?;
+    Ok(())
 }
 
 /// The node steps, behind these lines of the record.
@@ -79,7 +77,8 @@ pub(crate) fn step<S: Steps, L: Link, O: Sink>(
         Err(fault) => return Err(ServeFault::Node(fault)),
     };
     let mut page = page;
-    page.show(
+    show(
+        &mut page,
         alloc,
         node.schema(),
         node.number(),

@@ -24,9 +24,9 @@ use Rattle.mega_durable.specs.Cut.{LogProceeds, failed_by, log_fault_in}
 use Rattle.mega_durable.specs.Spilling.{IsNotSpilled, SpillUsed, rows_in}
 use Rattle.mega_durable.specs.Standing.{IsUp, MayHappen, records_in}
 use Rattle.mega_durable.specs.Stepped.{AtEach}
-use Rattle.mega_serve.specs.declared.fault.NodeFault.{NodeFault}
-use Rattle.mega_serve.specs.declared.fault.NodeFault.TheVariants as node
-use Rattle.mega_serve.specs.Stepping.{Devices, HaveGone, IsDueTo}
+use Rattle.mega_serve.specs.of_page.declared.fault.NodeFault.{NodeFault}
+use Rattle.mega_serve.specs.of_page.declared.fault.NodeFault.TheVariants as node
+use Rattle.mega_serve.specs.Causes.{Devices, HaveGone, IsDueTo}
 use Rattle.mega_server.specs.Causes.{fault_of}
 use Rattle.mega_server.specs.Serving.{devices_of}
 

@@ -3,8 +3,8 @@ use Rattle.mega_durable.specs.of_core.declared.fault.StepFault.{StepFault}
 use Rattle.mega_durable.specs.of_core.declared.fault.StepFault.TheVariants as step
 use Rattle.mega_durable.specs.declared.fault.UpFault.{UpFault}
 use Rattle.mega_durable.specs.declared.fault.UpFault.TheVariants as up
-use Rattle.mega_serve.specs.declared.fault.NodeFault.{NodeFault}
-use Rattle.mega_serve.specs.declared.fault.NodeFault.TheVariants.{BadRecord, DiskFault, Full, NoMemory, Spent, Unformed}
+use Rattle.mega_serve.specs.of_page.declared.fault.NodeFault.{NodeFault}
+use Rattle.mega_serve.specs.of_page.declared.fault.NodeFault.TheVariants.{BadRecord, DiskFault, Full, NoMemory, Spent, Unformed}
 use Rattle.mega_wal.specs.declared.answers.LogFault.{LogFault}
 use Rattle.mega_wal.specs.declared.answers.LogFault.TheVariants as log
 

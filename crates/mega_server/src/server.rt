@@ -15,7 +15,8 @@ ghost use Rattle.mega_durable.specs.Cut.{LogProceeds, failed_by, log_failed_by};
 ghost use Rattle.mega_durable.specs.Spilling.{rows_in};
 ghost use Rattle.mega_durable.specs.Standing.{IsUp, records_in};
 ghost use Rattle.mega_durable.specs.Stepped.{AtEach};
-ghost use Rattle.mega_serve.specs.Stepping.{HaveGone, IsDueTo, event_of};
+ghost use Rattle.mega_serve.specs.Causes.{HaveGone, IsDueTo};
+ghost use Rattle.mega_serve.specs.Stepping.{event_of};
 ghost use Rattle.mega_server.specs.Causes.{fault_of};
 ghost use Rattle.mega_server.specs.Serving.{devices_of};
 

@@ -23,7 +23,8 @@ use Rattle.mega_replica.specs.declared.progress.Progress.{Progress}
 use Rattle.mega_replica.specs.Following.{Follows}
 use Rattle.mega_replica.specs.Stored.{stored_with}
 use Rattle.mega_replica.proofs.Joined.{stored_total}
-use Rattle.mega_stepping.specs.Touching.{behind, is_behind}
+use Rattle.mega_keeping.specs.Behind.{is_behind}
+use Rattle.mega_stepping.specs.Touching.{behind}
 use Rattle.mega_stepping.proofs.Groups.{has, no_log}
 
 -- a node with rows stores a portion

@@ -18,7 +18,7 @@ use Rattle.mega_read.specs.Catching.{filled, hears, helpers, site, stays as read
 use Rattle.mega_rules.specs.Acting.{reader_of}
 use Rattle.mega_rules.specs.Operations.{Operation, Phase, Proposes, Reads, Setting}
 use Rattle.mega_rules.specs.Steps.{hears_message, read_heard, round_heard}
-use Rattle.mega_stepping.specs.Hearing.{is_for}
+use Rattle.mega_keeping.specs.Hearing.{is_for}
 
 unless : {X : Type 0} (own : Bool) (x y : X) → own ≡ false → cond own x y ≡ y
 unless true x y e = absurd (cc)

@@ -1,17 +1,18 @@
 -- The groups of which a step may apply more, each once and in order.
-use Rattle.std.specs.Prelude.{ℕ, Bool, true, false, ◌&&◌, if◌then◌else◌, nat_lt, List, [], ◌∷◌, filter, fold, Option, Some, None, is_some}
+use Rattle.std.specs.Prelude.{ℕ, Bool, true, false, ◌&&◌, if◌then◌else◌, List, [], ◌∷◌, filter, fold, Option, Some, None, is_some}
 use Rattle.std.specs.List.{list_any}
 use Rattle.mega_base.specs.declared.names.GroupId.{GroupId}
 use Rattle.mega_wire.specs.declared.message.Body.{Body}
 use Rattle.mega_outcome.specs.declared.request.Request.{Request}
 use Rattle.mega_outcome.specs.declared.request.Request.TheVariants.{Txn, Batch, Read, Find, PumpEnter, PumpHandle, Refresh}
 use Rattle.mega_read.specs.Catching.{through_of}
-use Rattle.mega_rules.specs.Logs.{groups_of, prefix_of, with_group}
+use Rattle.mega_rules.specs.Logs.{groups_of, with_group}
 use Rattle.mega_rules.specs.Met.{Met}
 use Rattle.mega_rules.specs.Operations.{Operation, Phase, Proposes, Reads}
-use Rattle.mega_rules.specs.Steps.{Decision, Heard, applied_at, decision_note, first_settled, onto, told_decision}
+use Rattle.mega_rules.specs.Steps.{Decision, Heard, decision_note, first_settled, onto, told_decision}
 use Rattle.mega_node_laws.specs.About.{group_in}
 use Rattle.mega_node_laws.specs.Acted.{or_settled}
+use Rattle.mega_keeping.specs.Behind.{is_behind}
 use Rattle.mega_proposing.specs.Servable.{is_pump}
 
 -- only an operation that reads through a position that it knows may store what it needs
@@ -38,9 +39,6 @@ abbrev pub touched : List Met → Body → List Heard → List GroupId
 touched met body ts = fold with_reach (told_groups (list_any roams ts) met (or_settled (told_decision body) (first_settled ts))) ts
 
 -- at a tick, those of which not all is applied that is decided, at a node that keeps rows
-abbrev pub is_behind : List Met → (GroupId → ℕ) → GroupId → Bool
-is_behind met stored group = nat_lt (applied_at met stored group) (prefix_of met group)
-
 abbrev pub behind : Bool → List Met → (GroupId → ℕ) → List GroupId
 behind keeps met stored = if keeps then filter (is_behind met stored) (groups_of met) else []
 

@@ -2,14 +2,15 @@
 ghost use Rattle.std.specs.Prelude.{◌≡◌, ◌++◌, ℕ, List, map, flat_map, IfOk, OnOk};
 ghost use Rattle.mega_base.specs.declared.names.GroupId.{GroupId as Group};
 ghost use Rattle.mega_rules.specs.Met.{Met};
-ghost use Rattle.mega_rules.specs.Steps.{applied_at};
 ghost use Rattle.mega_replica.specs.Following.{progress_at};
 ghost use Rattle.mega_stepping.specs.Notes.{met_of};
-ghost use Rattle.mega_stepping.specs.Positions.{Keeps, before_at, note_since};
+ghost use Rattle.mega_keeping.specs.Behind.{Keeps};
+ghost use Rattle.mega_stepping.specs.Positions.{before_at, note_since};
 
 use crate::note::Note;
 use mega_base::{GroupId, Items, NoMemory};
 use mega_disk::{Records, Versions};
+use mega_keeping::applied_at;
 use mega_proposing::mega_voter::Voter;
 use mega_replica::StoredRows;
 use std::alloc::Global;
@@ -19,19 +20,6 @@ use std::alloc::Global;
 pub struct Before {
     pub group: GroupId,
     pub position: u64,
-}
-
-/// The applied position of a group.
-pub fn applied_at<R: Records, V: Versions>(
-    voter: &Voter<R>,
-    rows: &StoredRows<V>,
-    group: &GroupId,
-) -> u64
-    ensures { (met : List Met) (stored : Group → ℕ) →
-        Keeps voter.now.logs.kept (V.version rows.now.rows) (progress_at rows.now.progress) met stored →
-        result ≡ applied_at met stored group.now }
-{
-    rows.applied(group, &voter.logs).0
 }
 
 /// A group with its applied position.

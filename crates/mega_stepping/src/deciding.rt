@@ -7,7 +7,7 @@ ghost use Rattle.mega_rules.specs.Steps.{decision_note, first_settled, if_new, o
 ghost use Rattle.mega_proposing.specs.of_voter.Telling.{Tells};
 ghost use Rattle.mega_stepping.specs.Notes.{met_of};
 ghost use Rattle.mega_stepping.specs.Placed.{IsPlaced};
-ghost use Rattle.mega_stepping.specs.Staging.{Stages};
+ghost use Rattle.mega_keeping.specs.Staging.{Stages};
 
 use crate::note::Note;
 use mega_base::{Copied, GroupId, Items, NoMemory, Position};
@@ -105,7 +105,7 @@ pub fn decision(alloc: Global, body: &Body, heard: &[Heard]) -> Result<Option<Ch
 }
 
 /// Keeps a decision at a position that was not decided.
-#[tactic(auto, using(crate::proofs::Staged::deciding_staged))]
+#[tactic(auto, using(mega_keeping::proofs::Staged::deciding_staged))]
 fn keep_new<R: Records>(alloc: Global, voter: &mut Voter<R>, found: &Chosen) -> Result<(), NoMemory>
     ensures kept { OnOk result ((met : List Met) → is_none (decided met found.now.group found.now.position) ≡ true → 0 < found.now.position → Tells voter.old.logs.kept met →
         Tells voter.new.logs.kept (Decides found.now.group found.now.position found.now.entry ∷ met)) }

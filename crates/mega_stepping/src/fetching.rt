@@ -10,7 +10,6 @@ ghost use Rattle.mega_proposing.specs.of_voter.Telling.{Tells};
 ghost use Rattle.mega_stepping.specs.Fetching.{fetch_message};
 
 use crate::joining::add_sends;
-use crate::kinds::has_rows;
 use mega_base::{Copied, GroupId, Items, NoMemory, NodeId, OpId, Position};
 use mega_disk::Records;
 use mega_propose::others;

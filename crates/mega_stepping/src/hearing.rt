@@ -2,41 +2,12 @@
 ghost use Rattle.std.specs.Prelude.{◌≡◌, map, IfOk};
 ghost use Rattle.mega_rules.specs.Operations.{Setting};
 ghost use Rattle.mega_rules.specs.Steps.{hears_message};
-ghost use Rattle.mega_stepping.specs.Hearing.{is_for, op_in};
 
-use mega_base::{Items, NoMemory, OpId};
-use mega_propose::is_same_op;
+use mega_base::{Items, NoMemory};
+use mega_keeping::is_for;
 use mega_proposing::mega_operations::{Heard, Members, Operation};
-use mega_wire::{Body, Message};
+use mega_wire::Message;
 use std::alloc::Global;
-
-/// The operation of which a message says something to its node, if there is one.
-fn op_in(body: &Body) -> Option<OpId>
-    ensures { result ≡ op_in body.now }
-{
-    match body {
-        Body::Top { op, .. } => Some(*op),
-        Body::Accept { op, .. } => Some(*op),
-        Body::Accepted { op, .. } => Some(*op),
-        Body::Refused { op, .. } => Some(*op),
-        Body::Prepare { op, .. } => Some(*op),
-        Body::Promise { op, .. } => Some(*op),
-        Body::Invalidated { op, .. } => Some(*op),
-        Body::Unheld { op, .. } => Some(*op),
-        Body::HaveNot { op, .. } => Some(*op),
-        _ => None,
-    }
-}
-
-/// Whether a message is for an operation.
-fn is_for(op: OpId, body: &Body) -> bool
-    ensures { result ≡ is_for op body.now }
-{
-    match op_in(body) {
-        Some(own) => is_same_op(op, own),
-        None => false,
-    }
-}
 
 /// What an open operation comes to when its node takes a message, at a clock: nothing else where the message is not for it.
 #[tactic(auto, using(crate::proofs::Unheard::not_for))]

@@ -1,75 +1,22 @@
 //! What the cell and the coordinator note, and what is sent, is kept by the voter of their node.
 ghost use Rattle.std.specs.Prelude.{◌≡◌, ◌∷◌, List, map, IfOk, OnOk, Err, ◌++◌};
 ghost use Rattle.mega_proposing.specs.of_leases.Notes.{met_of as leases_met};
-ghost use Rattle.mega_rules.specs.Met.{Grants, Lapses, Met, Sends};
+ghost use Rattle.mega_rules.specs.Met.{Met, Sends};
 ghost use Rattle.mega_rules.specs.Steps.{onto};
 ghost use Rattle.mega_proposing.specs.of_voter.Telling.{Tells, IsAnswer};
 ghost use Rattle.mega_stepping.specs.Notes.{met_of};
-ghost use Rattle.mega_stepping.specs.Staging.{Stages};
+ghost use Rattle.mega_keeping.specs.Staging.{Stages};
 ghost use Rattle.mega_node_laws.specs.Sending.{MaySend};
 
 use crate::joining::add_of_leases;
 use crate::note::Note;
-use mega_base::{Epoch, Items, NoMemory, NodeId};
+use mega_base::{Items, NoMemory};
 use mega_disk::Records;
+use mega_keeping::keep_note;
 use mega_proposing::mega_leases::Note as OfLeases;
 use mega_proposing::mega_voter::Voter;
 use mega_wire::Message;
 use std::alloc::Global;
-
-/// Keeps that the cell grants an epoch.
-#[tactic(auto, using(crate::proofs::Staged::granting_staged))]
-fn keep_grant<R: Records>(
-    alloc: Global,
-    voter: &mut Voter<R>,
-    node: NodeId,
-    epoch: Epoch,
-) -> Result<(), NoMemory>
-    ensures kept { OnOk result ((met : List Met) → Tells voter.old.logs.kept met → Tells voter.new.logs.kept (Grants node.0 epoch ∷ met)) }
-    ensures staged { OnOk result ((before met : List Met) → Stages voter.old.logs.staged.items before met → Stages voter.new.logs.staged.items before (Grants node.0 epoch ∷ met)) }
-    ensures records { voter.new.logs.records ≡ voter.old.logs.records }
-{
-    match voter.grants(alloc, node, epoch) {
-        Ok(()) => Ok(()),
-        Err(_) => Err(NoMemory),
-    }
-}
-
-/// Keeps that the cell lets an epoch lapse.
-#[tactic(auto, using(crate::proofs::Staged::lapsing_staged))]
-fn keep_lapse<R: Records>(
-    alloc: Global,
-    voter: &mut Voter<R>,
-    node: NodeId,
-    epoch: Epoch,
-) -> Result<(), NoMemory>
-    ensures kept { OnOk result ((met : List Met) → Tells voter.old.logs.kept met → Tells voter.new.logs.kept (Lapses node.0 epoch ∷ met)) }
-    ensures staged { OnOk result ((before met : List Met) → Stages voter.old.logs.staged.items before met → Stages voter.new.logs.staged.items before (Lapses node.0 epoch ∷ met)) }
-    ensures records { voter.new.logs.records ≡ voter.old.logs.records }
-{
-    match voter.lapses(alloc, node, epoch) {
-        Ok(()) => Ok(()),
-        Err(_) => Err(NoMemory),
-    }
-}
-
-/// Keeps a note of the cell: what it grants, and what it lets lapse.
-#[tactic(auto, using(crate::proofs::Staged::silent_staged))]
-fn keep_note<R: Records>(
-    alloc: Global,
-    voter: &mut Voter<R>,
-    note: &OfLeases,
-) -> Result<(), NoMemory>
-    ensures kept { OnOk result ((met : List Met) → Tells voter.old.logs.kept met → Tells voter.new.logs.kept (leases_met note.now ∷ met)) }
-    ensures staged { OnOk result ((before met : List Met) → Stages voter.old.logs.staged.items before met → Stages voter.new.logs.staged.items before (leases_met note.now ∷ met)) }
-    ensures records { voter.new.logs.records ≡ voter.old.logs.records }
-{
-    match note {
-        OfLeases::Grants { node, epoch } => keep_grant(alloc, voter, *node, *epoch),
-        OfLeases::Lapses { node, epoch } => keep_lapse(alloc, voter, *node, *epoch),
-        _ => Ok(()),
-    }
-}
 
 /// Keeps the notes of the cell, in order.
 pub fn keep_notes<R: Records>(
@@ -110,7 +57,7 @@ pub fn both(
 }
 
 /// Tells the voter of a message that its node sends.
-#[tactic(auto, using(crate::proofs::Staged::sending_staged))]
+#[tactic(auto, using(mega_keeping::proofs::Staged::sending_staged))]
 fn tell_sent<R: Records>(
     alloc: Global,
     voter: &mut Voter<R>,

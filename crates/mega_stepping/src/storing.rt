@@ -14,7 +14,6 @@ ghost use Rattle.mega_replica.specs.Stored.{stored_with};
 ghost use Rattle.mega_stepping.specs.Touching.{behind};
 
 use crate::deciding::Chosen;
-use crate::kinds::has_rows;
 use mega_base::{GroupId, Items, NoMemory};
 use mega_disk::{Records, Versions};
 use mega_proposing::mega_voter::Voter;

@@ -9,13 +9,13 @@ ghost use Rattle.mega_rules.specs.Met.{Met};
 ghost use Rattle.mega_rules.specs.Steps.{decision_note, first_settled, onto, told_decision};
 ghost use Rattle.mega_replica.specs.Following.{progress_at};
 ghost use Rattle.mega_proposing.specs.of_voter.Telling.{Tells};
-ghost use Rattle.mega_stepping.specs.Positions.{Keeps};
-ghost use Rattle.mega_stepping.specs.Touching.{asked_groups, begun_groups, is_behind, named, reaches, roams, told_groups, touched, waits, with_reach};
+ghost use Rattle.mega_keeping.specs.Behind.{Keeps, is_behind};
+ghost use Rattle.mega_stepping.specs.Touching.{asked_groups, begun_groups, named, reaches, roams, told_groups, touched, waits, with_reach};
 
-use crate::applying::applied_at;
 use crate::deciding::tells_decision;
 use mega_base::{Copied, GroupId, Items, NoMemory};
 use mega_disk::{Records, Versions};
+use mega_keeping::is_behind;
 use mega_outcome::Request;
 use mega_propose::is_same_group;
 use mega_proposing::is_pump;
@@ -260,18 +260,6 @@ pub fn touched<R: Records>(
 {
     let first = told_groups(alloc, voter, body, heard, is_any_roaming(heard))?;
     with_reaches(alloc, first, heard)
-}
-
-/// Whether not all of a group is applied that is decided.
-fn is_behind<R: Records, V: Versions>(
-    voter: &Voter<R>,
-    rows: &StoredRows<V>,
-    group: &GroupId,
-) -> bool
-    ensures { (met : List Met) (stored : Group → ℕ) →
-        Keeps voter.now.logs.kept (V.version rows.now.rows) (progress_at rows.now.progress) met stored → result ≡ is_behind met stored group.now }
-{
-    applied_at(voter, rows, group) < voter.prefix(group).0
 }
 
 /// Adds a group to those of which not all is applied that is decided, where it is one.

@@ -1,9 +1,9 @@
 pub mod Tape
-pub mod Notes
 pub mod Words
 pub mod Rows
 pub mod Answers
 pub mod Lines
+pub mod Recorded
 pub mod NoFloats
 pub mod Reading
 pub mod Requests
@@ -14,5 +14,3 @@ pub mod PlainRows
 pub mod PlainAnswers
 pub mod Plain
 pub mod Counts
-pub mod Counted
-pub mod Tallies

@@ -2,14 +2,11 @@
 #![tactic(auto)]
 
 mod answers;
-mod counting;
-mod decided;
 mod item;
 mod lines;
 mod showing;
 mod words;
 
-pub use counting::summary;
-pub use item::{Item, Note, Tape};
+pub use item::{Item, Tape};
 pub use lines::text;
 pub use showing::{is_repeated, table_at};

@@ -9,11 +9,11 @@ ghost use Rattle.mega_wal.specs.Items.{item_of, item_position_at, entry_field_at
 
 use crate::item::JournalItem;
 use mega_acceptor::mega_ballot::Ballot;
+use mega_acceptor::mega_entry::Entry;
 use mega_base::{
     Bytes, Cursor, Epoch, Field, FieldFault, GroupId, NoMemory, NodeId, Position, put_nested,
     put_u8, put_u32, put_u64, take_nested,
 };
-use mega_acceptor::mega_entry::Entry;
 use std::alloc::Global;
 
 /// The greatest position of an item.

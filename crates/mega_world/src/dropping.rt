@@ -25,10 +25,10 @@ impl World {
         ensures world { (why : ℕ) → result ≡ Err (Refused why) → self.new ≡ self.old }
         ensures limited { result ≢ Err Limit }
     {
-        match self.mail.drop_refusal(number) {
+        let refusal = self.mail.drop_message(number)?;
+        match refusal {
             Some(why) => Err(WorldFault::Refused { why }),
             None => {
-                self.mail.drops(number)?;
                 tape.items.push(Item::Dropped { number })?;
                 Ok(())
             }

@@ -2,8 +2,7 @@ use Rattle.std.proofs.Common.{◌≡◌, ℕ, List, cond, drop}
 use Rattle.mega_base.specs.declared.names.GroupId.{GroupId}
 use Rattle.mega_rules.specs.Met.{Met}
 use Rattle.mega_replica.specs.Following.{progress_at}
-use Rattle.mega_stepping.specs.Positions.{Keeps}
-use Rattle.mega_stepping.specs.Touching.{is_behind}
+use Rattle.mega_stepping.specs.Behind.{Keeps, is_behind}
 use Rattle.mega_core.specs.Lagging.{is_watched, lags}
 use Rattle.mega_core.proofs.lagging.keep_lagging.Given as goal
 

@@ -1,5 +1,5 @@
 use Rattle.std.proofs.Common.{◌∙◌, sym}
-use Rattle.mega_stepping.specs.Touching.{is_behind}
+use Rattle.mega_stepping.specs.Behind.{is_behind}
 use Rattle.mega_core.specs.Lagging.{lags}
 use Rattle.mega_core.proofs.Lags.{put_in, took_out}
 use Rattle.mega_core.proofs.lagging.keep_one.Goals as goal

@@ -1,7 +1,8 @@
 use Rattle.std.proofs.Common.{◌≡◌, ◌∙◌, true, Bool, ap, filter, sym}
 use Rattle.mega_cluster.specs.declared.cluster.Cluster.{Cluster}
 use Rattle.mega_rules.specs.Members.{has_rows}
-use Rattle.mega_stepping.specs.Touching.{behind, is_behind}
+use Rattle.mega_stepping.specs.Behind.{is_behind}
+use Rattle.mega_stepping.specs.Touching.{behind}
 use Rattle.mega_core.proofs.Lags.{behind_is}
 use Rattle.mega_core.proofs.watching.behind.Goals as goal
 

@@ -3,7 +3,7 @@ use Rattle.std.proofs.lemmas.List.{map-append}
 use Rattle.mega_schema.specs.declared.schema.Schema.{Schema}
 use Rattle.mega_transcript.specs.declared.item.Item.TheVariants.{Begin as BeginItem}
 use Rattle.mega_promises.specs.Served.{Asks, Noted, Served, Waiting}
-use Rattle.mega_serve.specs.Pages.{IsPage}
+use Rattle.mega_page.specs.Pages.{IsPage}
 use Rattle.mega_serve.specs.Replies.{waiting_of}
 use Rattle.mega_serve.specs.Turns.{Ended, Proceeds, schema_of}
 use Rattle.mega_serve.proofs.Ending.{no_wish}

@@ -2,7 +2,7 @@ use Rattle.std.proofs.Common.{◌∷◌, ◌++◌, [], codes, decimal}
 use Rattle.mega_promises.specs.Served.{refused_by, reply_line}
 use Rattle.mega_serve.specs.Turns.{Ended, Proceeds, schema_of}
 use Rattle.mega_serve.proofs.Ending.{lines_partly, no_lines}
-use Rattle.mega_serve.proofs.Failing.{however}
+use Rattle.mega_page.proofs.Outcomes.{however}
 use Rattle.mega_serve.proofs.Stepped.{lines_proceeds}
 use Rattle.mega_serve.proofs.asking.refuse.Goals as goal
 

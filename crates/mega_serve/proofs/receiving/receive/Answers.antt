@@ -3,11 +3,11 @@ use Rattle.mega_base.specs.Reading.{whole_of}
 use Rattle.mega_wire.specs.declared.message.Message.{Message}
 use Rattle.mega_wire.specs.Messages.{message_at}
 use Rattle.mega_promises.specs.Served.{Got, given}
-use Rattle.mega_serve.specs.Lines.{peer_of}
+use Rattle.mega_page.specs.Lines.{peer_of}
 use Rattle.mega_serve.specs.Turns.{Ended, IfSome, Proceeds, brought_by, schema_of, setting_of}
 use Rattle.mega_serve.specs.Wishes.{wish_of}
 use Rattle.mega_serve.proofs.Ending.{none_received}
-use Rattle.mega_serve.proofs.Failing.{however}
+use Rattle.mega_page.proofs.Outcomes.{however}
 use Rattle.mega_serve.proofs.receiving.receive.Goals as goal
 
 pub returns-in_err-got-clause-front : goal.returns-in_err-got-clause-front

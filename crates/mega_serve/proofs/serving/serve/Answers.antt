@@ -2,7 +2,7 @@ use Rattle.std.proofs.Common.{[], List, subst}
 use Rattle.mega_serve.specs.declared.waiting.Waiting.{Waiting as Waits}
 use Rattle.mega_serve.specs.Turns.{Runs}
 use Rattle.mega_serve.proofs.Ending.{ends_at_once, none_begun}
-use Rattle.mega_serve.proofs.Failing.{however}
+use Rattle.mega_page.proofs.Outcomes.{however}
 use Rattle.mega_serve.proofs.serving.serve.Goals as goal
 
 pub returns-in-Ok-clause-served : goal.returns-in-Ok-clause-served

@@ -1,6 +1,6 @@
 use Rattle.std.proofs.Common.{◌≡◌, ℕ, ◌≤◌, ◌-◌, List, Option, length}
 use Rattle.mega_link.specs.Datagrams.{Datagram}
-use Rattle.mega_serve.specs.Stepping.{HaveGone}
+use Rattle.mega_page.specs.Causes.{HaveGone}
 use Rattle.mega_serve.specs.Turns.{HasTurned, Runs}
 use Rattle.mega_serve.proofs.serving.turn_often.Given as goal
 

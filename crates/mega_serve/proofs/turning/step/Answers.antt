@@ -4,12 +4,13 @@ use Rattle.mega_cluster.specs.declared.cluster.Cluster.{Cluster}
 use Rattle.mega_schema.specs.declared.schema.Schema.{Schema}
 use Rattle.mega_rules.specs.Steps.{step}
 use Rattle.mega_promises.specs.Served.{Noted, put_out}
-use Rattle.mega_serve.specs.Pages.{IsPage}
+use Rattle.mega_page.specs.Pages.{IsPage}
 use Rattle.mega_serve.specs.Replies.{item_reply, waiting_of}
 use Rattle.mega_serve.specs.Stepping.{event_of}
 use Rattle.mega_serve.specs.Turns.{schema_of, setting_of}
 use Rattle.mega_serve.proofs.Ending.{none_recorded, step_partly}
-use Rattle.mega_serve.proofs.Failing.{caused_later, however}
+use Rattle.mega_page.proofs.Outcomes.{however}
+use Rattle.mega_serve.proofs.Failing.{caused_later}
 use Rattle.mega_serve.proofs.Stepped.{step_proceeds}
 use Rattle.mega_serve.proofs.turning.step.Goals as goal
 
@@ -22,7 +23,7 @@ returns-in-Ok-give-clause-gone g c = λ h now own at page may.
     let schema_is : c.schema.result.now ≡ schema_of g.S.Steps node = c.schema.ensures ∙ ap (λ (members : Cluster). members.schema) c.in-Ok.ensures.members in
     let me_is = c.number.ensures.number ∙ c.in-Ok.ensures.me in
     let shown = c.in_ok-show.ensures own (subst (λ (schema : Schema). IsPage schema c.args.page own) (sym schema_is) page) in
-    let lines = coe 0 1 (i. IsPage (schema_is i) c.show.new.self (((own ++ map Noted made.items) ++ put_out made.sends) ++ flat_map (item_reply (schema_is i) (me_is i) (map waiting_of (c.as_slice.ensures.value i))) made.items)) shown in
+    let lines = coe 0 1 (i. IsPage (schema_is i) c.show.new.page (((own ++ map Noted made.items) ++ put_out made.sends) ++ flat_map (item_reply (schema_is i) (me_is i) (map waiting_of (c.as_slice.ensures.value i))) made.items)) shown in
     step_proceeds g.S.Steps h new (g.S.Steps.members node) (g.S.Steps.me node) waiting c.keep_open.new.waiting.items (g.O.Sink.held c.args.out.now) (g.O.Sink.held c.give.new.out) (g.L.Link.sent c.args.link.now) (g.L.Link.sent c.give.new.link) now own
     (step (setting_of g.S.Steps node h) now.node (event_of c.args.event)) made
     (g.S.Steps.opens_are new h _ _ (c.in-Ok.ensures.state h now.node now.journal at may))
@@ -47,7 +48,7 @@ returns-clause-front g c = λ h now own at page may.
     let schema_is : c.schema.result.now ≡ schema_of g.S.Steps node = c.schema.ensures ∙ ap (λ (members : Cluster). members.schema) c.in-Ok.ensures.members in
     let me_is = c.number.ensures.number ∙ c.in-Ok.ensures.me in
     let shown = c.in_ok-show.ensures own (subst (λ (schema : Schema). IsPage schema c.args.page own) (sym schema_is) page) in
-    let lines = coe 0 1 (i. IsPage (schema_is i) c.show.new.self (((own ++ map Noted made.items) ++ put_out made.sends) ++ flat_map (item_reply (schema_is i) (me_is i) (map waiting_of (c.as_slice.ensures.value i))) made.items)) shown in
+    let lines = coe 0 1 (i. IsPage (schema_is i) c.show.new.page (((own ++ map Noted made.items) ++ put_out made.sends) ++ flat_map (item_reply (schema_is i) (me_is i) (map waiting_of (c.as_slice.ensures.value i))) made.items)) shown in
     step_partly (g.S.Steps.members node) (g.S.Steps.me node) waiting (g.O.Sink.held c.args.out.now) (g.O.Sink.held c.give.new.out) (g.L.Link.sent c.args.link.now) (g.L.Link.sent c.give.new.link) now own
     (step (setting_of g.S.Steps node h) now.node (event_of c.args.event)) made (c.in-Ok.ensures.made h now.node now.journal at may) (c.in-Err-give.ensures.front (schema_of g.S.Steps node) _ lines)
 

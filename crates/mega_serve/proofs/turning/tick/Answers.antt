@@ -4,7 +4,7 @@ use Rattle.mega_rules.specs.Met.{Ticks}
 use Rattle.mega_rules.specs.Steps.{Tick, step}
 use Rattle.mega_promises.specs.Items.{number}
 use Rattle.mega_promises.specs.Served.{Noted, Waiting, noted, recorded}
-use Rattle.mega_serve.specs.Pages.{IsPage}
+use Rattle.mega_page.specs.Pages.{IsPage}
 use Rattle.mega_serve.specs.Turns.{Ended, Proceeds, schema_of, setting_of}
 use Rattle.mega_serve.proofs.Ending.{none_recorded}
 use Rattle.mega_serve.proofs.turning.tick.Goals as goal

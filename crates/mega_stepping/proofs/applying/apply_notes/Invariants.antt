@@ -4,7 +4,8 @@ use Rattle.mega_base.specs.declared.names.GroupId.{GroupId}
 use Rattle.mega_rules.specs.Met.{Met}
 use Rattle.mega_replica.specs.Following.{progress_at}
 use Rattle.mega_stepping.specs.Notes.{met_of}
-use Rattle.mega_stepping.specs.Positions.{Keeps, note_since}
+use Rattle.mega_keeping.specs.Behind.{Keeps}
+use Rattle.mega_stepping.specs.Positions.{note_since}
 use Rattle.mega_stepping.proofs.applying.apply_notes.Given as goal
 
 abbrev pub invariant-loop-one : goal.invariant-loop-one

@@ -3,7 +3,8 @@ use Rattle.std.specs.Vec.Iter.{into_iter_items}
 use Rattle.mega_base.specs.declared.names.GroupId.{GroupId}
 use Rattle.mega_rules.specs.Met.{Met}
 use Rattle.mega_replica.specs.Following.{progress_at}
-use Rattle.mega_stepping.specs.Positions.{Keeps, before_at}
+use Rattle.mega_keeping.specs.Behind.{Keeps}
+use Rattle.mega_stepping.specs.Positions.{before_at}
 use Rattle.mega_stepping.proofs.applying.positions.Given as goal
 
 abbrev pub invariant-loop-group : goal.invariant-loop-group

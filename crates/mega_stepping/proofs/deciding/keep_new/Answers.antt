@@ -6,8 +6,8 @@ use Rattle.mega_wal.specs.History.{by_decide}
 use Rattle.mega_rules.specs.Logs.{decided}
 use Rattle.mega_rules.specs.Met.{Decides}
 use Rattle.mega_rules.specs.Steps.{Decision}
-use Rattle.mega_stepping.specs.Staging.{Stages}
-use Rattle.mega_stepping.proofs.Staged.{deciding_staged}
+use Rattle.mega_keeping.specs.Staging.{Stages}
+use Rattle.mega_keeping.proofs.Staged.{deciding_staged}
 use Rattle.mega_stepping.proofs.deciding.keep_new.Goals as goal
 
 pub returns-in-Ok-clause-staged : goal.returns-in-Ok-clause-staged

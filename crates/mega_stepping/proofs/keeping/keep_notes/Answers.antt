@@ -4,9 +4,8 @@ use Rattle.mega_proposing.specs.of_leases.declared.note.Note.{Note}
 use Rattle.mega_proposing.specs.of_leases.Notes.{met_of}
 use Rattle.mega_rules.specs.Steps.{onto}
 use Rattle.mega_proposing.specs.of_voter.Telling.{Tells}
-use Rattle.mega_stepping.specs.Staging.{Stages}
-use Rattle.mega_stepping.proofs.Sent.{KeptSo, kept_first, kept_next}
-use Rattle.mega_stepping.proofs.Staged.{StagedSo, staged_first, staged_next}
+use Rattle.mega_keeping.specs.Staging.{Stages}
+use Rattle.mega_stepping.proofs.Sent.{KeptSo, kept_first, kept_next, StagedSo, staged_first, staged_next}
 use Rattle.mega_stepping.proofs.keeping.keep_notes.Goals as goal
 
 pub loop-note-init : goal.loop-note-init

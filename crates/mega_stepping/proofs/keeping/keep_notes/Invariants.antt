@@ -3,9 +3,8 @@ use Rattle.mega_proposing.specs.of_leases.Notes.{met_of}
 use Rattle.mega_rules.specs.Met.{Met}
 use Rattle.mega_rules.specs.Steps.{onto}
 use Rattle.mega_proposing.specs.of_voter.Telling.{Tells}
-use Rattle.mega_stepping.specs.Staging.{Stages}
-use Rattle.mega_stepping.proofs.Sent.{KeptSo}
-use Rattle.mega_stepping.proofs.Staged.{StagedSo}
+use Rattle.mega_keeping.specs.Staging.{Stages}
+use Rattle.mega_stepping.proofs.Sent.{KeptSo, StagedSo}
 use Rattle.mega_stepping.proofs.keeping.keep_notes.Given as goal
 
 abbrev pub invariant-loop-note : goal.invariant-loop-note

@@ -4,9 +4,8 @@ use Rattle.mega_wire.specs.declared.message.Message.{Message}
 use Rattle.mega_rules.specs.Met.{Sends}
 use Rattle.mega_rules.specs.Steps.{onto}
 use Rattle.mega_proposing.specs.of_voter.Telling.{Tells}
-use Rattle.mega_stepping.specs.Staging.{Stages}
-use Rattle.mega_stepping.proofs.Sent.{SentSo, sent_first, sent_next}
-use Rattle.mega_stepping.proofs.Staged.{StagedSent, sent_staged_first, sent_staged_next}
+use Rattle.mega_keeping.specs.Staging.{Stages}
+use Rattle.mega_stepping.proofs.Sent.{SentSo, sent_first, sent_next, StagedSent, sent_staged_first, sent_staged_next}
 use Rattle.mega_stepping.proofs.keeping.tell_all_sent.Goals as goal
 
 pub loop-message-init : goal.loop-message-init

@@ -3,9 +3,8 @@ use Rattle.mega_rules.specs.Met.{Met, Sends}
 use Rattle.mega_rules.specs.Steps.{onto}
 use Rattle.mega_node_laws.specs.Sending.{MaySend}
 use Rattle.mega_proposing.specs.of_voter.Telling.{Tells}
-use Rattle.mega_stepping.specs.Staging.{Stages}
-use Rattle.mega_stepping.proofs.Sent.{SentSo}
-use Rattle.mega_stepping.proofs.Staged.{StagedSent}
+use Rattle.mega_keeping.specs.Staging.{Stages}
+use Rattle.mega_stepping.proofs.Sent.{SentSo, StagedSent}
 use Rattle.mega_stepping.proofs.keeping.tell_all_sent.Given as goal
 
 abbrev pub invariant-loop-message : goal.invariant-loop-message

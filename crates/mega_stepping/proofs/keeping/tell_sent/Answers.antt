@@ -1,8 +1,8 @@
 use Rattle.std.proofs.Common.{◌∷◌, List, subst, sym}
 use Rattle.mega_wal.specs.declared.item.JournalItem.{JournalItem}
 use Rattle.mega_rules.specs.Met.{Sends}
-use Rattle.mega_stepping.specs.Staging.{Stages}
-use Rattle.mega_stepping.proofs.Staged.{sending_staged}
+use Rattle.mega_keeping.specs.Staging.{Stages}
+use Rattle.mega_keeping.proofs.Staged.{sending_staged}
 use Rattle.mega_stepping.proofs.keeping.tell_sent.Goals as goal
 
 pub returns-in-Ok-clause-staged : goal.returns-in-Ok-clause-staged

@@ -1,7 +1,7 @@
 use Rattle.std.proofs.Common.{◌∙◌, ◌++◌, ◌∷◌, [], List, ap, sym, filter, append_assoc}
 use Rattle.std.specs.Vec.Iter.{into_iter_items}
 use Rattle.mega_base.specs.declared.names.GroupId.{GroupId}
-use Rattle.mega_stepping.specs.Touching.{is_behind}
+use Rattle.mega_keeping.specs.Behind.{is_behind}
 use Rattle.mega_stepping.proofs.Left.{filter_first}
 use Rattle.mega_stepping.proofs.touching.behind_among.Goals as goal
 

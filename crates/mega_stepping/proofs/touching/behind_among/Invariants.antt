@@ -3,8 +3,7 @@ use Rattle.std.specs.Vec.Iter.{into_iter_items}
 use Rattle.mega_base.specs.declared.names.GroupId.{GroupId}
 use Rattle.mega_rules.specs.Met.{Met}
 use Rattle.mega_replica.specs.Following.{progress_at}
-use Rattle.mega_stepping.specs.Positions.{Keeps}
-use Rattle.mega_stepping.specs.Touching.{is_behind}
+use Rattle.mega_keeping.specs.Behind.{Keeps, is_behind}
 use Rattle.mega_stepping.proofs.touching.behind_among.Given as goal
 
 abbrev pub invariant-loop-group : goal.invariant-loop-group

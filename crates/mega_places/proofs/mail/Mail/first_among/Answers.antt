@@ -1,7 +1,8 @@
 use Rattle.std.proofs.Common.{◌≡◌, ◌+◌, ◌&&◌, length, subst, arith}
-use Rattle.mega_places.specs.Least.{IsLeast}
+use Rattle.mega_verdicts.specs.Least.{IsLeast}
 use Rattle.mega_places.specs.Members.{is_up_at}
-use Rattle.mega_places.specs.Waits.{waits_among, waits_for}
+use Rattle.mega_places.specs.Waits.{waits_among}
+use Rattle.mega_verdicts.specs.Waiting.{waits_for}
 use Rattle.mega_places.proofs.Least.{among_more}
 use Rattle.mega_places.proofs.mail.Mail.first_among.Goals as goal
 

@@ -1,5 +1,5 @@
 use Rattle.std.proofs.Common.{◌≤◌, length}
-use Rattle.mega_places.specs.Least.{IsLeast}
+use Rattle.mega_verdicts.specs.Least.{IsLeast}
 use Rattle.mega_places.specs.Waits.{waits_among}
 use Rattle.mega_places.proofs.mail.Mail.first_among.Given as goal
 

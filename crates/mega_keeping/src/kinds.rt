@@ -1,0 +1,86 @@
+//! What each kind of node does in its cluster (CIDR 2011, replica types): who votes, who keeps rows, and which requests it serves.
+ghost use Rattle.std.specs.Prelude.{◌≡◌};
+ghost use Rattle.mega_voter.specs.of_rules.Members.{has_rows, is_node, is_voter, keeps_rows, kind_of, votes};
+ghost use Rattle.mega_voter.specs.of_rules.Steps.{is_current, missing_kind, needs_full};
+
+use mega_base::NodeKind;
+use mega_cluster::Cluster;
+use mega_outcome::{Mode, Request};
+
+/// The kind of a node.
+pub fn kind_of(cluster: &Cluster, node: u8) -> Option<NodeKind>
+    ensures { result ≡ kind_of cluster.now node }
+{
+    let place = usize::from(node).saturating_sub(1);
+    cluster.nodes.as_slice().get(place).copied()
+}
+
+/// Whether a node is one of the cluster.
+fn is_node(cluster: &Cluster, node: u8) -> bool
+    ensures { result ≡ is_node cluster.now node }
+{
+    1 <= node && usize::from(node) <= cluster.nodes.len()
+}
+
+/// Whether nodes of a kind vote: full nodes and witnesses.
+fn votes(kind: Option<NodeKind>) -> bool
+    ensures { result ≡ votes kind }
+{
+    matches!(&kind, Some(NodeKind::Full | NodeKind::Witness))
+}
+
+/// Whether nodes of a kind keep rows: full and read-only ones.
+fn keeps_rows(kind: Option<NodeKind>) -> bool
+    ensures { result ≡ keeps_rows kind }
+{
+    matches!(&kind, Some(NodeKind::Full | NodeKind::Read))
+}
+
+/// Whether a node votes.
+pub fn is_voter(cluster: &Cluster, node: u8) -> bool
+    ensures { result ≡ is_voter cluster.now node }
+{
+    is_node(cluster, node) && votes(kind_of(cluster, node))
+}
+
+/// Whether a node keeps rows.
+pub fn has_rows(cluster: &Cluster, node: u8) -> bool
+    ensures { result ≡ has_rows cluster.now node }
+{
+    is_node(cluster, node) && keeps_rows(kind_of(cluster, node))
+}
+
+/// Whether a read in this mode is of the newest position.
+fn is_current(mode: &Mode) -> bool
+    ensures { result ≡ is_current mode.now }
+{
+    matches!(mode, Mode::Current)
+}
+
+/// Whether a request is served at full nodes alone.
+fn needs_full(request: &Request) -> bool
+    ensures { result ≡ needs_full request.now }
+{
+    match request {
+        Request::Read(read) => is_current(&read.mode),
+        Request::Find(find) => is_current(&find.mode),
+        Request::Refresh => false,
+        _ => true,
+    }
+}
+
+/// The kind of a node, where nodes of this kind do not serve a request.
+pub fn missing_kind(request: &Request, kind: Option<NodeKind>) -> Option<NodeKind>
+    ensures { result ≡ missing_kind request.now kind }
+{
+    match kind {
+        Some(NodeKind::Witness) => Some(NodeKind::Witness),
+        Some(NodeKind::Read) => {
+            if needs_full(request) {
+                return Some(NodeKind::Read);
+            }
+            None
+        }
+        _ => None,
+    }
+}

@@ -1,7 +1,0 @@
-use Rattle.std.proofs.Common.{refl}
-use Rattle.mega_promises.specs.Served.{Noted}
-use Rattle.mega_serve.proofs.Gathering.{one_quiet}
-use Rattle.mega_serve.proofs.page.Page.note.Goals as goal
-
-pub returns : goal.returns
-returns c = λ lines page. one_quiet c.args.schema.now c.args.self.now _ lines (Noted c.args.item.now) page c.in_ok-text.ensures.ok refl refl

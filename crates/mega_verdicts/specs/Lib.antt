@@ -1,0 +1,4 @@
+pub mod CutsOff
+pub mod Least
+pub mod Refusals
+pub mod Waiting
