@@ -10,7 +10,6 @@ use mega_base::{Copied, NoMemory, Same};
 use std::alloc::Global;
 
 /// Whether two entries are equal.
-#[tactic(auto, using(mega_acceptor::proofs::of_entry::Sames::same_entry_is))]
 fn is_equal(entry: &Entry, other: &Entry) -> bool
     ensures { result ≡ same_entry entry.now other.now }
 {
