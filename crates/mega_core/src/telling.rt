@@ -49,7 +49,7 @@ fn says(
 }
 
 /// The node takes a message: its cell and its coordinator are told, and it replies.
-#[tactic(auto, using(crate::proofs::Failing::taking_is_apart, mega_stepping::proofs::Staged::silent_staged))]
+#[tactic(auto, using(crate::proofs::Failing::taking_is_apart))]
 pub(crate) fn is_told<R: Records, V: Versions>(
     alloc: Global,
     replica: &mut Replica<R, V>,
