@@ -7,6 +7,7 @@ mod numbers;
 mod requests;
 mod world;
 
+use crate::asserted::same_in;
 use mega_base::Text;
 use mega_schedule::{LineFault, WorldEvent, event};
 use mega_schema::{Schema, parse};
@@ -48,7 +49,7 @@ fn reason(answer: Result<WorldEvent, LineFault>) -> u8 {
 fn tells(rt: &impl Abort, alloc: Global, schema: &Schema, wanted: &str, line: &str) {
     let told = reason(event(alloc, line.as_bytes(), 1, schema));
     let told = format!(in alloc; "{told}").expect(rt, "refused");
-    assert_eq!(rt; told.as_str(), wanted, "{line}");
+    same_in(rt, line, told.as_str(), wanted);
 }
 
 /// Asserts of a row, which is a reason and a line, that the line is refused for the reason.

@@ -1,6 +1,7 @@
 //! What lines of operations ask for, and the text with which they begin.
 
 use super::schema;
+use crate::asserted::same;
 use mega_base::Text;
 use mega_outcome::Request;
 use mega_schedule::{WorldEvent, event};
@@ -38,7 +39,7 @@ pub fn begun(rt: &impl Abort, alloc: Global, line: &str) -> (Request, Text) {
 fn check_text(rt: &impl Abort, alloc: Global, row: &str) {
     let (line, wanted) = row.split_once(" => ").expect(rt, "no arrow");
     let (_request, text) = begun(rt, alloc, line);
-    assert_eq!(rt; text.as_str(), wanted);
+    same(rt, text.as_str(), wanted);
 }
 
 #[test]

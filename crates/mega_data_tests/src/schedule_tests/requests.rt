@@ -1,6 +1,7 @@
 //! What lines of operations ask for: names by their numbers, and values by the kinds of their places.
 
 use super::begins::begun;
+use crate::asserted::same;
 use std::alloc::Global;
 use std::process::Abort;
 
@@ -34,7 +35,7 @@ fn check_request(rt: &impl Abort, alloc: Global, row: &str) {
     let (line, wanted) = row.split_once(" => ").expect(rt, "no arrow");
     let (request, _text) = begun(rt, alloc, line);
     let told = format!(in alloc; "{request:?}").expect(rt, "refused");
-    assert_eq!(rt; told.as_str(), wanted);
+    same(rt, told.as_str(), wanted);
 }
 
 #[test]
