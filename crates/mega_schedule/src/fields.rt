@@ -8,12 +8,12 @@ ghost use Rattle.mega_schedule.specs.declared.verdict.Verdict.{Verdict};
 ghost use Rattle.mega_schedule.specs.declared.verdict.Verdict.TheVariants.{Fine};
 ghost use Rattle.mega_schedule.specs.Fields.{at_most, required, optional, text_check, between, number_within, whole_check, value_check, values_check, worst, each, is_hex_digit, is_hex, hex_check, pair_of, group_check, floats_check};
 
-use crate::floats::has_float;
 use crate::verdict::Verdict;
+use mega_floats::has_float;
 use serde_json::{Number, Value as Json};
 
 /// What a part of a line is checked for.
-pub(crate) trait Checked {
+pub trait Checked {
     ghost checks: { Data → Verdict };
 
     fn check(value: &Json) -> Verdict
@@ -21,7 +21,7 @@ pub(crate) trait Checked {
 }
 
 /// A field that must be there.
-pub(crate) fn required<C: Checked>(object: &Json, name: &str) -> Verdict
+pub fn required<C: Checked>(object: &Json, name: &str) -> Verdict
     ensures { result ≡ required C.checks (get name.now (view object.now)) }
 {
     match object.get(name) {
@@ -42,7 +42,7 @@ pub(crate) fn optional<C: Checked>(object: &Json, name: &str) -> Verdict
 
 /// An object that has all of its fields has one too many where it has more members than those.
 #[tactic(auto, using(crate::proofs::Counts::members_count))]
-pub(crate) fn at_most(object: &Json, fields: usize) -> Verdict
+pub fn at_most(object: &Json, fields: usize) -> Verdict
     ensures { result ≡ at_most fields (view object.now) }
 {
     match object.as_object() {
@@ -58,7 +58,7 @@ pub(crate) fn at_most(object: &Json, fields: usize) -> Verdict
 }
 
 /// A text.
-pub(crate) struct TextField;
+pub struct TextField;
 
 impl Checked for TextField {
     ghost checks = { text_check };
@@ -104,7 +104,7 @@ pub(crate) fn between(object: &Json, name: &str, low: u64, high: u64) -> Verdict
 }
 
 /// A whole number that is an int64.
-pub(crate) struct WholeField;
+pub struct WholeField;
 
 impl Checked for WholeField {
     ghost checks = { whole_check };
@@ -125,7 +125,7 @@ impl Checked for WholeField {
 }
 
 /// A number, a text or a truth value.
-pub(crate) struct ValueField;
+pub struct ValueField;
 
 impl Checked for ValueField {
     ghost checks = { value_check };
@@ -140,7 +140,7 @@ impl Checked for ValueField {
 }
 
 /// What is wrong with the items of a list.
-pub(crate) fn worst<C: Checked>(items: &[Json]) -> Verdict
+pub fn worst<C: Checked>(items: &[Json]) -> Verdict
     ensures { result ≡ worst C.checks Fine (items_view items.now) }
 {
     let mut found = Verdict::Fine;
@@ -151,7 +151,7 @@ pub(crate) fn worst<C: Checked>(items: &[Json]) -> Verdict
 }
 
 /// A list of what `C` checks.
-pub(crate) fn each<C: Checked>(value: &Json) -> Verdict
+pub fn each<C: Checked>(value: &Json) -> Verdict
     ensures { result ≡ each C.checks (view value.now) }
 {
     match value.as_array() {
@@ -161,7 +161,7 @@ pub(crate) fn each<C: Checked>(value: &Json) -> Verdict
 }
 
 /// A list of values.
-pub(crate) struct ValuesField;
+pub struct ValuesField;
 
 impl Checked for ValuesField {
     ghost checks = { values_check };
@@ -212,7 +212,7 @@ impl Checked for HexField {
 
 /// The items of a list of two.
 #[tactic(auto, using(crate::proofs::Pairs::a_pair, crate::proofs::Pairs::no_pair))]
-pub(crate) fn pair_of(items: &[Json]) -> Option<(&Json, &Json)>
+pub fn pair_of(items: &[Json]) -> Option<(&Json, &Json)>
     ensures { option_map (λ pair. (view pair.0.now, view pair.1.now)) result ≡ pair_of (items_view items.now) }
 {
     if items.len() == 2 {
@@ -223,7 +223,7 @@ pub(crate) fn pair_of(items: &[Json]) -> Option<(&Json, &Json)>
 }
 
 /// A table's name and a list of values.
-pub(crate) struct GroupField;
+pub struct GroupField;
 
 impl Checked for GroupField {
     ghost checks = { group_check };
@@ -240,7 +240,7 @@ impl Checked for GroupField {
 }
 
 /// No number is neither an int64 nor a u64.
-pub(crate) fn floats(value: &Json) -> Verdict
+pub fn floats(value: &Json) -> Verdict
     ensures { result ≡ floats_check (view value.now) }
 {
     if has_float(value) {

@@ -2,20 +2,19 @@
 #![tactic(auto)]
 
 mod asking;
-mod fields;
-mod floats;
+pub mod fields;
 mod form;
 mod lines;
-mod parts;
+pub mod parts;
 mod read;
 mod requests;
 mod rows;
-mod values;
+pub mod values;
 mod verdict;
 mod world_event;
 
 pub use asking::{Ask, asked};
 pub use form::{Form, Pump};
-pub use read::event;
+pub use read::{event, object_of};
 pub use verdict::Verdict;
 pub use world_event::{LineFault, WorldEvent};

@@ -183,8 +183,8 @@ impl Checked for SendPart {
     }
 }
 
-/// The list of such parts that a field holds.
-struct ChecksField;
+/// The checks that a field lists.
+pub struct ChecksField;
 
 impl Checked for ChecksField {
     ghost checks = { each check_check };
@@ -194,6 +194,7 @@ impl Checked for ChecksField {
     }
 }
 
+/// The reads that a field lists.
 pub(crate) struct ReadsField;
 
 impl Checked for ReadsField {
@@ -204,7 +205,8 @@ impl Checked for ReadsField {
     }
 }
 
-struct WritesField;
+/// The writes that a field lists.
+pub struct WritesField;
 
 impl Checked for WritesField {
     ghost checks = { each write_check };
@@ -214,6 +216,7 @@ impl Checked for WritesField {
     }
 }
 
+/// The sends that a field lists.
 struct SendsField;
 
 impl Checked for SendsField {

@@ -47,7 +47,7 @@ pub fn event(
 }
 
 /// The object that a line is.
-pub(crate) fn object_of(alloc: Global, line: &[u8]) -> Result<Json, LineFault>
+pub fn object_of(alloc: Global, line: &[u8]) -> Result<Json, LineFault>
     ensures { Gives view result (object_of line.now) }
 {
     match Json::from_slice(alloc, line) {

@@ -19,14 +19,15 @@ use mega_schema::{Property, Schema, Table};
 use serde_json::Value as Json;
 use std::alloc::Global;
 
-fn text_of(value: &Json) -> &str
+/// A text, or none where the value is none.
+pub fn text_of(value: &Json) -> &str
     ensures { result.now ≡ text_in (Some (view value.now)) }
 {
     value.as_str().unwrap_or("")
 }
 
 /// The text of a field, or none where it has none.
-pub(crate) fn text_in<'a>(object: &'a Json, name: &str) -> &'a str
+pub fn text_in<'a>(object: &'a Json, name: &str) -> &'a str
     ensures { result.now ≡ text_in (get name.now (view object.now)) }
 {
     match object.get(name) {
@@ -69,7 +70,8 @@ pub(crate) fn whole_in(object: &Json, name: &str) -> i64
     }
 }
 
-fn list_of(value: &Json) -> &[Json]
+/// The items of a list, or none where the value is none.
+pub fn list_of(value: &Json) -> &[Json]
     ensures { items_view result.now ≡ list_in (Some (view value.now)) }
 {
     match value.as_array() {
@@ -79,7 +81,7 @@ fn list_of(value: &Json) -> &[Json]
 }
 
 /// The items of a field's list, or none where it has none.
-pub(crate) fn list_in<'a>(object: &'a Json, name: &str) -> &'a [Json]
+pub fn list_in<'a>(object: &'a Json, name: &str) -> &'a [Json]
     ensures { items_view result.now ≡ list_in (get name.now (view object.now)) }
 {
     match object.get(name) {
@@ -111,7 +113,7 @@ fn number_value(kind: Option<Kind>, number: i64) -> Value
 }
 
 /// The bytes of a text of hex digits, or none where it is none.
-pub(crate) fn bytes_of(alloc: Global, text: &str) -> Result<Bytes, NoMemory>
+pub fn bytes_of(alloc: Global, text: &str) -> Result<Bytes, NoMemory>
     ensures { IfOk result (λ made. made ≡ bytes_of text.now) }
 {
     match hex::decode(alloc, text.as_bytes()) {
@@ -219,7 +221,7 @@ fn table_place(tables: &[Table], name: &str) -> Option<usize>
 }
 
 /// The number of the table with this name, or 0.
-pub(crate) fn table_number(schema: &Schema, name: &str) -> u8
+pub fn table_number(schema: &Schema, name: &str) -> u8
     ensures { result ≡ table_number schema.now name.now }
 {
     number_of_place(table_place(schema.tables.as_slice(), name))
@@ -241,7 +243,7 @@ pub(crate) fn property_number(properties: &[Property], name: &str) -> u8
 }
 
 /// The properties of a table, or none where there is no such table.
-pub(crate) fn properties_of(table: Option<&Table>) -> &[Property]
+pub fn properties_of(table: Option<&Table>) -> &[Property]
     ensures { result.now ≡ properties_of (option_copied table.entry) }
 {
     match table {

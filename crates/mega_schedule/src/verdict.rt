@@ -17,7 +17,7 @@ pub enum Verdict {
 
 impl Verdict {
     /// The one of the two that is told.
-    pub(crate) fn and(self, other: Verdict) -> Verdict
+    pub fn and(self, other: Verdict) -> Verdict
         ensures { result ≡ self ⊓ other }
     {
         match (self, other) {

@@ -3,7 +3,6 @@
 
 mod answer_kinds;
 mod fault;
-mod floats;
 mod kinds;
 mod laws;
 mod named;

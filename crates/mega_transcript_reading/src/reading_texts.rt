@@ -7,12 +7,12 @@ ghost use Rattle.mega_transcript.specs.Requests.{compact_of, json_of, request_of
 ghost use Rattle.mega_transcript_reading.specs.ReadingItems.{begin_at, answered_at};
 
 use crate::fault::Refusal;
-use crate::floats::has_float;
 use crate::kinds::is;
 use crate::reading::Words;
 use crate::reading_answers::answer;
 use crate::reading_json::json_of;
 use mega_base::{NoMemory, Text};
+use mega_floats::has_float;
 use mega_schema::Schema;
 use mega_transcript::Item;
 use serde_json::Value as Json;

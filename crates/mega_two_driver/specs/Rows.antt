@@ -1,12 +1,11 @@
 -- What the row that a read shows tells of a plan or of a lock.
-use Rattle.std.specs.Prelude.{ℕ, ◌==◌, if◌then◌else◌, Bool, true, false, List, [], ◌∷◌, codes, Option, Some, None, is_some, option_map, option_and_then, unwrap_or, Result, Ok, Err}
+use Rattle.std.specs.Prelude.{ℕ, ◌==◌, if◌then◌else◌, Bool, true, false, List, [], ◌∷◌, codes, Option, Some, None, is_some, option_map, option_and_then, unwrap_or}
 use Rattle.std.specs.Str.{is_utf8}
-use Rattle.hex.specs.Hex.{decode_of}
-use Rattle.hex.specs.declared.error.FromHexError.{FromHexError}
 use Rattle.serde_json.specs.Data.{Data}
 use Rattle.serde_json.specs.Find.{get, at, as_null, as_str, as_number, as_u64}
 use Rattle.serde_json.specs.Read.{read as read_json}
 use Rattle.mega_syntax.specs.Names.{same}
+use Rattle.mega_schedule.specs.Values.{bytes_of}
 use Rattle.mega_two_moves.specs.declared.told.State.TheVariants.{Undecided, Made, Dropped}
 use Rattle.mega_two_moves.specs.declared.told.Told.{Told}
 use Rattle.mega_two_moves.specs.declared.told.Told.TheVariants.{Again, NoPlan, Stands, Held, Free}
@@ -64,14 +63,10 @@ unfoldable pub lock_told : List ℕ → List ℕ → Told
 lock_told name reply = lock_row_told name reply (first_row (rows_in reply))
 
 -- the line that a plan holds; none where it shows none
-abbrev pub decoded : Result (List ℕ) FromHexError → List ℕ
-decoded (Ok bytes) = bytes
-decoded (Err fault) = []
-
 abbrev pub line_digits : Option (Option Data) → List ℕ
 line_digits None = []
 line_digits (Some None) = []
 line_digits (Some (Some row)) = unwrap_or (text_in (codes "plan") row) []
 
 unfoldable pub plan_line : List ℕ → List ℕ
-plan_line reply = decoded (decode_of (line_digits (first_row (rows_in reply))))
+plan_line reply = bytes_of (line_digits (first_row (rows_in reply)))

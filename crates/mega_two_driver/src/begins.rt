@@ -10,11 +10,12 @@ ghost use Rattle.mega_two_driver.specs.Fits.{own_of};
 use crate::checks::line_check;
 use crate::fault::{TwoFault, judge};
 use crate::fits::{are_groups_apart, own_of, part_fits};
-use crate::json::{list_in, text_in};
 use crate::plan::{Plan, plan_with};
 use crate::tables::has_plans;
 use mega_base::{Items, NoMemory};
 use mega_outcome::Transaction;
+use mega_schedule::LineFault;
+use mega_schedule::values::{list_in, text_in};
 use mega_schema::Schema;
 use serde_json::Value as Json;
 use std::alloc::Global;
@@ -26,21 +27,10 @@ const MOST_BYTES: usize = 16_384;
 fn object_of(alloc: Global, line: &[u8]) -> Result<Json, TwoFault>
     ensures { Gives view result (object_of line.now) }
 {
-    match Json::from_slice(alloc, line) {
-        Ok(value) => {
-            if value.is_object() {
-                Ok(value)
-            } else {
-                Err(TwoFault::Refused { reason: 1 })
-            }
-        }
-        Err(error) => {
-            if error.is_memory() {
-                Err(TwoFault::NoMemory)
-            } else {
-                Err(TwoFault::Refused { reason: 1 })
-            }
-        }
+    match mega_schedule::object_of(alloc, line) {
+        Ok(object) => Ok(object),
+        Err(LineFault::NoMemory) => Err(TwoFault::NoMemory),
+        Err(LineFault::Refused { reason }) => Err(TwoFault::Refused { reason }),
     }
 }
 

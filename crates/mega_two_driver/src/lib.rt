@@ -4,17 +4,15 @@
 mod begins;
 mod checks;
 mod fault;
-mod fields;
 mod fits;
-mod floats;
 mod joins;
-mod json;
 pub mod laws;
 mod lengths;
 mod parts;
 mod pieces;
 mod places;
 mod plan;
+mod root;
 mod rows;
 mod tables;
 mod texts;

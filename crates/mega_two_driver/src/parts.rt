@@ -4,14 +4,15 @@ ghost use Rattle.serde_json.specs.View.{view};
 ghost use Rattle.mega_two_driver.specs.Texts.{end_put, finish_text, finish_writes, free_checks, held_check, lock_delete, lock_look, lock_put, holder_check, own_text, own_writes, part_requests, prepare_checks, prepare_text, quoted_ends, quoted_locks, truth_text};
 
 use crate::joins::{bracketed, joined5, joined7, joined9, listed, quoted};
-use crate::json::{list_in, root_name};
 use crate::pieces::{
     end_key, end_table, field_text, key_members, lock_key, lock_table, put_after_commas,
     put_all_deleted, put_before_commas,
 };
 use crate::plan::PartRequests;
+use crate::root::root_name;
 use crate::texts::{look_text, transaction_text};
 use mega_base::{Bytes, NoMemory};
+use mega_schedule::values::list_in;
 use mega_schema::Schema;
 use mega_two_moves::finish_of;
 use serde_json::Value as Json;

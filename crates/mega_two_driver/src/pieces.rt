@@ -5,11 +5,12 @@ ghost use Rattle.serde_json.specs.Find.{get};
 ghost use Rattle.serde_json.specs.View.{view, items_view};
 ghost use Rattle.mega_two_driver.specs.Texts.{after_commas, before_commas, deleted_text, deleted_texts, end_key, end_table, field_text, key_members, lock_key, lock_table, member_text, members_text, there_text, value_text};
 
-use crate::floats::has_float;
 use crate::joins::{bracketed, joined3, joined5, quoted};
-use crate::json::{key_list, primary_of, properties_of, root_table, root_values};
+use crate::root::{key_list, primary_of, root_table, root_values};
 use mega_base::{Bytes, NoMemory};
+use mega_floats::has_float;
 use mega_index::property_at;
+use mega_schedule::values::properties_of;
 use mega_schema::{Property, Schema};
 use serde_json::Value as Json;
 use std::alloc::Global;

@@ -5,8 +5,8 @@ ghost use Rattle.serde_json.specs.View.{view};
 ghost use Rattle.mega_two_driver.specs.Rows.{data_in, first_row, holder_told, line_digits, list_in, lock_row_told, lock_told, number_in, plan_line, plan_row_told, plan_told, row_or_null, rows_in, state_told, text_in};
 
 use crate::words::{has_word, same, unread_told};
-use hex::FromHexError;
 use mega_base::{Bytes, NoMemory};
+use mega_schedule::values::bytes_of;
 use mega_two_moves::{State, Told};
 use serde_json::Value as Json;
 use std::alloc::Global;
@@ -155,9 +155,5 @@ pub(crate) fn plan_line(alloc: Global, reply: &[u8]) -> Result<Bytes, NoMemory>
 {
     let rows = rows_in(alloc, reply)?;
     let digits = line_digits(first_row(rows.as_ref()));
-    match hex::decode(alloc, digits.as_bytes()) {
-        Ok(bytes) => Ok(Bytes::from_vec(bytes)),
-        Err(FromHexError::OutOfMemory) => Err(NoMemory),
-        Err(_) => Ok(Bytes::new(alloc)),
-    }
+    bytes_of(alloc, digits)
 }

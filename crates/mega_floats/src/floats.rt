@@ -7,7 +7,7 @@ use serde_json::{Map, Value as Json};
 
 /// Whether a number stands in the value that is neither an i64 nor a u64.
 #[cycle(floats)]
-pub(crate) fn has_float(value: &Json) -> bool
+pub fn has_float(value: &Json) -> bool
     ensures { result ≡ has_float (view value.now) }
 {
     match value {
