@@ -49,7 +49,7 @@ use Rattle.mega_valid_laws.specs.of_settled_laws.Covering.{Earlier}
 use Rattle.mega_lease_laws.proofs.of_run_laws.Shown.{IsSilent, notes_silent}
 use Rattle.mega_lease_laws.proofs.of_run_laws.Events.{each_append as each_both}
 use Rattle.mega_valid_laws.proofs.of_settled_laws.Tapes.{items_later, now_is, one_later, then_later}
-use Rattle.mega_valid_laws.proofs.of_settled_laws.Walk.{Walks, begun_it, goes_on_it}
+use Rattle.mega_valid_laws.proofs.of_settled_laws.Walk.{Walks, begun_it, caught, goes_on_it}
 use Rattle.mega_lease_laws.proofs.Acting.{Acquires, acquires_are}
 use Rattle.mega_lease_laws.proofs.of_node_laws.Rounds.{MayPropose, due_hold}
 use Rattle.mega_lease_laws.proofs.of_node_laws.Reading.{MayRead, falls_due_hold, seeks_hold}
@@ -138,18 +138,22 @@ module _ (s : Setting) (tape : List Item) where
       by stored (Some why) = h
       by stored None = h
 
-  walks : Walks s (λ op now. AllSay now) (λ now o. AllSay now)
+  walks : Walks s (λ op now. AllSay now) (λ op now. AllSay now) (λ now o. AllSay now)
   walks = record {
     keeps_it = λ now o h. h;
     ends_it = λ now o answer h. h;
-    completes_it = λ now o group noted asked p search h. completes_say now group noted asked p search h;
+    completes_it = λ now o group noted asked p search all h. completes_say now group noted asked p search h;
     seeks_it = λ now o group r least h. mild_more now (seeks (reader_of s o.id group) r least (clock_of now.met)).sends (seeks_hold Mild (reader_of s o.id group) (mild_read (reader_of s o.id group)) r least (clock_of now.met)) h;
-    asks_it = λ now o group r n leader own promised h. more_say now (asks (site (reader_of s o.id group) (asked_by r) n) leader own (clock_of now.met)).sends (tt, tt) h;
+    asks_it = λ now o group noted asked p search leader own promised h.
+        more_say now (asks (site (reader_of s o.id group) (asked_by (caught noted asked p search)) (p + 1)) leader own (clock_of now.met)).sends (tt, tt) h;
     visits_it = λ now o before r group message h. mild_more now (read_begun s now o group (asked_by r)).sends (begun_hold Mild s (mild_act s) now o group (asked_by r)) h;
+    first_it = λ now id request clock group message h.
+        mild_more now (read_begun s now (new_operation id request clock) group []).sends (begun_hold Mild s (mild_act s) now (new_operation id request clock) group []) h;
+    ends_first = λ now id answer h. h;
   }
 
   turn_says : (now : Now) (t : Heard) → Each (Says s.cluster tape) t.sends → AllSay now → AllSay (acts_in_turn s now t)
-  turn_says now t says h = goes_on_it s (λ op next. AllSay next) (λ next o. AllSay next) walks (sends_more now t.sends) t.operation (more_say now t.sends says h)
+  turn_says now t says h = goes_on_it s (λ op next. AllSay next) (λ op next. AllSay next) (λ next o. AllSay next) walks (sends_more now t.sends) t.operation (more_say now t.sends says h)
 
   all_heard : (clock : ℕ) (m : Message) (os : List Operation) (now : Now) → AllSay now → AllSay (all_act s now (map (hears_message s clock m) os))
   all_heard clock m [] now h = h
@@ -173,7 +177,7 @@ module _ (s : Setting) (tape : List Item) where
       by false = turn_says now (does_due s clock o) (due_says clock o.id o.request o.began o.visited o.message o.phase met backed.0) h
 
   begins_say : (now : Now) (id : OpId) (request : Request) (clock : ℕ) (refusal : Option Answer) → AllSay now → AllSay (unless_refused s now (new_operation id request clock) refusal)
-  begins_say now id request clock refusal h = begun_it s (λ op next. AllSay next) (λ next o. AllSay next) walks now id clock request refusal (λ none. h) (λ answer. h)
+  begins_say now id request clock refusal h = begun_it s (λ op next. AllSay next) (λ op next. AllSay next) (λ next o. AllSay next) walks now id clock request refusal (λ none. h) (λ answer. h)
 
   -- ---- what a node sends by itself
 
