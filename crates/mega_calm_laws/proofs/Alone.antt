@@ -26,7 +26,8 @@ use Rattle.mega_leased_laws.specs.of_run_laws.of_tape_laws.of_promises.of_rules.
 use Rattle.mega_leased_laws.specs.of_run_laws.of_tape_laws.of_promises.Promises.{Stands}
 use Rattle.mega_leased_laws.specs.of_run_laws.of_tape_laws.of_promises.Runs.{Standing, set_at, setting, whole_step}
 use Rattle.mega_calm_laws.specs.Waiting.{IsAwaited, IsNumbered, Waits}
-use Rattle.mega_calm_laws.proofs.Mail.{Each, Mailed, each_of, number_is, number_self}
+use Rattle.mega_leased_laws.specs.of_run_laws.Justified.{Each}
+use Rattle.mega_calm_laws.proofs.Mail.{Mailed, each_of, number_is, number_self}
 use Rattle.mega_calm_laws.proofs.Noting.{DecidesMore, SameLogs}
 use Rattle.mega_calm_laws.proofs.Draining.{IsUnfused, unfused_after}
 use Rattle.mega_calm_laws.proofs.Reading.{one}

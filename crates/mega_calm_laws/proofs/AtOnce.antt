@@ -31,7 +31,8 @@ use Rattle.mega_leased_laws.specs.of_run_laws.of_tape_laws.of_promises.Runs.{Cut
 use Rattle.mega_calm_laws.specs.Next.{IsNextAt, leader_behind}
 use Rattle.mega_calm_laws.specs.Proposed.{Asked, IsProposedAlone, asks_leader}
 use Rattle.mega_calm_laws.specs.Waiting.{IsNumbered}
-use Rattle.mega_calm_laws.proofs.Mail.{Among, Each, Mailed, mailed_plain, mailed_step, none_gone, number_is, number_self}
+use Rattle.mega_leased_laws.specs.of_run_laws.Justified.{Each}
+use Rattle.mega_calm_laws.proofs.Mail.{Among, Mailed, mailed_plain, mailed_step, none_gone, number_is, number_self}
 use Rattle.mega_calm_laws.proofs.Noting.{onto_append}
 use Rattle.mega_calm_laws.proofs.Draining.{IsUnfused, at_node_whole, unfused_after}
 use Rattle.mega_calm_laws.proofs.Prefixes.{behind_prefix}

@@ -49,7 +49,9 @@ use Rattle.mega_leased_laws.specs.of_run_laws.of_tape_laws.of_promises.Runs.{Cut
 use Rattle.mega_calm_laws.specs.Answered.{AllWaited, IsRead, IsReadOrAwaits, all_delivered}
 use Rattle.mega_calm_laws.specs.Stocked.{IsStocked}
 use Rattle.mega_calm_laws.specs.Waiting.{IsNumbered, Waits}
-use Rattle.mega_calm_laws.proofs.Mail.{Among, Each, Mailed, among_right, answer_stands, each_both, mailed_plain, mailed_step, none_gone}
+use Rattle.mega_leased_laws.specs.of_run_laws.Justified.{Each}
+use Rattle.mega_leased_laws.proofs.of_run_laws.Events.{each_append as each_both}
+use Rattle.mega_calm_laws.proofs.Mail.{Among, Mailed, among_right, answer_stands, mailed_plain, mailed_step, none_gone}
 use Rattle.mega_calm_laws.proofs.Noting.{DecidesMore, IsNoVote, IsStill, SameLogs, applies_still, logs_then, onto_append, same_decides, sends_still, still_onto, still_one}
 use Rattle.mega_calm_laws.proofs.Draining.{Ends, IsNext, at_node_whole, delivers, drain_ends, none_waits}
 use Rattle.mega_calm_laws.proofs.Prefixes.{behind_prefix}
@@ -57,7 +59,8 @@ use Rattle.mega_calm_laws.proofs.Polls.{among_voters, voter_of}
 use Rattle.mega_calm_laws.proofs.Reading.{Helped, Outcome, fetching, ShowsRows, answered, asks, goes_on_so, one, waits}
 use Rattle.mega_calm_laws.proofs.Taking.{Becomes, NoVotes, answers, fetch_all, fetch_quiet, fetches, stays}
 use Rattle.mega_calm_laws.proofs.Alone.{Around, Fits, Held, LogsOn, Ready, Stocked, asks_where, stocked_on, where_to}
-use Rattle.mega_calm_laws.proofs.Delivering.{AloneAt, less_position, Awaits, among_map, awaits, each_map, me_logs, becomes_logs, becomes_sends, helped_by, is_answered, is_awaiting, me_becomes, none_stocked, receives, takes_alone}
+use Rattle.mega_calm_laws.proofs.Delivering.{AloneAt, less_position, Awaits, awaits, me_logs, becomes_logs, becomes_sends, helped_by, is_answered, is_awaiting, me_becomes, none_stocked, receives, takes_alone}
+use Rattle.mega_calm_laws.proofs.Heard.{among_map, each_map}
 
 -- ---- the rows of a read
 

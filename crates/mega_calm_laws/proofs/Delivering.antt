@@ -1,5 +1,5 @@
 -- A delivery keeps that one operation reads alone: what it waits for is answered, and in the end nothing waits and it is answered.
-use Rattle.std.proofs.Common.{◌≡◌, ◌⊎◌, inl, inr, ℕ, suc, ◌+◌, ◌==◌, ◌&&◌, ◌||◌, ◌≤◌, ◌<◌, max, nat_le, Bool, true, false, not, cond, List, [], ◌∷◌, ◌++◌, length, map, Option, Some, None, refl, sym, ap, ◌∙◌, subst, arith}
+use Rattle.std.proofs.Common.{◌≡◌, ◌⊎◌, inl, inr, ℕ, suc, ◌+◌, ◌==◌, ◌&&◌, ◌||◌, ◌≤◌, ◌<◌, max, nat_le, Bool, true, false, not, cond, List, [], ◌∷◌, ◌++◌, length, Option, Some, None, refl, sym, ap, ◌∙◌, subst, arith}
 use Rattle.std.specs.List.{list_all}
 use Rattle.std.proofs.lemmas.Bool.Decides.{nat_tests}
 use Rattle.mega_base.specs.declared.names.Epoch.{Epoch}
@@ -40,7 +40,11 @@ use Rattle.mega_leased_laws.specs.of_run_laws.of_tape_laws.of_promises.Messages.
 use Rattle.mega_leased_laws.specs.of_run_laws.of_tape_laws.of_promises.Promises.{Stands}
 use Rattle.mega_leased_laws.specs.of_run_laws.of_tape_laws.of_promises.Runs.{Standing, set_at, setting, whole_step}
 use Rattle.mega_calm_laws.specs.Waiting.{IsAwaited, IsNumbered, Waits}
-use Rattle.mega_calm_laws.proofs.Mail.{Among, Each, Mailed, among_left, among_right, answer_stands, each_both, mailed_step, mailed_taken, number_is, number_self, some_is}
+use Rattle.mega_leased_laws.specs.of_run_laws.Justified.{Each}
+use Rattle.mega_leased_laws.proofs.of_run_laws.Events.{each_append as each_both}
+use Rattle.mega_calm_laws.proofs.Mail.{Among, Mailed, among_left, among_right, answer_stands, mailed_step, mailed_taken, number_is, number_self, some_is}
+use Rattle.mega_calm_laws.proofs.Heard.{among_map, each_map, from_with, has_both, has_last, is_first}
+use Rattle.mega_calm_laws.proofs.MessageKinds.{clash, kind_of_message, place_in}
 use Rattle.mega_calm_laws.proofs.Noting.{DecidesMore, HasEntry, SameLogs, below_top, decides_then, decision_has, decision_more, same_decides, same_logs, still_one}
 use Rattle.mega_calm_laws.proofs.Prefixes.{behind_prefix}
 use Rattle.mega_calm_laws.proofs.Polls.{all_among, all_heard, among_others, among_voters, has_voter, other_voter, voter_is_node, voter_of}
@@ -49,75 +53,8 @@ use Rattle.mega_calm_laws.proofs.Stepping.{IsAsking, message}
 use Rattle.mega_calm_laws.proofs.Taking.{Becomes, IsIdle, NoVotes, answers, fetch_all, fetches, idle_asking, idle_have, reads_asking, reads_have, stays}
 use Rattle.mega_calm_laws.proofs.Alone.{Alone, Around, At, FetchOk, Fits, Held, IsSought, LogsOn, PollOk, Ready, Sought, Stocked, TopAwaited, answered, around_on, asks_entry, asks_where, fetch_at, have_from, have_not_from, op, reading, reads, set_more, set_same, stocked_on, tells_entry, tells_none, tells_top, top_from, where_to}
 
--- ---- messages of different kinds
-
-abbrev kind : Body → ℕ
-kind (Where o g) = 1
-kind (Top o g n) = 2
-kind (Fetch o g n) = 3
-kind (Have o g n e) = 4
-kind (HaveNot o g n) = 5
-kind _ = 0
-
-abbrev kind_of_message : Message → ℕ
-kind_of_message m = kind m.body
-
-abbrev place_in : Body → ℕ
-place_in (Fetch o g n) = n.0
-place_in (Have o g n e) = n.0
-place_in _ = 0
-
-pub among_map : (f : ℕ → Message) (x : ℕ) (xs : List ℕ) → Among x xs → Among (f x) (map f xs)
-among_map f x [] i = absurd i
-among_map f x (y ∷ ys) (inl e) = inl (ap f e)
-among_map f x (y ∷ ys) (inr i) = inr (among_map f x ys i)
-
-pub each_map : (P : Message → Type 0) (f : ℕ → Message) (xs : List ℕ) → ((x : ℕ) → Among x xs → P (f x)) → Each P (map f xs)
-each_map P f [] h = tt
-each_map P f (x ∷ xs) h = (h x (inl refl), each_map P f xs (λ y i. h y (inr i)))
-
-is_first : (xs : List ℕ) (x : ℕ) → Among x xs → (first : ℕ) × (more : List ℕ) × (xs ≡ first ∷ more)
-is_first [] x i = absurd i
-is_first (y ∷ ys) x i = (y, ys, refl)
-
 pub less_position : (a b : ℕ) → nat_le a b ≡ false → b + 1 ≤ a
 less_position a b h = grind (arith, nat_tests)
-
-pub has_both : (x v : ℕ) (xs : List ℕ) → has v xs ≡ true → has v (xs ++ x ∷ []) ≡ true
-has_both x v [] h = cc
-has_both x v (y ∷ ys) h = by (y == v) h (has_both x v ys)
-  where
-    by : (t : Bool) → (t || has v ys) ≡ true → (has v ys ≡ true → has v (ys ++ x ∷ []) ≡ true) → (t || has v (ys ++ x ∷ [])) ≡ true
-    by true k again = refl
-    by false k again = again k
-
-pub has_last : (v : ℕ) (xs : List ℕ) → has v (xs ++ v ∷ []) ≡ true
-has_last v [] = ap (λ t. t || false) (number_self v)
-has_last v (y ∷ ys) = by (y == v) (has_last v ys)
-  where
-    by : (t : Bool) → has v (ys ++ v ∷ []) ≡ true → (t || has v (ys ++ v ∷ [])) ≡ true
-    by true h = refl
-    by false h = h
-
--- one more is in the list, or it was there
-from_last : (x v : ℕ) (xs : List ℕ) → has v (xs ++ x ∷ []) ≡ true → (has v xs ≡ true) ⊎ (x ≡ v)
-from_last x v [] h = by (x == v) refl h
-  where
-    by : (t : Bool) → (x == v) ≡ t → (t || false) ≡ true → (has v [] ≡ true) ⊎ (x ≡ v)
-    by true e k = inr (number_is x v e)
-    by false e k = cc
-from_last x v (y ∷ ys) h = by (y == v) h (from_last x v ys)
-  where
-    by : (t : Bool) → (t || has v (ys ++ x ∷ [])) ≡ true → (has v (ys ++ x ∷ []) ≡ true → (has v ys ≡ true) ⊎ (x ≡ v)) → ((t || has v ys) ≡ true) ⊎ (x ≡ v)
-    by true k again = inl refl
-    by false k again = again k
-
-from_with : (x v : ℕ) (xs : List ℕ) → has v (with_node x xs) ≡ true → (has v xs ≡ true) ⊎ (x ≡ v)
-from_with x v xs h = by (has x xs) h
-  where
-    by : (t : Bool) → has v (cond t xs (xs ++ x ∷ [])) ≡ true → (has v xs ≡ true) ⊎ (x ≡ v)
-    by true k = inl k
-    by false k = from_last x v xs k
 
 module _ (c : Cluster) (me start nth : ℕ) (g : GroupId) (member : is_voter c me ≡ true) (request : ReadRequest) (began : ℕ) (visited : List GroupId) (entering : Option Enter) (noted : Option Epoch) (h : Meanings)
     (shows : ShowsRows (setting c h me) request) where
@@ -323,9 +260,6 @@ module _ (c : Cluster) (me start nth : ℕ) (g : GroupId) (member : is_voter c m
   helped_by nodes base more (Catching through search) stock = helped nodes base more through stock
 
   -- ---- what a message leaves of what the read waits for
-
-  clash : (a b : ℕ) → a ≡ b → (a == b) ≡ false → ⊥
-  clash a b e apart = let same = sym (ap (λ x. x == b) e ∙ number_self b) ∙ apart in cc
 
   module _ (now : Standing) (nodes : ℕ → Node) (tape : List Item) (logs : LogsOn c me start nth g now.node nodes) where
     where_ready : (v : ℕ) → ((x : Message) → IsAwaited now.tape x → (x ≡ where_to c me start nth g v) ⊎ IsAwaited tape x) → TopAwaited c me start nth g tape v

@@ -53,7 +53,7 @@ use Rattle.mega_leased_laws.specs.of_run_laws.of_tape_laws.of_promises.Messages.
 use Rattle.mega_leased_laws.specs.of_run_laws.of_tape_laws.of_promises.Promises.{Stands, first_decided, log_from, log_of, then_more}
 use Rattle.mega_leased_laws.specs.of_run_laws.of_tape_laws.of_promises.Runs.{CutByData, CutByLog, Cuts, Fate, Fuse, Happening, Standing, Whole, after_event, breaks, calls_of, delivered, drained, fate_by, fated, fated_start, goes_on, handed, marked, met_in, new_fuse, nothing_yet, opening, receiver_down, refusal, replies_in, set_at, setting, start_calls, unless_none, unless_refused as unless_refused_event, up, whole_step, with_item, with_items}
 use Rattle.mega_leased_laws.specs.of_run_laws.Usages.{Brought, Fits as FitsUsage}
-use Rattle.mega_leased_laws.specs.of_run_laws.Justified.{sent}
+use Rattle.mega_leased_laws.specs.of_run_laws.Justified.{Each, sent}
 use Rattle.mega_leased_laws.proofs.of_run_laws.Runs.{begin_good, both_true, crashes_good, fated_start_good, found, handed_good, marked_good, not_because, not_false, nothing_good, run_written, tick_good}
 use Rattle.mega_leased_laws.proofs.of_run_laws.Standing.{Good}
 use Rattle.mega_leased_laws.proofs.of_run_laws.Steps.{begun_next, stands_sent}
@@ -75,7 +75,9 @@ use Rattle.mega_leased_laws.proofs.of_run_laws.of_tape_laws.Logs.{first_stands}
 use Rattle.mega_leased_laws.proofs.of_run_laws.of_tape_laws.Origins.{Origin, origin}
 use Rattle.mega_calm_laws.specs.Ready.{HasLeader, leader_behind}
 use Rattle.mega_calm_laws.proofs.Beginning.{full_votes}
-use Rattle.mega_calm_laws.proofs.Mail.{Among, Each, IsPlain, each_both, notes_are_plain, number_is, some_is}
+use Rattle.mega_leased_laws.proofs.of_run_laws.Shown.{IsPlain, notes_plain}
+use Rattle.mega_leased_laws.proofs.of_run_laws.Events.{each_append as each_both}
+use Rattle.mega_calm_laws.proofs.Mail.{Among, number_is, some_is}
 use Rattle.mega_calm_laws.proofs.Polls.{among_voters, voter_of}
 use Rattle.mega_calm_laws.proofs.Standings.{anybody, run_good}
 use Rattle.mega_calm_laws.proofs.Stocking.{majority_voter, place}
@@ -405,7 +407,7 @@ module _ (c : Cluster) where
       by x there other q true same =
           moves_items c (set_at now.node me (made_at now h me event).node) (((item ∷ []) ++ flat_map (shown me) (made_at now h me event).notes) ++ numbered (sent_count now.tape + 1) (made_at now h me event).sends) now.tape x q
           (each_both IsSilent ((item ∷ []) ++ flat_map (shown me) (made_at now h me event).notes) (numbered (sent_count now.tape + 1) (made_at now h me event).sends)
-          (own_silent now h me item event own_is, plains_silent (flat_map (shown me) (made_at now h me event).notes) (notes_are_plain me (made_at now h me event).notes))
+          (own_silent now h me item event own_is, plains_silent (flat_map (shown me) (made_at now h me event).notes) (notes_plain me (made_at now h me event).notes))
           (numbered_silent (sent_count now.tape + 1) (made_at now h me event).sends (quiet (ap (is_node c) (number_is me x.node.0 same) ∙ there) (ap (is_full c) (number_is me x.node.0 same) ∙ other)).sends))
           ∙ r.unmoved x there other q
 
@@ -463,7 +465,7 @@ module _ (c : Cluster) where
     fated_start_good anybody c h now me Whole i.0,
     record {
       none_open = set_none now.node me first (i.1).none_open (λ there other. refl);
-      unmoved = λ x there other q. moves_items c (set_at now.node me first) (flat_map (shown me) items) now.tape x q (plains_silent (flat_map (shown me) items) (notes_are_plain me items)) ∙ (i.1).unmoved x there other q;
+      unmoved = λ x there other q. moves_items c (set_at now.node me first) (flat_map (shown me) items) now.tape x q (plains_silent (flat_map (shown me) items) (notes_plain me items)) ∙ (i.1).unmoved x there other q;
     },
   )
     where

@@ -7,6 +7,8 @@ pub mod Stepping
 pub mod Polls
 pub mod Taking
 pub mod Alone
+pub mod Heard
+pub mod MessageKinds
 pub mod Delivering
 pub mod Beginning
 pub mod Numbering

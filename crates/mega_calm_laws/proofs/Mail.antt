@@ -10,23 +10,17 @@ use Rattle.mega_wire.specs.declared.message.Message.{Message}
 use Rattle.mega_leased_laws.specs.of_run_laws.of_tape_laws.of_promises.of_transcript.declared.item.Item.{Item}
 use Rattle.mega_leased_laws.specs.of_run_laws.of_tape_laws.of_promises.of_transcript.declared.item.Item.TheVariants.{Answer as AnswerItem, Decide, Dropped, Sent, Taken, Unsafe}
 use Rattle.mega_leased_laws.specs.of_run_laws.of_tape_laws.of_promises.of_transcript.Tape.{is_taken, sent_count}
-use Rattle.mega_leased_laws.specs.of_run_laws.of_tape_laws.of_promises.of_rules.Met.{Met, Starts, Crashes, Ticks, Begins, Takes, Sends, Unsends, Grants, Lapses, Counts, Forgets, Serves, Loses, Validates, Invalidates, Decides, Applies, Answers}
+use Rattle.mega_leased_laws.specs.of_run_laws.of_tape_laws.of_promises.of_rules.Met.{Met, Crashes, Decides, Answers}
 use Rattle.mega_leased_laws.specs.of_run_laws.of_tape_laws.of_promises.of_rules.Operations.{Node}
 use Rattle.mega_leased_laws.specs.of_run_laws.of_tape_laws.of_promises.Items.{number, numbered, shown}
 use Rattle.mega_leased_laws.specs.of_run_laws.of_tape_laws.of_promises.Messages.{is_dropped, is_unsafe, message_of}
 use Rattle.mega_leased_laws.specs.of_run_laws.of_tape_laws.of_promises.Promises.{Stands}
 use Rattle.mega_leased_laws.specs.of_run_laws.of_tape_laws.of_promises.Runs.{breaks, with_item, with_items}
+use Rattle.mega_leased_laws.specs.of_run_laws.Justified.{Each}
+use Rattle.mega_leased_laws.proofs.of_run_laws.Shown.{IsPlain, notes_plain, shown_plain}
 use Rattle.mega_calm_laws.specs.Waiting.{IsAwaited, IsNumbered, Waits}
 
 -- ---- lists
-
-abbrev pub Each : {X : Type 0} → (X → Type 0) → List X → Type 0
-Each P [] = Unit {0}
-Each P (x ∷ xs) = P x × Each P xs
-
-pub each_both : {X : Type 0} (P : X → Type 0) (xs ys : List X) → Each P xs → Each P ys → Each P (xs ++ ys)
-each_both P [] ys h k = k
-each_both P (x ∷ xs) ys h k = (h.0, each_both P xs ys h.1 k)
 
 abbrev pub Among : {X : Type 0} → X → List X → Type 0
 Among x [] = ⊥
@@ -106,12 +100,6 @@ mailed_then old mid new gone xs ys a b = record {
 
 -- ---- items that are no message
 
-abbrev pub IsPlain : Item → Type 0
-IsPlain (Taken k) = ⊥
-IsPlain (Dropped k) = ⊥
-IsPlain (Sent k m) = ⊥
-IsPlain _ = Unit {0}
-
 record SameMail (old new : List Item) : Type 0 where
   message : (k : ℕ) → message_of new k ≡ message_of old k
   taken : (k : ℕ) → is_taken new k ≡ is_taken old k
@@ -148,30 +136,6 @@ same_items : (c : Cluster) (nodes : ℕ → Node) (items tape : List Item) → E
 same_items c nodes [] tape h = same_mail tape
 same_items c nodes (item ∷ items) tape h =
     same_then tape (with_item c nodes tape item) (with_items c nodes (with_item c nodes tape item) items) (same_with c nodes item tape h.0) (same_items c nodes items (with_item c nodes tape item) h.1)
-
-shown_plain : (me : ℕ) (one : Met) → Each IsPlain (shown me one)
-shown_plain me (Starts start) = (tt, tt)
-shown_plain me Crashes = (tt, tt)
-shown_plain me (Ticks now) = (tt, tt)
-shown_plain me (Begins op text) = (tt, tt)
-shown_plain me (Takes message) = tt
-shown_plain me (Sends message) = tt
-shown_plain me (Unsends message) = (tt, tt)
-shown_plain me (Grants node epoch) = (tt, tt)
-shown_plain me (Lapses node epoch) = (tt, tt)
-shown_plain me (Counts cell epoch) = (tt, tt)
-shown_plain me (Forgets cell epoch) = (tt, tt)
-shown_plain me (Serves epoch) = (tt, tt)
-shown_plain me (Loses epoch) = (tt, tt)
-shown_plain me (Validates group position) = (tt, tt)
-shown_plain me (Invalidates group position) = (tt, tt)
-shown_plain me (Decides group position entry) = (tt, tt)
-shown_plain me (Applies group position) = (tt, tt)
-shown_plain me (Answers op answer) = (tt, tt)
-
-notes_plain : (me : ℕ) (notes : List Met) → Each IsPlain (flat_map (shown me) notes)
-notes_plain me [] = tt
-notes_plain me (one ∷ notes) = each_both IsPlain (shown me one) (flat_map (shown me) notes) (shown_plain me one) (notes_plain me notes)
 
 waits_same : (old new : List Item) → SameMail old new → (k : ℕ) (m : Message) → Waits old k m → Waits new k m
 waits_same old new s k m w = record {
@@ -347,9 +311,6 @@ numbered_plain item tape h n = numbered_same tape (item ∷ tape) (same_item ite
 
 pub numbered_items : (c : Cluster) (nodes : ℕ → Node) (items tape : List Item) → Each IsPlain items → IsNumbered tape → IsNumbered (with_items c nodes tape items)
 numbered_items c nodes items tape h n = numbered_same tape (with_items c nodes tape items) (same_items c nodes items tape h) n
-
-pub notes_are_plain : (me : ℕ) (notes : List Met) → Each IsPlain (flat_map (shown me) notes)
-notes_are_plain me notes = notes_plain me notes
 
 pub numbered_taken : (j : ℕ) (tape : List Item) → j ≤ sent_count tape → IsNumbered tape → IsNumbered (Taken j ∷ tape)
 numbered_taken j tape le n = record {

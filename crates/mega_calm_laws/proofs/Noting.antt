@@ -14,7 +14,9 @@ use Rattle.mega_leased_laws.specs.of_run_laws.of_tape_laws.of_promises.of_rules.
 use Rattle.mega_leased_laws.specs.of_run_laws.of_tape_laws.of_promises.of_rules.Members.{has_rows}
 use Rattle.mega_leased_laws.specs.of_run_laws.of_tape_laws.of_promises.of_rules.Operations.{Setting}
 use Rattle.mega_leased_laws.specs.of_run_laws.of_tape_laws.of_promises.of_rules.Steps.{Decision, applied_at, apply_note, apply_notes, decision_note, if_new, onto}
-use Rattle.mega_calm_laws.proofs.Mail.{Each, each_both, number_is, number_self}
+use Rattle.mega_leased_laws.specs.of_run_laws.Justified.{Each}
+use Rattle.mega_leased_laws.proofs.of_run_laws.Events.{each_append as each_both}
+use Rattle.mega_calm_laws.proofs.Mail.{number_is, number_self}
 
 -- ---- notes that leave all as it was
 

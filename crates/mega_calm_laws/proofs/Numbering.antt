@@ -18,7 +18,8 @@ use Rattle.mega_leased_laws.specs.of_run_laws.of_tape_laws.of_promises.Items.{nu
 use Rattle.mega_leased_laws.specs.of_run_laws.of_tape_laws.of_promises.Messages.{message_of, next_delivery}
 use Rattle.mega_leased_laws.specs.of_run_laws.of_tape_laws.of_promises.Runs.{Calls, Cuts, CutByData, CutByLog, Fate, Happening, Standing, Whole, after_event, at_node, because, calls_of, delivered, drained, fate_by, fated, fated_start, goes_on, handed, marked, met_in, nothing_yet, opening, refusal, replies_in, set_at, setting, start_calls, unless_none, unless_refused, up, with_item}
 use Rattle.mega_calm_laws.specs.Waiting.{IsNumbered}
-use Rattle.mega_calm_laws.proofs.Mail.{none_numbered, notes_are_plain, numbered_cut, numbered_dropped, numbered_items, numbered_plain, numbered_step, numbered_taken}
+use Rattle.mega_leased_laws.proofs.of_run_laws.Shown.{notes_plain}
+use Rattle.mega_calm_laws.proofs.Mail.{none_numbered, numbered_cut, numbered_dropped, numbered_items, numbered_plain, numbered_step, numbered_taken}
 use Rattle.mega_calm_laws.proofs.Draining.{next_waits}
 
 abbrev pub IsNumberedAt : Standing → Type 0
@@ -78,7 +79,7 @@ module _ (c : Cluster) where
 
   started_numbered : (h : Meanings) (now : Standing) (me : ℕ) (fate : Fate) → IsNumberedAt now → IsNumberedAt (fated_start c h now me fate)
   started_numbered h now me Whole n = numbered_items c (set_at now.node me (start (setting c h me) (now.starts me + 1) (now.owed me) (now.node me).met)) (flat_map (shown me) (start_items (setting c h me) (now.starts me + 1) (now.owed me) (now.node me).met)) now.tape
-      (notes_are_plain me (start_items (setting c h me) (now.starts me + 1) (now.owed me) (now.node me).met)) n
+      (notes_plain me (start_items (setting c h me) (now.starts me + 1) (now.owed me) (now.node me).met)) n
   started_numbered h now me (CutByLog left) n = numbered_plain (Crash (number me)) now.tape tt n
   started_numbered h now me (CutByData left) n = numbered_plain (Crash (number me)) now.tape tt n
 

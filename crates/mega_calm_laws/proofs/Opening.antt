@@ -19,7 +19,7 @@ use Rattle.mega_leased_laws.specs.of_run_laws.of_tape_laws.of_promises.Promises.
 use Rattle.mega_leased_laws.specs.of_run_laws.of_tape_laws.of_promises.Runs.{by_fuse}
 use Rattle.mega_leased_laws.specs.of_run_laws.Justified.{Each}
 use Rattle.mega_calm_laws.specs.Examples.{opened, put_user}
-use Rattle.mega_calm_laws.proofs.Mail.{IsPlain}
+use Rattle.mega_leased_laws.proofs.of_run_laws.Shown.{IsPlain}
 use Rattle.mega_calm_laws.proofs.Polls.{voter_is_node}
 
 most : (k : ℕ) → nat_le (suc (suc (suc (suc k)))) 3 ≡ true → ⊥

@@ -24,7 +24,8 @@ use Rattle.mega_leased_laws.specs.of_run_laws.of_tape_laws.of_promises.of_rules.
 use Rattle.mega_leased_laws.specs.of_run_laws.of_tape_laws.of_promises.of_rules.Voting.{acts as acts_met, vote_body}
 use Rattle.mega_leased_laws.specs.of_run_laws.of_tape_laws.of_promises.Runs.{Standing, set_at, setting, whole_step}
 use Rattle.mega_calm_laws.specs.Waiting.{IsNumbered, Waits}
-use Rattle.mega_calm_laws.proofs.Mail.{apart_turned, Each, Mailed, each_of, mailed_step, mailed_taken}
+use Rattle.mega_leased_laws.specs.of_run_laws.Justified.{Each}
+use Rattle.mega_calm_laws.proofs.Mail.{apart_turned, Mailed, each_of, mailed_step, mailed_taken}
 use Rattle.mega_calm_laws.proofs.Draining.{IsUnfused, unfused_after}
 use Rattle.mega_calm_laws.proofs.Noting.{onto_append}
 use Rattle.mega_calm_laws.proofs.Reading.{append_none}

@@ -41,12 +41,15 @@ use Rattle.mega_leased_laws.specs.of_run_laws.of_tape_laws.of_promises.Messages.
 use Rattle.mega_leased_laws.specs.of_run_laws.of_tape_laws.of_promises.Promises.{Stands}
 use Rattle.mega_leased_laws.specs.of_run_laws.of_tape_laws.of_promises.Runs.{Cuts, Standing, drained, set_at, setting, whole_step}
 use Rattle.mega_calm_laws.specs.Waiting.{IsAwaited, IsNumbered, Waits}
-use Rattle.mega_calm_laws.proofs.Mail.{Among, Each, Mailed, among_left, among_right, answer_stands, apart_turned, decision_stands, each_both, each_of, mailed_step, mailed_taken, number_is, number_self, some_is}
+use Rattle.mega_leased_laws.specs.of_run_laws.Justified.{Each}
+use Rattle.mega_leased_laws.proofs.of_run_laws.Events.{each_append as each_both}
+use Rattle.mega_calm_laws.proofs.Mail.{Among, Mailed, among_left, among_right, answer_stands, apart_turned, decision_stands, each_of, mailed_step, mailed_taken, number_is, number_self, some_is}
 use Rattle.mega_calm_laws.proofs.Draining.{Ends, IsUnfused, drain_ends, none_waits, unfused_after}
 use Rattle.mega_calm_laws.proofs.Polls.{all_heard, among_others, among_voters, from_filter, has_voter, node_among, other_voter, voter_is_node, voter_of}
 use Rattle.mega_calm_laws.proofs.Reading.{append_none}
 use Rattle.mega_calm_laws.proofs.Stepping.{IsAsking, heard_by, message, takes_asking, takes_have, told_asking}
-use Rattle.mega_calm_laws.proofs.Delivering.{among_map, each_map, has_both, has_last}
+use Rattle.mega_calm_laws.proofs.Heard.{among_map, each_map, has_both, has_last}
+use Rattle.mega_calm_laws.proofs.MessageKinds.{clash}
 use Rattle.mega_calm_laws.proofs.Voting.{Clean, IsBland, IsNoAct, NodeOn, bland_onto, bland_sends, clean_accepts, decides_elsewhere, node_same, node_then, sends_leave, vote_made}
 use Rattle.mega_calm_laws.proofs.Over.{IsTame, Over, Tame, acted, base, begins, met_is, noted, noted_on, over_on, over_takes, stepped}
 use Rattle.mega_calm_laws.proofs.Alone.{op_at}
@@ -404,9 +407,6 @@ module _ (c : Cluster) (me start nth : ℕ) (g : GroupId) (n : ℕ) (own : Conte
 
   abbrev kind_of_message : Message → ℕ
   kind_of_message x = kind x.body
-
-  clash : (a b : ℕ) → a ≡ b → (a == b) ≡ false → ⊥
-  clash a b e apart = let same = sym (ap (λ x. x == b) e ∙ number_self b) ∙ apart in cc
 
   -- what the operation waits for, on, where its round stays
   at_on : (now : Standing) (a : Alone now) (j : ℕ) (m : Message) (w : Waits now.tape j m) (v : ℕ) (here : is_node c v ≡ true) (made : Step)

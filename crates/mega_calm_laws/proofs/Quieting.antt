@@ -23,11 +23,11 @@ use Rattle.mega_leased_laws.specs.of_run_laws.of_tape_laws.of_promises.Calm.{IsC
 use Rattle.mega_leased_laws.specs.of_run_laws.of_tape_laws.of_promises.Items.{shown}
 use Rattle.mega_leased_laws.specs.of_run_laws.of_tape_laws.of_promises.Messages.{is_dropped, message_of}
 use Rattle.mega_leased_laws.specs.of_run_laws.of_tape_laws.of_promises.Runs.{Cuts, Standing, Whole, drained, set_at, setting, whole_step}
-use Rattle.mega_leased_laws.specs.of_run_laws.Justified.{Each as EachSo}
-use Rattle.mega_leased_laws.proofs.of_run_laws.Events.{IsPlain, apply_plain, told_plain}
+use Rattle.mega_leased_laws.specs.of_run_laws.Justified.{Each}
+use Rattle.mega_leased_laws.proofs.of_run_laws.Events.{IsPlain, apply_plain, each_append as each_both, told_plain}
 use Rattle.mega_leased_laws.proofs.of_run_laws.Noting.{Lasts, all_act_it, begun_it}
 use Rattle.mega_calm_laws.specs.Waiting.{IsNumbered, Waits}
-use Rattle.mega_calm_laws.proofs.Mail.{Each, each_both, mailed_taken, numbered_plain, numbered_step}
+use Rattle.mega_calm_laws.proofs.Mail.{mailed_taken, numbered_plain, numbered_step}
 use Rattle.mega_calm_laws.proofs.Draining.{Ends, IsUnfused, at_node_whole, drain_ends, none_waits, unfused_after}
 use Rattle.mega_calm_laws.proofs.Within.{StaysIn, fated_in}
 
@@ -56,7 +56,7 @@ plain_up (Starts start) h = absurd h
 plain_up Crashes h = absurd h
 plain_up _ h = tt
 
-each_up : (notes : List Met) → EachSo IsPlain notes → Each IsUpKept notes
+each_up : (notes : List Met) → Each IsPlain notes → Each IsUpKept notes
 each_up [] h = tt
 each_up (one ∷ notes) h = (plain_up one h.0, each_up notes h.1)
 

@@ -38,8 +38,11 @@ use Rattle.mega_leased_laws.specs.of_run_laws.of_tape_laws.of_promises.Runs.{Sta
 use Rattle.mega_calm_laws.specs.Ready.{leader_behind}
 use Rattle.mega_calm_laws.specs.Waiting.{IsAwaited, IsNumbered, Waits}
 use Rattle.mega_calm_laws.proofs.Alone.{Held, TopAwaited, fetch_at, have_from, have_not_from, op, top_from, where_to}
-use Rattle.mega_calm_laws.proofs.Delivering.{among_map, each_map}
-use Rattle.mega_calm_laws.proofs.Mail.{Among, Each, Mailed, among_left, among_parts, among_right, apart_below, each_both, each_of, mailed_step, mailed_taken, number_is, number_self, some_is}
+use Rattle.mega_calm_laws.proofs.Heard.{among_map, each_map, from_last, from_with, has_both, has_last, is_first}
+use Rattle.mega_calm_laws.proofs.MessageKinds.{clash, kind_of_message, place_in}
+use Rattle.mega_leased_laws.specs.of_run_laws.Justified.{Each}
+use Rattle.mega_leased_laws.proofs.of_run_laws.Events.{each_append as each_both}
+use Rattle.mega_calm_laws.proofs.Mail.{Among, Mailed, among_left, among_parts, among_right, apart_below, each_of, mailed_step, mailed_taken, number_is, number_self, some_is}
 use Rattle.mega_calm_laws.proofs.Majorities.{IsDistinct, among_has, distinct_last, majorities_meet}
 use Rattle.mega_calm_laws.proofs.Noting.{HasEntry, decision_has, still_one}
 use Rattle.mega_calm_laws.proofs.Draining.{IsUnfused, unfused_after}
@@ -60,49 +63,6 @@ less_is a b h = grind (arith, nat_tests)
 
 le_is : (a b : ℕ) → nat_le a b ≡ true → a ≤ b
 le_is a b h = grind (arith, nat_tests)
-
-is_first : (xs : List ℕ) (x : ℕ) → Among x xs → (first : ℕ) × (more : List ℕ) × (xs ≡ first ∷ more)
-is_first [] x i = absurd i
-is_first (y ∷ ys) x i = (y, ys, refl)
-
-clash : (a b : ℕ) → a ≡ b → (a == b) ≡ false → ⊥
-clash a b e apart = let same = sym (ap (λ x. x == b) e ∙ number_self b) ∙ apart in cc
-
--- one more is in a list, or it was there
-from_last : (x v : ℕ) (xs : List ℕ) → has v (xs ++ x ∷ []) ≡ true → (has v xs ≡ true) ⊎ (x ≡ v)
-from_last x v [] h = by (x == v) refl h
-  where
-    by : (t : Bool) → (x == v) ≡ t → (t || false) ≡ true → (has v [] ≡ true) ⊎ (x ≡ v)
-    by true e k = inr (number_is x v e)
-    by false e k = cc
-from_last x v (y ∷ ys) h = by (y == v) h (from_last x v ys)
-  where
-    by : (t : Bool) → (t || has v (ys ++ x ∷ [])) ≡ true → (has v (ys ++ x ∷ []) ≡ true → (has v ys ≡ true) ⊎ (x ≡ v)) → ((t || has v ys) ≡ true) ⊎ (x ≡ v)
-    by true k again = inl refl
-    by false k again = again k
-
-from_with : (x v : ℕ) (xs : List ℕ) → has v (with_node x xs) ≡ true → (has v xs ≡ true) ⊎ (x ≡ v)
-from_with x v xs h = by (has x xs) h
-  where
-    by : (t : Bool) → has v (cond t xs (xs ++ x ∷ [])) ≡ true → (has v xs ≡ true) ⊎ (x ≡ v)
-    by true k = inl k
-    by false k = from_last x v xs k
-
-has_both : (x v : ℕ) (xs : List ℕ) → has v xs ≡ true → has v (xs ++ x ∷ []) ≡ true
-has_both x v [] h = cc
-has_both x v (y ∷ ys) h = by (y == v) h (has_both x v ys)
-  where
-    by : (t : Bool) → (t || has v ys) ≡ true → (has v ys ≡ true → has v (ys ++ x ∷ []) ≡ true) → (t || has v (ys ++ x ∷ [])) ≡ true
-    by true k again = refl
-    by false k again = again k
-
-has_last : (v : ℕ) (xs : List ℕ) → has v (xs ++ v ∷ []) ≡ true
-has_last v [] = ap (λ t. t || false) (number_self v)
-has_last v (y ∷ ys) = by (y == v) (has_last v ys)
-  where
-    by : (t : Bool) → has v (ys ++ v ∷ []) ≡ true → (t || has v (ys ++ v ∷ [])) ≡ true
-    by true h = refl
-    by false h = h
 
 last_length : (v : ℕ) (xs : List ℕ) → length (xs ++ v ∷ []) ≡ length xs + 1
 last_length v [] = refl
@@ -126,25 +86,6 @@ both_ways a b one other = omega (arith, one, other)
 both_true : (a b : Bool) → (a && b) ≡ true → (a ≡ true) × (b ≡ true)
 both_true true b h = (refl, h)
 both_true false b h = cc
-
-abbrev kind : Message → ℕ
-kind m = by m.body
-  where
-    by : Body → ℕ
-    by (Where o g) = 1
-    by (Top o g n) = 2
-    by (Fetch o g n) = 3
-    by (Have o g n e) = 4
-    by (HaveNot o g n) = 5
-    by _ = 0
-
-abbrev place_in : Message → ℕ
-place_in m = by m.body
-  where
-    by : Body → ℕ
-    by (Fetch o g n) = n.0
-    by (Have o g n e) = n.0
-    by _ = 0
 
 -- at the end of the log it proposes its entry
 abbrev pub FinishesSo : Cluster → ℕ → ℕ → ℕ → GroupId → List Content → Request → Option Enter → ℕ → Option Epoch → Content → Promised → ℕ → Meanings → (Now → Operation → Now) → Now → Option Search → Type 0
@@ -537,35 +478,35 @@ module _ (c : Cluster) (me start nth : ℕ) (g : GroupId) (log : List Content) (
       hooks_where : (v : ℕ) → m ≡ where_to c me start nth g v → TopAwaited c me start nth g tape v → Hooks
       hooks_where v is told = record {
         on_where = λ u voter same. subst (TopAwaited c me start nth g tape) (sym (ap (λ (x : Message). x.to) (same ∙ is))) told;
-        on_top = λ u p same. clash 2 1 (ap kind (same ∙ is)) refl;
-        on_fetch = λ u position e d same. absurd (clash 3 1 (ap kind (same ∙ is)) refl);
-        on_have = λ u position e none same. clash 4 1 (ap kind (same ∙ is)) refl;
+        on_top = λ u p same. clash 2 1 (ap kind_of_message (same ∙ is)) refl;
+        on_fetch = λ u position e d same. absurd (clash 3 1 (ap kind_of_message (same ∙ is)) refl);
+        on_have = λ u position e none same. clash 4 1 (ap kind_of_message (same ∙ is)) refl;
       }
 
       hooks_fetch : (v n : ℕ) → m ≡ fetch_at c me start nth g v n → ((e : Content) → decided (old v).met g n ≡ Some e → IsAwaited tape (have_from c me start nth g v n e)) → Hooks
       hooks_fetch v n is told = record {
-        on_where = λ u voter same. absurd (clash 1 3 (ap kind (same ∙ is)) refl);
-        on_top = λ u p same. clash 2 3 (ap kind (same ∙ is)) refl;
+        on_where = λ u voter same. absurd (clash 1 3 (ap kind_of_message (same ∙ is)) refl);
+        on_top = λ u p same. clash 2 3 (ap kind_of_message (same ∙ is)) refl;
         on_fetch = λ u position e d same.
-            let who_is : u ≡ v = ap (λ (x : Message). x.to) (same ∙ is) in let place_is : position ≡ n = ap place_in (same ∙ is) in
+            let who_is : u ≡ v = ap (λ (x : Message). x.to) (same ∙ is) in let place_is : position ≡ n = ap (λ (x : Message). place_in x.body) (same ∙ is) in
             coe 0 1 (i. IsAwaited tape (have_from c me start nth g (sym who_is i) (sym place_is i) e)) (told e (coe 0 1 (i. decided (old (who_is i)).met g (place_is i) ≡ Some e) d));
-        on_have = λ u position e none same. clash 4 3 (ap kind (same ∙ is)) refl;
+        on_have = λ u position e none same. clash 4 3 (ap kind_of_message (same ∙ is)) refl;
       }
 
       hooks_have : (v n : ℕ) (entry : Content) → m ≡ have_from c me start nth g v n entry → HasEntry (new me).met g n → Hooks
       hooks_have v n entry is has_it = record {
-        on_where = λ u voter same. absurd (clash 1 4 (ap kind (same ∙ is)) refl);
-        on_top = λ u p same. clash 2 4 (ap kind (same ∙ is)) refl;
-        on_fetch = λ u position e d same. absurd (clash 3 4 (ap kind (same ∙ is)) refl);
-        on_have = λ u position e none same. let place_is : position ≡ n = ap place_in (same ∙ is) in let never = sym (subst (λ k. decided (new me).met g k ≡ None) place_is none) ∙ has_it.is in cc;
+        on_where = λ u voter same. absurd (clash 1 4 (ap kind_of_message (same ∙ is)) refl);
+        on_top = λ u p same. clash 2 4 (ap kind_of_message (same ∙ is)) refl;
+        on_fetch = λ u position e d same. absurd (clash 3 4 (ap kind_of_message (same ∙ is)) refl);
+        on_have = λ u position e none same. let place_is : position ≡ n = ap (λ (x : Message). place_in x.body) (same ∙ is) in let never = sym (subst (λ k. decided (new me).met g k ≡ None) place_is none) ∙ has_it.is in cc;
       }
 
       hooks_none : (v n : ℕ) → m ≡ have_not_from c me start nth g v n → Hooks
       hooks_none v n is = record {
-        on_where = λ u voter same. absurd (clash 1 5 (ap kind (same ∙ is)) refl);
-        on_top = λ u p same. clash 2 5 (ap kind (same ∙ is)) refl;
-        on_fetch = λ u position e d same. absurd (clash 3 5 (ap kind (same ∙ is)) refl);
-        on_have = λ u position e none same. clash 4 5 (ap kind (same ∙ is)) refl;
+        on_where = λ u voter same. absurd (clash 1 5 (ap kind_of_message (same ∙ is)) refl);
+        on_top = λ u p same. clash 2 5 (ap kind_of_message (same ∙ is)) refl;
+        on_fetch = λ u position e d same. absurd (clash 3 5 (ap kind_of_message (same ∙ is)) refl);
+        on_have = λ u position e none same. clash 4 5 (ap kind_of_message (same ∙ is)) refl;
       }
 
   -- ---- what it hears
@@ -799,7 +740,7 @@ module _ (c : Cluster) (me start nth : ℕ) (g : GroupId) (log : List Content) (
       hears_as stage is x so = subst (λ one. hears_message (setting c h me) (clock_of (now.node me).met) m (its one) ≡ x) (sym is) so
 
       on_where : (tape : List Item) (u : ℕ) → is_voter c u ≡ true → where_to c me start nth g u ≡ m → TopAwaited c me start nth g tape u
-      on_where tape u uv same = absurd (clash 1 2 (ap kind same) refl)
+      on_where tape u uv same = absurd (clash 1 2 (ap kind_of_message same) refl)
 
       from_v : (u q : ℕ) → top_from c me start nth g u q ≡ m → v ≡ u
       from_v u q same = sym (ap (λ (x : Message). x.from) same)
@@ -854,7 +795,7 @@ module _ (c : Cluster) (me start nth : ℕ) (g : GroupId) (log : List Content) (
           (λ new tape on keeping told. (
             ready_so.0,
             fetch_on now.tape tape m keeping now.node new on position denials denials (λ u there. inl there)
-                (λ u e uv apart d same. absurd (clash 3 2 (ap kind same) refl)) (λ none u e same. clash 4 2 (ap kind same) refl) ((its_sought stage is).undecided) ready_so.1,
+                (λ u e uv apart d same. absurd (clash 3 2 (ap kind_of_message same) refl)) (λ none u e same. clash 4 2 (ap kind_of_message same) refl) ((its_sought stage is).undecided) ready_so.1,
           ))
         where
           stage : Stage
@@ -978,7 +919,7 @@ module _ (c : Cluster) (me start nth : ℕ) (g : GroupId) (log : List Content) (
                   | inl before ↦ inl before
                   | inr same ↦ inr (subst (λ x. ((x == me) ≡ false) × (decided (now.node x).met g position ≡ None)) same (apart, subst (λ q. decided (now.node v).met g q ≡ None) place_is none))
                 ])
-                (λ u e uv other d same. absurd (clash 3 5 (ap kind same) refl)) (λ no u e same. clash 4 5 (ap kind same) refl) sought.undecided ready.1,
+                (λ u e uv other d same. absurd (clash 3 5 (ap kind_of_message same) refl)) (λ no u e same. clash 4 5 (ap kind_of_message same) refl) sought.undecided ready.1,
           ))
         where
           place_is : n ≡ position

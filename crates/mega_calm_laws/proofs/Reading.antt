@@ -25,7 +25,8 @@ use Rattle.mega_leased_laws.specs.of_run_laws.of_tape_laws.of_promises.of_rules.
 use Rattle.mega_leased_laws.specs.of_run_laws.of_tape_laws.of_promises.of_rules.Logs.{groups_of, log_of, prefix_of}
 use Rattle.mega_leased_laws.specs.of_run_laws.of_tape_laws.of_promises.of_rules.Operations.{Now, Operation, Reads, Setting}
 use Rattle.mega_leased_laws.specs.of_run_laws.of_tape_laws.of_promises.of_rules.Acting.{acts, acts_within, completes_read, finishes, goes_on, listed_at, read_answer, reader_of, rows_at, seeks_on, stored_with, validated_by, validates}
-use Rattle.mega_calm_laws.proofs.Mail.{Each, each_both}
+use Rattle.mega_leased_laws.specs.of_run_laws.Justified.{Each}
+use Rattle.mega_leased_laws.proofs.of_run_laws.Events.{each_append as each_both}
 use Rattle.mega_calm_laws.proofs.Noting.{IsStill}
 
 pub append_none : {X : Type 0} (xs : List X) → xs ++ [] ≡ xs

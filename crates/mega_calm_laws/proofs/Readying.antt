@@ -11,7 +11,6 @@ use Rattle.mega_wire.specs.declared.message.Body.TheVariants.{Accepted, Promise}
 use Rattle.mega_wal.specs.Acceptor.{Promised, Voted}
 use Rattle.mega_wal.specs.Same.{same_group}
 use Rattle.mega_leased_laws.specs.of_run_laws.of_tape_laws.of_promises.of_transcript.declared.item.Item.{Item}
-use Rattle.mega_leased_laws.specs.of_run_laws.of_tape_laws.of_promises.of_transcript.declared.item.Item.TheVariants.{Decide}
 use Rattle.mega_leased_laws.specs.of_run_laws.of_tape_laws.of_promises.of_rules.of_read.of_propose.Members.{is_majority}
 use Rattle.mega_leased_laws.specs.of_run_laws.of_tape_laws.of_promises.of_rules.Coordinators.{valid_at}
 use Rattle.mega_leased_laws.specs.of_run_laws.of_tape_laws.of_promises.of_rules.Logs.{accepted_at, decided, top_of}
@@ -20,7 +19,7 @@ use Rattle.mega_leased_laws.specs.of_run_laws.of_tape_laws.of_promises.of_rules.
 use Rattle.mega_leased_laws.specs.of_run_laws.of_tape_laws.of_promises.of_rules.Voting.{act_if, act_in, acts as acts_met}
 use Rattle.mega_leased_laws.specs.of_run_laws.of_tape_laws.of_promises.Calm.{IsCalmAt}
 use Rattle.mega_leased_laws.specs.of_run_laws.of_tape_laws.of_promises.Items.{number}
-use Rattle.mega_leased_laws.specs.of_run_laws.of_tape_laws.of_promises.Promises.{first_decided, log_from, log_of, or_else, then_more}
+use Rattle.mega_leased_laws.specs.of_run_laws.of_tape_laws.of_promises.Promises.{first_decided, log_from, log_of, then_more}
 use Rattle.mega_leased_laws.specs.of_run_laws.of_tape_laws.of_promises.Runs.{Cuts, Happening, Standing}
 use Rattle.mega_leased_laws.specs.of_run_laws.Usages.{Fits}
 use Rattle.mega_leased_laws.proofs.of_run_laws.Standing.{Good}
@@ -28,8 +27,10 @@ use Rattle.mega_leased_laws.specs.of_run_laws.of_tape_laws.Chosen.{Chosen}
 use Rattle.mega_leased_laws.specs.of_run_laws.of_tape_laws.Places.{In, count}
 use Rattle.mega_leased_laws.specs.of_run_laws.of_tape_laws.Writes.{Usage}
 use Rattle.mega_leased_laws.proofs.of_run_laws.of_tape_laws.Agreement.{decided_chosen}
+use Rattle.mega_leased_laws.proofs.of_run_laws.of_tape_laws.Complete.{is_decided, is_there, most_decided}
 use Rattle.mega_leased_laws.proofs.of_run_laws.of_tape_laws.Lists.{from_cons}
 use Rattle.mega_leased_laws.proofs.of_run_laws.of_tape_laws.Logs.{Decided, first_stands, shown_first}
+use Rattle.mega_leased_laws.proofs.of_run_laws.of_tape_laws.Totals.{all_pass}
 use Rattle.mega_leased_laws.proofs.Tops.{run_fresh}
 use Rattle.mega_calm_laws.specs.Next.{run_of}
 use Rattle.mega_calm_laws.specs.Ready.{IsReady, knows_end, leader_behind}
@@ -39,50 +40,11 @@ use Rattle.mega_calm_laws.proofs.Beginning.{full_node, full_votes}
 use Rattle.mega_calm_laws.proofs.Freeing.{IsFree, run_free}
 use Rattle.mega_calm_laws.proofs.Noting.{below_top}
 use Rattle.mega_calm_laws.proofs.Polls.{among_voters, voter_of}
-use Rattle.mega_calm_laws.proofs.Prefixes.{all_pass, none_pass, one_more, total}
 use Rattle.mega_calm_laws.proofs.Standings.{anybody, run_good}
 use Rattle.mega_calm_laws.proofs.Stocking.{majority_voter, place, run_stocked}
 use Rattle.mega_calm_laws.proofs.Wholes.{Shows, log_shows}
 
 -- ---- a log is as long as its positions are decided
-
-abbrev is_there : Option Content → Bool
-is_there None = false
-is_there (Some e) = true
-
-abbrev is_shown : List Item → GroupId → ℕ → Bool
-is_shown tape g k = is_there (first_decided tape g k)
-
-record OneMore (item : Item) (before : List Item) (g : GroupId) : Type 0 where
-  position : ℕ
-  only : (k : ℕ) → is_shown (item ∷ before) g k ≡ true → (is_shown before g k ≡ true) ⊎ (position ≡ k)
-
-shows_one : (item : Item) (before : List Item) (g : GroupId) → OneMore item before g
-shows_one (Decide i k m x) before g = record { position = m.0; only = λ n h. go n (first_decided before g n) refl h }
-  where
-    by : (n : ℕ) (s t : Bool) → (t ≡ true → m.0 ≡ n) → is_there (cond (s && t) (Some x) None) ≡ true → m.0 ≡ n
-    by n true true same h = same refl
-    by n true false same h = cc
-    by n false t same h = cc
-
-    go : (n : ℕ) (o : Option Content) → first_decided before g n ≡ o → is_there (or_else o (cond (same_group k g && m.0 == n) (Some x) None)) ≡ true → (is_there (first_decided before g n) ≡ true) ⊎ (m.0 ≡ n)
-    go n (Some d) is h = inl (ap is_there is)
-    go n None is h = inr (by n (same_group k g) (m.0 == n) (number_is m.0 n) h)
-shows_one _ before g = record { position = 0; only = λ k h. inl h }
-
-most_shown : (tape : List Item) (g : GroupId) (from most : ℕ) → total (is_shown tape g) from most ≤ length tape
-most_shown [] g from most = go
-  where
-    none : (k : ℕ) → is_shown [] g k ≡ false
-    none k = refl
-
-    go : total (is_shown [] g) from most ≤ 0
-    go = let h = none_pass (is_shown [] g) from most none in omega arith
-most_shown (item ∷ before) g from most =
-    let one = shows_one item before g in
-    let h = one_more (is_shown before g) (is_shown (item ∷ before) g) one.position one.only from most in
-    let rest = most_shown before g from most in
-    omega arith
 
 -- the log goes as far as all is decided
 log_reaches : (tape : List Item) (g : GroupId) (most n t : ℕ) → t ≤ most → ((k : ℕ) → k < t → Shows tape g (n + k)) → t ≤ length (log_from tape g most n)
@@ -263,8 +225,8 @@ module _ (c : Cluster) (usage : Usage) (cuts : Cuts) (first : Meanings) (events 
     where
       enough : t ≤ length now.tape
       enough =
-          let all = all_pass (is_shown now.tape g) 1 t (λ k less. ap is_there (known_shows (1 + k) (known (1 + k) (omega arith) (omega (arith, less)))).is) in
-          let bound = most_shown now.tape g 1 t in
+          let all = all_pass (is_decided now.tape g) 1 t (λ k less. ap is_there (known_shows (1 + k) (known (1 + k) (omega arith) (omega (arith, less)))).is) in
+          let bound = most_decided now.tape g 1 t in
           omega (arith, all, bound)
 
   abbrev most_top : ℕ

@@ -26,7 +26,8 @@ use Rattle.mega_leased_laws.specs.of_run_laws.of_tape_laws.of_promises.of_rules.
 use Rattle.mega_leased_laws.specs.of_run_laws.of_tape_laws.of_promises.of_rules.Logs.{decided, decided_from, groups_of, log_of, prefix_of, then_more}
 use Rattle.mega_leased_laws.specs.of_run_laws.of_tape_laws.of_promises.of_rules.Met.{Met, Validates}
 use Rattle.mega_leased_laws.specs.of_run_laws.of_tape_laws.of_promises.of_rules.Operations.{Now, Operation, Promised, Proposes, Reads, Setting}
-use Rattle.mega_calm_laws.proofs.Mail.{Each, each_both}
+use Rattle.mega_leased_laws.specs.of_run_laws.Justified.{Each}
+use Rattle.mega_leased_laws.proofs.of_run_laws.Events.{each_append as each_both}
 use Rattle.mega_calm_laws.proofs.Noting.{IsStill}
 use Rattle.mega_calm_laws.proofs.Reading.{HasHelper, append_none}
 use Rattle.mega_calm_laws.proofs.Voting.{IsBland}

@@ -23,7 +23,9 @@ use Rattle.mega_leased_laws.specs.of_run_laws.of_tape_laws.of_promises.of_rules.
 use Rattle.mega_leased_laws.specs.of_run_laws.of_tape_laws.of_promises.of_rules.Acting.{sends_more}
 use Rattle.mega_leased_laws.specs.of_run_laws.of_tape_laws.of_promises.of_rules.Replies.{reply_to}
 use Rattle.mega_leased_laws.specs.of_run_laws.of_tape_laws.of_promises.of_rules.Steps.{Decision, Heard, Step, decision_note, first_settled, hears_message, if_new, onto, take_step, taken}
-use Rattle.mega_calm_laws.proofs.Mail.{Among, Each, each_both}
+use Rattle.mega_leased_laws.specs.of_run_laws.Justified.{Each}
+use Rattle.mega_leased_laws.proofs.of_run_laws.Events.{each_append as each_both}
+use Rattle.mega_calm_laws.proofs.Mail.{Among}
 use Rattle.mega_calm_laws.proofs.Noting.{IsNoVote, IsStill, SameLogs, logs_then, still_one}
 use Rattle.mega_calm_laws.proofs.Reading.{Helped, IsUnfilled, Outcome, ShowsRows, Stayed, answered, append_none, asks, fetching, goes_on_so, one, waits, who}
 use Rattle.mega_calm_laws.proofs.Stepping.{IsAsking, acted, answer_noted, first, heard_by, logs_are, made, message, sends_are, takes_asking, takes_have}

@@ -22,7 +22,8 @@ use Rattle.mega_leased_laws.specs.of_run_laws.of_tape_laws.of_promises.of_rules.
 use Rattle.mega_leased_laws.specs.of_run_laws.of_tape_laws.of_promises.of_rules.Replies.{reply_to}
 use Rattle.mega_leased_laws.specs.of_run_laws.of_tape_laws.of_promises.of_rules.Steps.{Decision, Heard, Step, decision_note, first_settled, hears_message, if_new, onto, take_step, taken}
 use Rattle.mega_leased_laws.specs.of_run_laws.of_tape_laws.of_promises.of_rules.Voting.{acts as acts_met}
-use Rattle.mega_calm_laws.proofs.Mail.{Each, each_both}
+use Rattle.mega_leased_laws.specs.of_run_laws.Justified.{Each}
+use Rattle.mega_leased_laws.proofs.of_run_laws.Events.{each_append as each_both}
 use Rattle.mega_calm_laws.proofs.Noting.{IsNoVote, IsStill, SameLogs}
 use Rattle.mega_calm_laws.proofs.Over.{met_is, noted, noted_on}
 use Rattle.mega_calm_laws.proofs.Reading.{append_none}

@@ -20,7 +20,8 @@ use Rattle.mega_leased_laws.specs.of_run_laws.of_tape_laws.of_promises.of_rules.
 use Rattle.mega_leased_laws.specs.of_run_laws.of_tape_laws.of_promises.Items.{number, shown}
 use Rattle.mega_leased_laws.specs.of_run_laws.of_tape_laws.of_promises.Messages.{message_of, next_delivery}
 use Rattle.mega_leased_laws.specs.of_run_laws.of_tape_laws.of_promises.Runs.{Calls, Cuts, CutByData, CutByLog, Fate, Happening, Standing, Whole, after_event, at_node, because, calls_of, delivered, drained, fate_by, fated, fated_start, goes_on, handed, is_durable, is_kept, marked, met_in, nothing_yet, opening, owes, refusal, replies_in, set_at, setting, start_calls, unless_none, unless_refused, up, with_item, with_items}
-use Rattle.mega_calm_laws.proofs.Mail.{Among, crash_shown, message_items, message_step, notes_are_plain}
+use Rattle.mega_leased_laws.proofs.of_run_laws.Shown.{notes_plain}
+use Rattle.mega_calm_laws.proofs.Mail.{Among, crash_shown, message_items, message_step}
 
 pub record StaysIn (c : Cluster) (now : Standing) : Type 0 where
   pub nodes : (v : ℕ) → StaysWithin c (now.node v)
@@ -139,7 +140,7 @@ module _ (c : Cluster) (few : c.cells ≤ length c.nodes) where
     nodes = set_in now.node me (start (setting c h me) (now.starts me + 1) (now.owed me) (now.node me).met) stays.nodes (started (setting c h me) (now.starts me + 1) (now.owed me) (now.node me).met (stays.owed me) (stays.nodes me).met);
     owed = set_owed now.owed me [] stays.owed tt;
     messages = λ k m is. stays.messages k m (sym (message_items c (set_at now.node me (start (setting c h me) (now.starts me + 1) (now.owed me) (now.node me).met)) (flat_map (shown me) (start_items (setting c h me) (now.starts me + 1) (now.owed me) (now.node me).met)) now.tape
-        (notes_are_plain me (start_items (setting c h me) (now.starts me + 1) (now.owed me) (now.node me).met)) k) ∙ is);
+        (notes_plain me (start_items (setting c h me) (now.starts me + 1) (now.owed me) (now.node me).met)) k) ∙ is);
   }
   started_in h now me (CutByLog left) stays = record { nodes = crashed_in now me stays; owed = stays.owed; messages = λ k m is. stays.messages k m is }
   started_in h now me (CutByData left) stays = record { nodes = crashed_in now me stays; owed = stays.owed; messages = λ k m is. stays.messages k m is }

@@ -34,7 +34,8 @@ use Rattle.mega_fresh_laws.proofs.Nearby.{before_top}
 use Rattle.mega_fresh_laws.proofs.Enough.{Suffices}
 use Rattle.mega_fresh_laws.proofs.Enough as far
 use Rattle.mega_fresh_laws.proofs.Runs.{Near, run_far}
-use Rattle.mega_fresh_laws.proofs.Steps.{base_of, front_of}
+use Rattle.mega_fresh_laws.proofs.of_leased_laws.Tails.{front_of}
+use Rattle.mega_fresh_laws.proofs.Steps.{base_of}
 use Rattle.mega_fresh_laws.proofs.Through.{begun_before}
 use Rattle.mega_clean_laws.specs.Reaching.{AreTurned, Reaches, IsReachingAnswer, IsReachingItem, IsProposed, IsShown, IsTurned, ReadOver}
 

@@ -27,7 +27,7 @@ use Rattle.mega_leased_laws.specs.of_settled_laws.of_run_laws.of_tape_laws.of_pr
 use Rattle.mega_leased_laws.specs.of_settled_laws.of_run_laws.of_tape_laws.of_promises.of_rules.of_read.declared.reading.Move.{Move as ReadMove}
 use Rattle.mega_leased_laws.specs.of_settled_laws.of_run_laws.of_tape_laws.of_promises.of_rules.of_read.Catching.{asked_by, denied, falls_due, fetch_to, fetches, fills, hears, helpers, is_position, local_read, move, no_op, polled_read, searched, seeks, site, topped, where_to}
 use Rattle.mega_leased_laws.specs.of_settled_laws.of_run_laws.Justified.{Each}
-use Rattle.mega_leased_laws.proofs.of_settled_laws.Tapes.{each_both}
+use Rattle.mega_leased_laws.proofs.of_settled_laws.of_run_laws.Events.{each_append as each_both}
 
 -- a message proposes at ballot zero only this entry, at this site
 abbrev pub ZeroBody : Site → Content → Body → Type 0

@@ -59,11 +59,10 @@ use Rattle.mega_leased_laws.specs.of_settled_laws.of_run_laws.of_tape_laws.Place
 use Rattle.mega_leased_laws.specs.of_settled_laws.of_run_laws.of_tape_laws.Polls.{ArePolls}
 use Rattle.mega_leased_laws.specs.of_settled_laws.of_run_laws.of_tape_laws.Writes.{Usage}
 use Rattle.mega_leased_laws.specs.of_settled_laws.of_run_laws.Justified.{Each}
-use Rattle.mega_leased_laws.proofs.of_settled_laws.of_run_laws.Events.{onto_append}
+use Rattle.mega_leased_laws.proofs.of_settled_laws.of_run_laws.Events.{each_append as each_both, onto_append}
 use Rattle.mega_leased_laws.proofs.of_settled_laws.of_run_laws.Owned.{front_length, knows_front}
 use Rattle.mega_leased_laws.proofs.of_settled_laws.of_run_laws.Prefixes.{prefix_more}
 use Rattle.mega_leased_laws.proofs.of_settled_laws.of_run_laws.Turns.{Known, each_push}
-use Rattle.mega_leased_laws.proofs.of_settled_laws.Tapes.{each_both}
 use Rattle.mega_fresh_laws.proofs.Enough.{Answered, IsFarAnswer, IsProposed, IsShown, ReadOver, Suffices}
 use Rattle.mega_fresh_laws.proofs.Accepts.{Never, NeverBody, polled_never, seeks_never}
 use Rattle.mega_fresh_laws.proofs.Through.{Of, PhaseFar, StageFar, polled_far, seeks_far}

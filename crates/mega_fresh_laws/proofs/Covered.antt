@@ -20,25 +20,22 @@ use Rattle.mega_leased_laws.specs.of_settled_laws.of_run_laws.of_tape_laws.of_pr
 use Rattle.mega_leased_laws.specs.of_settled_laws.of_run_laws.of_tape_laws.of_promises.of_rules.Operations.{Node, Setting}
 use Rattle.mega_leased_laws.specs.of_settled_laws.of_run_laws.of_tape_laws.Writes.{Usage}
 use Rattle.mega_leased_laws.specs.of_settled_laws.of_run_laws.Justified.{Each}
-use Rattle.mega_leased_laws.proofs.of_settled_laws.Tapes.{each_both}
 use Rattle.mega_leased_laws.specs.of_settled_laws.of_run_laws.of_tape_laws.Lawful.{Lawful}
 use Rattle.mega_leased_laws.specs.of_settled_laws.of_run_laws.of_tape_laws.Polls.{ArePolls, IsPolled}
 use Rattle.mega_leased_laws.proofs.of_settled_laws.of_run_laws.of_tape_laws.Polled.{polled_above}
 use Rattle.mega_handler.specs.Named.{Meanings}
 use Rattle.mega_leased_laws.specs.of_settled_laws.of_run_laws.of_tape_laws.of_promises.of_rules.Steps.{Begin, Event, Take, Tick, step}
 use Rattle.mega_leased_laws.specs.of_settled_laws.of_run_laws.Usages.{Fits}
-use Rattle.mega_leased_laws.proofs.of_settled_laws.of_run_laws.Events.{IsPlain}
+use Rattle.mega_leased_laws.proofs.of_settled_laws.of_run_laws.Events.{IsPlain, each_append as each_both}
 use Rattle.mega_leased_laws.proofs.of_settled_laws.of_run_laws.Turns.{each_on}
 use Rattle.mega_leased_laws.specs.Items.{Are}
-use Rattle.mega_leased_laws.proofs.Notes.{fronts}
 use Rattle.mega_fresh_laws.specs.Covering.{AreTurned, Covers, IsFreshAnswer, IsFreshItem, IsProposed, IsShown, IsTurned, ReadOver}
 use Rattle.mega_fresh_laws.proofs.Moments.{Onward}
 use Rattle.mega_fresh_laws.proofs.Nearby.{Lives, step_locals}
 use Rattle.mega_fresh_laws.proofs.Enough.{Suffices}
 use Rattle.mega_fresh_laws.proofs.Enough as far
 use Rattle.mega_fresh_laws.proofs.Runs.{Near, fronts_plain, run_far}
-use Rattle.mega_fresh_laws.proofs.Steps.{front_of}
-use Rattle.mega_fresh_laws.proofs.Tails.{IsTail, Parted, front_each, step_parted}
+use Rattle.mega_leased_laws.proofs.Tails.{IsTail, Parted, front_each, front_of, fronts, step_parted}
 use Rattle.mega_fresh_laws.proofs.Through.{begun_before}
 
 -- ---- such positions are far enough

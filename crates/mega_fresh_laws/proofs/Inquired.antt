@@ -37,7 +37,8 @@ use Rattle.mega_leased_laws.proofs.of_settled_laws.of_run_laws.Sending.{took_on}
 use Rattle.mega_leased_laws.proofs.of_settled_laws.of_run_laws.Standing.{Good}
 use Rattle.mega_leased_laws.proofs.of_settled_laws.of_run_laws.Steps.{never_asked, never_moved}
 use Rattle.mega_leased_laws.proofs.of_settled_laws.of_run_laws.Turns.{Held, IsRising, each_on, each_zip, sent_append}
-use Rattle.mega_leased_laws.proofs.of_settled_laws.Tapes.{IsSilent, each_both, notes_silent}
+use Rattle.mega_leased_laws.proofs.of_settled_laws.of_run_laws.Shown.{IsSilent, notes_silent}
+use Rattle.mega_leased_laws.proofs.of_settled_laws.of_run_laws.Events.{each_append as each_both}
 use Rattle.mega_leased_laws.specs.of_valid_laws.Leases.{has_polled}
 use Rattle.mega_leased_laws.specs.Items.{Are}
 use Rattle.mega_leased_laws.proofs.Cells.{by_node, occurs_own}

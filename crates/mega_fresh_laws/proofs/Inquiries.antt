@@ -23,7 +23,7 @@ use Rattle.mega_leased_laws.specs.of_settled_laws.of_run_laws.of_tape_laws.Polls
 use Rattle.mega_leased_laws.specs.of_settled_laws.of_run_laws.Justified.{Each, sent}
 use Rattle.mega_leased_laws.proofs.of_settled_laws.of_run_laws.Sending.{Stood}
 use Rattle.mega_leased_laws.proofs.of_settled_laws.of_run_laws.Turns.{each_on}
-use Rattle.mega_leased_laws.proofs.of_settled_laws.Tapes.{IsSilent}
+use Rattle.mega_leased_laws.proofs.of_settled_laws.of_run_laws.Shown.{IsSilent}
 use Rattle.mega_leased_laws.specs.of_valid_laws.Leases.{asks_end, has_polled}
 use Rattle.mega_leased_laws.specs.Items.{Are}
 use Rattle.mega_leased_laws.proofs.Asking.{either_false, first_false, second_false}

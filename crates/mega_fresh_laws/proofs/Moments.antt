@@ -15,7 +15,7 @@ use Rattle.mega_leased_laws.specs.of_settled_laws.of_run_laws.of_tape_laws.of_pr
 use Rattle.mega_leased_laws.specs.of_settled_laws.of_run_laws.of_tape_laws.of_promises.of_rules.Operations.{Node}
 use Rattle.mega_leased_laws.specs.of_settled_laws.of_run_laws.Justified.{Each, sent}
 use Rattle.mega_leased_laws.proofs.of_settled_laws.of_run_laws.Sending.{Stood}
-use Rattle.mega_leased_laws.proofs.of_settled_laws.Tapes.{each_both}
+use Rattle.mega_leased_laws.proofs.of_settled_laws.of_run_laws.Events.{each_append as each_both}
 use Rattle.mega_fresh_laws.specs.Covering.{before_begin}
 
 abbrev pub NoBegin : Item → Type 0

@@ -40,15 +40,18 @@ use Rattle.mega_leased_laws.proofs.of_settled_laws.of_run_laws.Noted.{with_appen
 use Rattle.mega_leased_laws.proofs.of_settled_laws.of_run_laws.Runs.{run_polls}
 use Rattle.mega_leased_laws.proofs.of_settled_laws.of_run_laws.Silent.{flat_append}
 use Rattle.mega_leased_laws.proofs.of_settled_laws.of_run_laws.Standing.{Good}
+use Rattle.mega_leased_laws.proofs.of_settled_laws.of_run_laws.Told.{top_most}
 use Rattle.mega_leased_laws.proofs.of_settled_laws.of_run_laws.Turns.{each_on}
 use Rattle.mega_leased_laws.specs.of_settled_laws.Covering.{Earlier, WasCovered}
 use Rattle.mega_leased_laws.proofs.of_settled_laws.Behind.{run_decided}
-use Rattle.mega_leased_laws.proofs.of_settled_laws.Tapes.{IsSilent, earlier_stood, items_later, notes_silent, now_is, one_later, sent_later, then_later}
+use Rattle.mega_leased_laws.proofs.of_settled_laws.of_run_laws.Shown.{IsSilent, notes_silent}
+use Rattle.mega_leased_laws.proofs.of_settled_laws.Tapes.{earlier_stood, items_later, now_is, one_later, sent_later, then_later}
 use Rattle.mega_leased_laws.specs.of_valid_laws.Leases.{AreLeased, HasAtLeast, IsHeld, accepted, counted_on, decided, serving_on, valid_on}
 use Rattle.mega_leased_laws.proofs.of_valid_laws.Folds.{IsOwn}
 use Rattle.mega_leased_laws.proofs.of_valid_laws.Joint.{valid_has, vote_heard}
 use Rattle.mega_leased_laws.proofs.of_valid_laws.Shows.{run_serves, run_valid}
-use Rattle.mega_leased_laws.proofs.Beating.{IsNoCall, fronts_no_call}
+use Rattle.mega_leased_laws.proofs.of_valid_laws.NoCalls.{IsNoCall}
+use Rattle.mega_leased_laws.proofs.Beating.{fronts_no_call}
 use Rattle.mega_leased_laws.proofs.Cells.{at_me}
 use Rattle.mega_leased_laws.proofs.Forms.{stepped}
 use Rattle.mega_leased_laws.proofs.Held.{full_in, run_held}
@@ -59,9 +62,10 @@ use Rattle.mega_fresh_laws.specs.Covering.{Covers, before_begin}
 use Rattle.mega_fresh_laws.proofs.Acting.{IsValidate, Locals}
 use Rattle.mega_fresh_laws.proofs.Meant.{Reached, run_of, those_of}
 use Rattle.mega_fresh_laws.proofs.Moments.{IsCalm, Onward, calm_items}
-use Rattle.mega_fresh_laws.proofs.Steps.{base_of, front_of}
-use Rattle.mega_fresh_laws.proofs.Tails.{Hit, IsTail, Parted, front_each, hit_shows, sends_valid, step_parted, tail_valid, valid_or}
-use Rattle.mega_fresh_laws.proofs.Tops.{noted_most, notes_stood, votes_most}
+use Rattle.mega_leased_laws.proofs.Tails.{IsTail, Parted, front_each, front_of, step_parted}
+use Rattle.mega_fresh_laws.proofs.Steps.{base_of}
+use Rattle.mega_fresh_laws.proofs.Tails.{Hit, hit_shows, sends_valid, tail_valid, valid_or}
+use Rattle.mega_fresh_laws.proofs.Tops.{noted_most, notes_stood}
 
 -- ---- lists
 
@@ -356,7 +360,7 @@ module _ (c : Cluster) (few : length c.nodes ≤ 9) (five : c.cells ≤ 5) (usag
 
     covers_top : (n : Position) → HasAtLeast second me group n → n.0 ≤ top_of base group
     covers_top n (accepted key to op m b e le stands) = then_most n.0 m.0 (top_of base group) le (then_most m.0 (top_of node.met group) (top_of base group)
-        (votes_most node.met group m.0 b e (subst (In (Voted b e)) (sym ((g.node me).made (record { group = group; position = m })))
+        (top_most node.met group m.0 b e (subst (In (Voted b e)) (sym ((g.node me).made (record { group = group; position = m })))
         (vote_heard now.tape (record { group = group; position = m }) key me to op b e (stood_now key (message me to (Accepted op group m b e)) stands)))) node_base)
     covers_top n (decided m e le stands) = then_most n.0 m.0 (top_of base group) le (by (notes_stood c those me me group m e made.notes start_tape stands))
       where

@@ -37,7 +37,7 @@ use Rattle.mega_leased_laws.specs.of_valid_laws.Leases.{has_polled}
 use Rattle.mega_leased_laws.specs.Items.{Are}
 use Rattle.mega_leased_laws.proofs.Asking.{apart_turned, not_seen, seen, seen_before, seen_now}
 use Rattle.mega_leased_laws.proofs.Polls.{tops_on}
-use Rattle.mega_leased_laws.proofs.Walk.{Walks, begun_it, caught, goes_on_it}
+use Rattle.mega_leased_laws.proofs.of_settled_laws.Walk.{Walks, begun_it, caught, goes_on_it}
 use Rattle.mega_fresh_laws.proofs.Inquiries.{Beside, HasHeard, IsInquired, Unoffered, asks_elsewhere, asks_inquired, beside_then, heard_stood, mute_inquired, never_sent, offers_inquired, says_beside, unasking_sent}
 use Rattle.mega_fresh_laws.proofs.Questions.{Offers, ReadSays, Says, StageSays, asks_never, asks_offers, asks_says, due_offers, due_says, hears_says, mute_never, mute_says, mute_unasking, offers_says, offers_unasking, polled_says, seeks_says, takes_offers}
 use Rattle.mega_fresh_laws.proofs.Through.{PhaseAbove, StageThrough, due_through, hears_through, polled_begins, seeks_through}

@@ -22,7 +22,7 @@ use Rattle.mega_leased_laws.specs.of_settled_laws.of_run_laws.of_tape_laws.Polls
 use Rattle.mega_leased_laws.specs.of_settled_laws.of_run_laws.of_tape_laws.Writes.{IsNamed, Usage, has_begun}
 use Rattle.mega_leased_laws.specs.of_settled_laws.of_run_laws.Usages.{Fits}
 use Rattle.mega_leased_laws.specs.of_settled_laws.of_run_laws.Justified.{Each, sent}
-use Rattle.mega_leased_laws.proofs.of_settled_laws.of_run_laws.Events.{IsPlain, lapses_plain, lease_plain, told_plain}
+use Rattle.mega_leased_laws.proofs.of_settled_laws.of_run_laws.Events.{IsPlain, each_append as each_both, lapses_plain, lease_plain, told_plain}
 use Rattle.mega_leased_laws.proofs.of_settled_laws.of_run_laws.Noted.{with_append, with_sent}
 use Rattle.mega_leased_laws.proofs.of_settled_laws.of_run_laws.Owned.{Mine, began_asked}
 use Rattle.mega_leased_laws.proofs.of_settled_laws.of_run_laws.Runs.{IsMark, run_lawful, run_polls, starts_plain}
@@ -32,12 +32,11 @@ use Rattle.mega_leased_laws.proofs.of_settled_laws.of_run_laws.Standing.{Good, O
 use Rattle.mega_leased_laws.proofs.of_settled_laws.of_run_laws.Steps.{never_begun}
 use Rattle.mega_leased_laws.proofs.of_settled_laws.of_run_laws.Turns.{Held, Known, each_on, each_zip}
 use Rattle.mega_leased_laws.specs.of_settled_laws.Covering.{Earlier}
-use Rattle.mega_leased_laws.proofs.of_settled_laws.Tapes.{each_both, earlier_stood, items_later, lawful_before, polls_before, sent_later, then_later}
+use Rattle.mega_leased_laws.proofs.of_settled_laws.Tapes.{earlier_stood, items_later, lawful_before, polls_before, sent_later, then_later}
 use Rattle.mega_leased_laws.proofs.of_valid_laws.Folds.{IsOwn}
 use Rattle.mega_leased_laws.specs.Items.{Are}
 use Rattle.mega_leased_laws.proofs.Cells.{by_node, occurs_own}
 use Rattle.mega_leased_laws.proofs.Forms.{Occurs, down, stepped}
-use Rattle.mega_leased_laws.proofs.Notes.{fronts}
 use Rattle.mega_leased_laws.proofs.Tapes.{IsFree, are_items, free_follows, free_notes}
 use Rattle.mega_fresh_laws.proofs.Acting.{IsValidate, Locals, NoteFar}
 use Rattle.mega_fresh_laws.proofs.Heeding.{Open}
@@ -45,8 +44,8 @@ use Rattle.mega_fresh_laws.proofs.Knowing.{known_notes, own_decided}
 use Rattle.mega_fresh_laws.proofs.Meant.{MayBegin, Reached, Stays, run_of, run_stays, those_of}
 use Rattle.mega_fresh_laws.proofs.Moments.{IsLater, NoBegin, Onward, later_shown, onward_begin, onward_item, onward_items, onward_sent, onward_then}
 use Rattle.mega_fresh_laws.proofs.Enough.{IsFarItem, IsProposed, Suffices, answered_on, proposed_on}
-use Rattle.mega_fresh_laws.proofs.Steps.{IsApply, Shown, StepFar, base_of, front_of, step_far}
-use Rattle.mega_fresh_laws.proofs.Tails.{Parted, front_each, step_parted}
+use Rattle.mega_leased_laws.proofs.Tails.{Parted, front_each, front_of, fronts, step_parted}
+use Rattle.mega_fresh_laws.proofs.Steps.{IsApply, Shown, StepFar, base_of, step_far}
 use Rattle.mega_fresh_laws.proofs.Through.{PhaseFar, phase_above, phase_on}
 
 clash : {X : Type 0} (t : Bool) → t ≡ true → t ≡ false → X

@@ -29,12 +29,12 @@ use Rattle.mega_leased_laws.specs.of_settled_laws.of_run_laws.of_tape_laws.Place
 use Rattle.mega_leased_laws.specs.of_settled_laws.of_run_laws.of_tape_laws.Polls.{ArePolls}
 use Rattle.mega_leased_laws.specs.of_settled_laws.of_run_laws.of_tape_laws.Writes.{Usage}
 use Rattle.mega_leased_laws.specs.of_settled_laws.of_run_laws.Justified.{Each}
-use Rattle.mega_leased_laws.proofs.of_settled_laws.of_run_laws.Events.{onto_append}
+use Rattle.mega_leased_laws.proofs.of_settled_laws.of_run_laws.Events.{each_append as each_both, onto_append}
 use Rattle.mega_leased_laws.proofs.of_settled_laws.of_run_laws.Owned.{NoAccept}
 use Rattle.mega_leased_laws.proofs.of_settled_laws.of_run_laws.Turns.{Known, each_on}
 use Rattle.mega_leased_laws.proofs.of_settled_laws.of_run_laws.Whole.{in_left, in_right}
-use Rattle.mega_leased_laws.proofs.of_settled_laws.Tapes.{each_both}
 use Rattle.mega_leased_laws.proofs.Validating.{NoRequest, Plain, acquires_plain, background_plain, news_plain, reply_plain}
+use Rattle.mega_leased_laws.proofs.Tails.{decision_in, front_of}
 use Rattle.mega_fresh_laws.proofs.Enough.{IsProposed, Suffices}
 use Rattle.mega_fresh_laws.proofs.Through.{PhaseFar}
 use Rattle.mega_fresh_laws.proofs.Acting.{Acting, IsValidate, Locals, NoteFar}
@@ -71,15 +71,6 @@ apply_only s was was_stored met stored = if_so (has_rows s.cluster s.me) _ (each
         (if_so (nat_lt (applied_at was was_stored group) (applied_at met stored group)) (Applies group (applied_at met stored group) ∷ []) (tt, tt)) (each groups)
 
 -- what a step notes of cell, coordinator and decision
-abbrev pub decision_in : Setting → Node → Message → Option Decision → Option Decision
-decision_in s node m (Some d) = if_new node.met (Some d)
-decision_in s node m None = if_new node.met (first_settled (map (hears_message s (clock_of node.met) m) node.open_operations))
-
-abbrev pub front_of : Setting → Node → Event → List Met
-front_of s node (Tick clock) = lease_notes s node.met clock ++ lapse_notes s node.met clock
-front_of s node (Take m) = told_notes s node.met m.from m.body ++ decision_note (decision_in s node m (told_decision m.body))
-front_of s node (Begin request text) = []
-
 abbrev pub base_of : Setting → Node → Event → List Met
 base_of s node event = onto (front_of s node event) (met_in s node.met event ∷ node.met)
 

@@ -1,15 +1,11 @@
--- The greatest position of a node is no lower than any that it accepted, or decided among some notes; and which decisions a tape shows of these.
-use Rattle.std.proofs.Common.{ℕ, ◌≡◌, ◌⊎◌, inl, inr, max, ◌≤◌, ◌==◌, ◌&&◌, Bool, true, false, not, cond, List, [], ◌∷◌, flat_map, Some, refl, sym, subst, arith, ap, ◌∙◌}
+-- The greatest position of a node is no lower than any that it decided among some notes; and which decisions a tape shows of these.
+use Rattle.std.proofs.Common.{ℕ, ◌≡◌, ◌⊎◌, inl, inr, max, ◌≤◌, ◌&&◌, Bool, true, false, not, cond, List, [], ◌∷◌, flat_map, refl, sym, subst, ap, ◌∙◌}
 use Rattle.mega_base.specs.declared.names.GroupId.{GroupId}
 use Rattle.mega_base.specs.declared.names.Position.{Position}
-use Rattle.mega_ballot.specs.declared.ballot.Ballot.{Ballot}
 use Rattle.mega_cluster.specs.declared.cluster.Cluster.{Cluster}
 use Rattle.mega_entry.specs.declared.content.Content.{Content}
-use Rattle.mega_wal.specs.Acceptor.{Promised, Voted}
 use Rattle.mega_wal.specs.Same.{same_group}
 use Rattle.mega_wal.proofs.Sames.{same_group_self}
-use Rattle.mega_wire.specs.declared.message.Body.{Body}
-use Rattle.mega_wire.specs.declared.message.Body.TheVariants.{Accepted, Promise}
 use Rattle.mega_leased_laws.specs.of_settled_laws.of_run_laws.of_tape_laws.of_promises.of_transcript.declared.item.Item.{Item}
 use Rattle.mega_leased_laws.specs.of_settled_laws.of_run_laws.of_tape_laws.of_promises.of_transcript.declared.item.Item.TheVariants.{Answer, Apply, Begin, Counts as CountsItem, Crash, Decide, Forgets as ForgetsItem, Grant, Invalid, Lapse as LapseItem, Lost as LostItem, Serving, Start, Tick, Unsafe, Unsent, Valid}
 use Rattle.mega_leased_laws.specs.of_settled_laws.of_run_laws.of_tape_laws.of_promises.Items.{number, shown}
@@ -17,62 +13,12 @@ use Rattle.mega_leased_laws.specs.of_settled_laws.of_run_laws.of_tape_laws.of_pr
 use Rattle.mega_leased_laws.specs.of_settled_laws.of_run_laws.of_tape_laws.of_promises.Promises.{Stands}
 use Rattle.mega_leased_laws.specs.of_settled_laws.of_run_laws.of_tape_laws.of_promises.Runs.{breaks, with_item, with_items}
 use Rattle.mega_leased_laws.specs.of_settled_laws.of_run_laws.of_tape_laws.of_promises.of_rules.Met.{Met, Starts, Crashes, Ticks, Begins, Takes, Sends, Unsends, Grants, Lapses, Counts, Forgets, Serves, Loses, Validates, Invalidates, Decides, Applies, Answers}
-use Rattle.mega_leased_laws.specs.of_settled_laws.of_run_laws.of_tape_laws.of_promises.of_rules.Logs.{accepted_at, top_of}
+use Rattle.mega_leased_laws.specs.of_settled_laws.of_run_laws.of_tape_laws.of_promises.of_rules.Logs.{top_of}
 use Rattle.mega_leased_laws.specs.of_settled_laws.of_run_laws.of_tape_laws.of_promises.of_rules.Operations.{Node}
 use Rattle.mega_leased_laws.specs.of_settled_laws.of_run_laws.of_tape_laws.of_promises.of_rules.Steps.{onto}
-use Rattle.mega_leased_laws.specs.of_settled_laws.of_run_laws.of_tape_laws.of_promises.of_rules.Voting.{act_if, act_in, acts}
 use Rattle.mega_leased_laws.specs.of_settled_laws.of_run_laws.of_tape_laws.Places.{In}
-use Rattle.mega_leased_laws.proofs.of_settled_laws.of_run_laws.of_tape_laws.Ballots.{number_is}
-use Rattle.mega_leased_laws.proofs.of_settled_laws.of_run_laws.of_tape_laws.Lists.{from_cons}
 use Rattle.mega_leased_laws.proofs.of_settled_laws.of_run_laws.Noted.{with_append}
 use Rattle.mega_leased_laws.proofs.Tops.{max_first, then_most, top_onto}
-
-both : (a b : Bool) → (a && b) ≡ true → (a ≡ true) × (b ≡ true)
-both true b h = (refl, h)
-both false b h = cc
-
-at_least : (t : Bool) (n m : ℕ) → t ≡ true → n ≤ m → n ≤ cond t m 0
-at_least true n m h le = le
-at_least false n m h le = cc
-
-act_voted : (g : GroupId) (n : ℕ) (body : Body) (b : Ballot) (e : Content) → act_in g n body ≡ Some (Voted b e) → n ≤ accepted_at g body
-act_voted g n (Accepted op h p ballot entry) b e is = go (same_group h g && p.0 == n) refl is
-  where
-    go : (t : Bool) → (same_group h g && p.0 == n) ≡ t → act_if t (Voted ballot entry) ≡ Some (Voted b e) → n ≤ cond (same_group h g) p.0 0
-    go true k is = let parts = both (same_group h g) (p.0 == n) k in let same = number_is p.0 n parts.1 in at_least (same_group h g) n p.0 parts.0 (omega (arith, same))
-    go false k is = cc
-act_voted g n (Promise op h p ballot report) b e is = go (same_group h g && p.0 == n) is
-  where
-    go : (t : Bool) → act_if t (Promised ballot report) ≡ Some (Voted b e) → n ≤ 0
-    go true is = cc
-    go false is = cc
-act_voted g n _ b e is = cc
-
-first_most : (n a b : ℕ) → n ≤ a → n ≤ max a b
-first_most n a b le = omega arith
-
-second_most : (n a b : ℕ) → n ≤ b → n ≤ max a b
-second_most n a b le = omega arith
-
-if_most : (t : Bool) (n a b : ℕ) → n ≤ b → n ≤ cond t (max a b) b
-if_most true n a b le = second_most n a b le
-if_most false n a b le = le
-
-made_most : (g : GroupId) (n : ℕ) (body : Body) (before : List Met) (b : Ballot) (e : Content) → (act_in g n body ≡ Some (Voted b e)) ⊎ (n ≤ top_of before g) → n ≤ max (accepted_at g body) (top_of before g)
-made_most g n body before b e (inl is) = first_most n (accepted_at g body) (top_of before g) (act_voted g n body b e is)
-made_most g n body before b e (inr le) = second_most n (accepted_at g body) (top_of before g) le
-
-top_most : (met : List Met) (g : GroupId) (n : ℕ) (b : Ballot) (e : Content) → In (Voted b e) (acts met g n) → n ≤ top_of met g
-top_most [] g n b e i = absurd i
-top_most (Sends m ∷ before) g n b e i = made_most g n m.body before b e (elim (from_cons (act_in g n m.body) (acts before g n) (Voted b e) i) [ inl is ↦ inl is | inr j ↦ inr (top_most before g n b e j) ])
-top_most (Unsends m ∷ before) g n b e i = made_most g n m.body before b e (elim (from_cons (act_in g n m.body) (acts before g n) (Voted b e) i) [ inl is ↦ inl is | inr j ↦ inr (top_most before g n b e j) ])
-top_most (Decides h p entry ∷ before) g n b e i = if_most (same_group h g) n p (top_of before g) (top_most before g n b e i)
-top_most (_ ∷ before) g n b e i = top_most before g n b e i
-
-pub votes_most : (met : List Met) (g : GroupId) (n : ℕ) (b : Ballot) (e : Content) → In (Voted b e) (acts met g n) → n ≤ top_of met g
-votes_most met g n b e i = top_most met g n b e i
-
--- ---- what a node noted
 
 -- what was decided among these notes
 pub noted_most : (notes met : List Met) (g : GroupId) (n : ℕ) (e : Content) → In (Decides g n e) notes → n ≤ top_of (onto notes met) g

@@ -17,7 +17,7 @@ use Rattle.mega_run_laws.specs.of_tape_laws.of_promises.of_transcript.declared.i
 use Rattle.mega_run_laws.specs.of_tape_laws.of_promises.of_transcript.declared.item.Item.TheVariants.{Invalid, Sent, Taken, Unsafe, Cut as CutItem}
 use Rattle.mega_run_laws.specs.of_tape_laws.of_promises.of_transcript.Tape.{sent_count}
 use Rattle.mega_run_laws.specs.of_tape_laws.of_promises.of_rules.Members.{nodes}
-use Rattle.mega_run_laws.specs.of_tape_laws.of_promises.of_rules.Met.{Met, Starts, Crashes, Ticks, Begins, Takes, Sends, Unsends, Grants, Lapses, Counts, Forgets, Serves, Loses, Validates, Invalidates, Decides, Applies, Answers}
+use Rattle.mega_run_laws.specs.of_tape_laws.of_promises.of_rules.Met.{Met, Crashes, Ticks, Begins, Invalidates}
 use Rattle.mega_run_laws.specs.of_tape_laws.of_promises.of_rules.Operations.{Node}
 use Rattle.mega_run_laws.specs.of_tape_laws.of_promises.of_rules.Steps.{Begin, Event, Step, Take, Tick, crashed, op_of, start, start_items, step}
 use Rattle.mega_run_laws.specs.of_tape_laws.of_promises.Items.{number, numbered, shown}
@@ -26,8 +26,11 @@ use Rattle.mega_run_laws.specs.of_tape_laws.of_promises.Promises.{Stands, StoodB
 use Rattle.mega_run_laws.specs.of_tape_laws.of_promises.Runs.{Calls, CutByData, CutByLog, Cuts, Fate, Happening, IsRun, Standing, Whole, after_event, at_node, breaks, calls_of, delivered, drained, fate_by, fated, fated_start, goes_on, handed, marked, met_in, nothing_yet, opening, refusal, replies_in, set_at, setting, start_calls, unless_none, unless_refused, up, whole_step, with_item, with_items}
 use Rattle.mega_run_laws.specs.of_tape_laws.Lawful.{Heard, message}
 use Rattle.mega_run_laws.specs.of_tape_laws.Places.{In}
+use Rattle.mega_run_laws.specs.Justified.{Each}
+use Rattle.mega_run_laws.proofs.Events.{each_append}
 use Rattle.mega_run_laws.proofs.Noted.{with_append}
 use Rattle.mega_run_laws.proofs.Sending.{Stood}
+use Rattle.mega_run_laws.proofs.Shown.{IsSilent, notes_silent}
 use Rattle.mega_run_laws.proofs.Whole.{in_left, in_right}
 use Rattle.mega_lease_laws.proofs.Telling.{Tells, TellsOf, step_tells}
 
@@ -46,22 +49,9 @@ abbrev AreBehind : List Item → Type 0
 AreBehind [] = Unit {0}
 AreBehind (item ∷ before) = IsBehind before item × AreBehind before
 
--- an item that sends nothing
-abbrev IsSilent : Item → Type 0
-IsSilent (Sent key m) = ⊥
-IsSilent _ = Unit {0}
-
 silent_behind : (before : List Item) (item : Item) → IsSilent item → IsBehind before item
 silent_behind before (Sent key m) silent = absurd silent
 silent_behind before _ silent = tt
-
-abbrev AreSilent : List Item → Type 0
-AreSilent [] = Unit {0}
-AreSilent (item ∷ items) = IsSilent item × AreSilent items
-
-silent_both : (xs ys : List Item) → AreSilent xs → AreSilent ys → AreSilent (xs ++ ys)
-silent_both [] ys a b = b
-silent_both (x ∷ xs) ys a b = (a.0, silent_both xs ys a.1 b)
 
 module _ (c : Cluster) (node : ℕ → Node) where
   one_more : (tape : List Item) (item : Item) → IsSilent item → AreBehind tape → AreBehind (with_item c node tape item)
@@ -71,7 +61,7 @@ module _ (c : Cluster) (node : ℕ → Node) where
       by true = (tt, (silent_behind tape item silent, h))
       by false = (silent_behind tape item silent, h)
 
-  more : (items tape : List Item) → AreSilent items → AreBehind tape → AreBehind (with_items c node tape items)
+  more : (items tape : List Item) → Each IsSilent items → AreBehind tape → AreBehind (with_items c node tape items)
   more [] tape silent h = h
   more (item ∷ items) tape silent h = more items (with_item c node tape item) silent.1 (one_more tape item silent.0 h)
 
@@ -111,30 +101,6 @@ module _ (c : Cluster) (node : ℕ → Node) where
       sends_behind me notes (n + 1) ms (Sent n m ∷ tape) (λ group k i. inr (noted group k i)) (All-tail (Tells me notes) m ms tell)
       (told_by me notes tape noted m.from m.body (All-head (Tells me notes) m ms tell), h)
 
-shown_silent : (me : ℕ) (one : Met) → AreSilent (shown me one)
-shown_silent me (Starts start) = (tt, tt)
-shown_silent me Crashes = (tt, tt)
-shown_silent me (Ticks now) = (tt, tt)
-shown_silent me (Begins op text) = (tt, tt)
-shown_silent me (Takes message) = tt
-shown_silent me (Sends message) = tt
-shown_silent me (Unsends message) = (tt, tt)
-shown_silent me (Grants node epoch) = (tt, tt)
-shown_silent me (Lapses node epoch) = (tt, tt)
-shown_silent me (Counts cell epoch) = (tt, tt)
-shown_silent me (Forgets cell epoch) = (tt, tt)
-shown_silent me (Serves epoch) = (tt, tt)
-shown_silent me (Loses epoch) = (tt, tt)
-shown_silent me (Validates group position) = (tt, tt)
-shown_silent me (Invalidates group position) = (tt, tt)
-shown_silent me (Decides group position entry) = (tt, tt)
-shown_silent me (Applies group position) = (tt, tt)
-shown_silent me (Answers op answer) = (tt, tt)
-
-notes_silent : (me : ℕ) (notes : List Met) → AreSilent (flat_map (shown me) notes)
-notes_silent me [] = tt
-notes_silent me (one ∷ notes) = silent_both (shown me one) (flat_map (shown me) notes) (shown_silent me one) (notes_silent me notes)
-
 in_notes : (me : ℕ) (group : GroupId) (n : ℕ) (notes : List Met) → In (Invalidates group n) notes → In (Invalid (number me) group (record { 0 = n })) (flat_map (shown me) notes)
 in_notes me group n [] i = absurd i
 in_notes me group n (one ∷ notes) (inl same) = in_left (Invalid (number me) group (record { 0 = n })) (shown me one) (flat_map (shown me) notes)
@@ -144,24 +110,24 @@ in_notes me group n (one ∷ notes) (inr i) = in_right (Invalid (number me) grou
 -- ---- steps
 
 module _ (c : Cluster) where
-  whole_behind : (now : Standing) (me : ℕ) (own : List Item) (made : Step) → AreSilent own → All (Tells me made.notes) made.sends → AreBehind now.tape → AreBehind (whole_step c now me own made).tape
+  whole_behind : (now : Standing) (me : ℕ) (own : List Item) (made : Step) → Each IsSilent own → All (Tells me made.notes) made.sends → AreBehind now.tape → AreBehind (whole_step c now me own made).tape
   whole_behind now me own made silent tell h =
       subst AreBehind (sym (with_append c node (own ++ flat_map (shown me) made.notes) (numbered (sent_count now.tape + 1) made.sends) now.tape))
       (sends_behind c node me made.notes (sent_count now.tape + 1) made.sends (with_items c node now.tape (own ++ flat_map (shown me) made.notes))
       (λ group n i. those_stand c node (own ++ flat_map (shown me) made.notes) now.tape (Invalid (number me) group (record { 0 = n })) (in_right (Invalid (number me) group (record { 0 = n })) own (flat_map (shown me) made.notes) (in_notes me group n made.notes i)))
-      tell (more c node (own ++ flat_map (shown me) made.notes) now.tape (silent_both own (flat_map (shown me) made.notes) silent (notes_silent me made.notes)) h))
+      tell (more c node (own ++ flat_map (shown me) made.notes) now.tape (each_append IsSilent own (flat_map (shown me) made.notes) silent (notes_silent me made.notes)) h))
     where
       node : ℕ → Node
       node = set_at now.node me made.node
 
-  fated_behind : (now : Standing) (me : ℕ) (own : List Item) (met : Met) (made : Step) (replies : List Message) (fate : Fate) → AreSilent own → All (Tells me made.notes) made.sends → AreBehind now.tape → AreBehind (fated c now me own met made replies fate).tape
+  fated_behind : (now : Standing) (me : ℕ) (own : List Item) (met : Met) (made : Step) (replies : List Message) (fate : Fate) → Each IsSilent own → All (Tells me made.notes) made.sends → AreBehind now.tape → AreBehind (fated c now me own met made replies fate).tape
   fated_behind now me own met made replies Whole silent tell h = whole_behind now me own made silent tell h
   fated_behind now me own met made replies (CutByLog left) silent tell h =
-      more c (set_at now.node me (crashed (record { met = met ∷ (now.node me).met; open_operations = []; stored = (now.node me).stored }))) (own ++ shown me Crashes) now.tape (silent_both own (shown me Crashes) silent (tt, tt)) h
+      more c (set_at now.node me (crashed (record { met = met ∷ (now.node me).met; open_operations = []; stored = (now.node me).stored }))) (own ++ shown me Crashes) now.tape (each_append IsSilent own (shown me Crashes) silent (tt, tt)) h
   fated_behind now me own met made replies (CutByData left) silent tell h =
-      more c (set_at now.node me (crashed (record { met = met ∷ (now.node me).met; open_operations = []; stored = (now.node me).stored }))) (own ++ shown me Crashes) now.tape (silent_both own (shown me Crashes) silent (tt, tt)) h
+      more c (set_at now.node me (crashed (record { met = met ∷ (now.node me).met; open_operations = []; stored = (now.node me).stored }))) (own ++ shown me Crashes) now.tape (each_append IsSilent own (shown me Crashes) silent (tt, tt)) h
 
-  at_behind : (h : Meanings) (now : Standing) (me : ℕ) (own : List Item) (event : Event) (cut : Calls → Fate) → AreSilent own → AreBehind now.tape → AreBehind (at_node c h now me own event cut).tape
+  at_behind : (h : Meanings) (now : Standing) (me : ℕ) (own : List Item) (event : Event) (cut : Calls → Fate) → Each IsSilent own → AreBehind now.tape → AreBehind (at_node c h now me own event cut).tape
   at_behind h now me own event cut silent behind =
       fated_behind now me own (met_in (setting c h me) (now.node me).met event) made (replies_in c me (now.node me).met event) (fate_by now me cut (calls_of c h now me event made)) silent (step_tells (setting c h me) (now.node me) event) behind
     where

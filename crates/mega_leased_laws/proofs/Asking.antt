@@ -40,11 +40,12 @@ use Rattle.mega_lease_laws.proofs.of_run_laws.Prefixes.{IsDecided, prefix_decide
 use Rattle.mega_lease_laws.proofs.of_run_laws.Sending.{Stood}
 use Rattle.mega_lease_laws.proofs.of_run_laws.Turns.{IsRising, each_on, each_push}
 use Rattle.mega_valid_laws.specs.of_settled_laws.Covering.{Earlier}
-use Rattle.mega_valid_laws.proofs.of_settled_laws.Tapes.{each_both, earlier_stood, then_later}
+use Rattle.mega_lease_laws.proofs.of_run_laws.Events.{each_append as each_both}
+use Rattle.mega_valid_laws.proofs.of_settled_laws.Tapes.{earlier_stood, then_later}
 use Rattle.mega_valid_laws.proofs.of_settled_laws.Turns.{numbers_apart}
 use Rattle.mega_valid_laws.specs.Leases.{asks_end, has_polled, serving_on}
 use Rattle.mega_leased_laws.proofs.Polls.{ReadPolls, StagePolls, due_polls, hears_polls, no_tops, polled_on, seeks_polls, tops_on}
-use Rattle.mega_leased_laws.proofs.Walk.{Walks, begun_it, caught, goes_on_it}
+use Rattle.mega_valid_laws.proofs.of_settled_laws.Walk.{Walks, begun_it, caught, goes_on_it}
 use Rattle.mega_leased_laws.proofs.Wheres.{EndsBody, EndsOf, falls_due_ends, hears_ends, polled_ends, seeks_ends, takes_ends, asks_ends, due_ends}
 
 -- ---- messages that ask where a log ends

@@ -33,14 +33,15 @@ use Rattle.mega_lease_laws.specs.of_run_laws.of_tape_laws.of_promises.of_rules.O
 use Rattle.mega_lease_laws.specs.of_run_laws.of_tape_laws.of_promises.of_rules.Steps.{Begin, Event, Take, Tick, lapse_notes, lease_notes, onto, step, told_notes}
 use Rattle.mega_lease_laws.proofs.of_run_laws.of_tape_laws.Ballots.{number_is, number_self}
 use Rattle.mega_lease_laws.specs.of_run_laws.Justified.{Each}
-use Rattle.mega_lease_laws.proofs.of_run_laws.Events.{onto_append}
-use Rattle.mega_valid_laws.proofs.of_settled_laws.Tapes.{each_both}
+use Rattle.mega_lease_laws.proofs.of_run_laws.Events.{each_append as each_both, onto_append}
 use Rattle.mega_valid_laws.specs.Leases.{serving_on}
-use Rattle.mega_valid_laws.proofs.Folds.{IsOwn, IsOwnNote, Told, with_told}
+use Rattle.mega_valid_laws.proofs.NoCalls.{IsNoCall, Uncalled, forgets_no_call, lost_no_call, no_call_if, told_no_call, uncalled_all}
+use Rattle.mega_valid_laws.proofs.Folds.{IsOwn, IsOwnNote, Told, with_told, cond_as, same_if}
 use Rattle.mega_valid_laws.proofs.Orders.{stood_first}
 use Rattle.mega_leased_laws.specs.Items.{Are}
 use Rattle.mega_leased_laws.specs.Serving.{IsServing}
-use Rattle.mega_leased_laws.proofs.Notes.{IsRest, fronts, step_parts}
+use Rattle.mega_leased_laws.proofs.Tails.{fronts}
+use Rattle.mega_leased_laws.proofs.Notes.{IsRest, step_parts}
 use Rattle.mega_leased_laws.proofs.Told.{step_met}
 
 -- ---- what a tape tells
@@ -132,14 +133,6 @@ abbrev pub beaten_met : List Met → GroupId → ℕ
 beaten_met [] group = 0
 beaten_met (one ∷ met) group = next_beaten group one (beaten_met met group)
 
-same_if : {X : Type 0} (t : Bool) (x : X) → x ≡ cond t x x
-same_if true x = refl
-same_if false x = refl
-
-cond_as : {X : Type 0} (t u : Bool) (one rest : X) → cond (t && u) one rest ≡ cond t (cond u one rest) rest
-cond_as true u one rest = refl
-cond_as false u one rest = refl
-
 beaten_told : (group : GroupId) (v : ℕ) (c : Cluster) (nodes : ℕ → Node) (tape : List Item) (item : Item) → beaten_on (with_item c nodes tape item) v group ≡ beaten_on (item ∷ tape) v group
 beaten_told group v c nodes tape item = with_told (λ t. beaten_on t v group) (λ t. refl) c nodes tape item
 
@@ -202,69 +195,13 @@ after_both : (group : GroupId) (xs ys : List Met) (x : ℕ) → after_beaten gro
 after_both group [] ys x = refl
 after_both group (one ∷ xs) ys x = after_both group xs ys (next_beaten group one x)
 
--- notes that are no call
-abbrev pub IsNoCall : Met → Type 0
-IsNoCall (Starts start) = ⊥
-IsNoCall (Ticks now) = ⊥
-IsNoCall (Takes message) = ⊥
-IsNoCall (Validates group position) = ⊥
-IsNoCall _ = Unit {0}
-
-pub record Uncalled (c : Cluster) (one two : List Met) : Type 0 where
-  pub start : start_of one ≡ start_of two
-  pub calls : coordinator_calls c one ≡ coordinator_calls c two
-
-uncalled_one : (c : Cluster) (one : Met) (met : List Met) → IsNoCall one → Uncalled c (one ∷ met) met
-uncalled_one c (Starts start) met n = absurd n
-uncalled_one c (Ticks now) met n = absurd n
-uncalled_one c (Takes message) met n = absurd n
-uncalled_one c (Validates group position) met n = absurd n
-uncalled_one c _ met n = record { start = refl; calls = refl }
-
-pub uncalled_all : (c : Cluster) (notes met : List Met) → Each IsNoCall notes → Uncalled c (onto notes met) met
-uncalled_all c [] met n = record { start = refl; calls = refl }
-uncalled_all c (one ∷ notes) met n =
-    let rest = uncalled_all c notes (one ∷ met) n.1 in let first = uncalled_one c one met n.0 in record { start = rest.start ∙ first.start; calls = rest.calls ∙ first.calls }
+-- ---- notes that are no call
 
 pub uncalled_serves : (c : Cluster) (one two : List Met) → Uncalled c one two → serves_at c one ≡ serves_at c two
 uncalled_serves c one two u = λ i. serving (u.start i) c.cells (u.calls i)
 
 pub uncalled_beaten : (c : Cluster) (one two : List Met) → Uncalled c one two → (group : GroupId) → beaten_at c one group ≡ beaten_at c two group
 uncalled_beaten c one two u group = λ i. beaten (u.start i) c.cells (u.calls i) group
-
-no_call_if : (t : Bool) (xs : List Met) → Each IsNoCall xs → Each IsNoCall (cond t xs [])
-no_call_if true xs h = h
-no_call_if false xs h = tt
-
-grant_no_call : (node : ℕ) (epoch : Epoch) (a : Asked) → Each IsNoCall (grant_note node epoch a)
-grant_no_call node epoch Granted = (tt, tt)
-grant_no_call node epoch Renewed = tt
-grant_no_call node epoch (TakenBy greatest) = tt
-grant_no_call node epoch (Over greatest) = tt
-
-counts_no_call : (cell : ℕ) (epoch : Epoch) (was : Bool) (a : Counted) → Each IsNoCall (counts_notes cell epoch was a)
-counts_no_call cell epoch was No = tt
-counts_no_call cell epoch true Yes = tt
-counts_no_call cell epoch false Yes = (tt, tt)
-counts_no_call cell epoch true ServingAnswer = (tt, tt)
-counts_no_call cell epoch false ServingAnswer = (tt, (tt, tt))
-
-told_no_call : (s : Setting) (met : List Met) (from : ℕ) (body : Body) → Each IsNoCall (told_notes s met from body)
-told_no_call s met from (Acquire cell epoch clock) = no_call_if (cell == s.me && nat_le s.me (s.cluster).cells) (grant_note from epoch (asked_for s.cluster s.me met from epoch)) (grant_no_call from epoch (asked_for s.cluster s.me met from epoch))
-told_no_call s met from (GrantedBody cell epoch clock) = no_call_if (is_full s.cluster s.me && nat_le cell (s.cluster).cells) (grant_notes s.cluster met cell epoch clock)
-    (counts_no_call cell epoch (is_some (counted_by (lease_of (start_of met) (s.cluster).cells (coordinator_calls s.cluster met)) cell))
-    (granted_answer (start_of met) (s.cluster).cells (lease_of (start_of met) (s.cluster).cells (coordinator_calls s.cluster met)) cell epoch (clock + (s.cluster).lease) (clock_of met)))
-told_no_call s met from (Invalidate op group position) = no_call_if (is_full s.cluster s.me) (Invalidates group position.0 ∷ []) (tt, tt)
-told_no_call s met from _ = tt
-
-forgets_no_call : (o : Option Epoch) (xs : List ℕ) → Each IsNoCall (forget_notes o xs)
-forgets_no_call None xs = tt
-forgets_no_call (Some epoch) [] = tt
-forgets_no_call (Some epoch) (cell ∷ xs) = (tt, forgets_no_call (Some epoch) xs)
-
-lost_no_call : (o : Option Epoch) → Each IsNoCall (lost_note o)
-lost_no_call None = tt
-lost_no_call (Some epoch) = (tt, tt)
 
 lapses_no_call : (those : List ℕ) (f : ℕ → Option Epoch) → Each IsNoCall (flat_map (λ node. lapse_note node (f node)) those)
 lapses_no_call [] f = tt

@@ -33,20 +33,8 @@ use Rattle.mega_lease_laws.specs.of_run_laws.of_tape_laws.of_promises.of_rules.C
 use Rattle.mega_lease_laws.specs.of_run_laws.of_tape_laws.of_promises.of_rules.Locks.{asked_for, cell_calls, grant_note, lapse_note, held_answer, held_at, lapses_at, last_grant, reopenings}
 use Rattle.mega_lease_laws.specs.of_run_laws.of_tape_laws.of_promises.of_rules.Members.{cells, is_cell, is_full, is_node, keep_of}
 use Rattle.mega_lease_laws.specs.of_run_laws.of_tape_laws.of_promises.of_rules.Operations.{Node, Setting}
-use Rattle.mega_lease_laws.specs.of_run_laws.of_tape_laws.of_promises.of_rules.Logs.{decided, top_of}
-use Rattle.mega_lease_laws.specs.of_run_laws.of_tape_laws.of_promises.of_rules.Replies.{answer_to, fetched, where_served}
-use Rattle.mega_lease_laws.specs.of_run_laws.of_tape_laws.of_promises.of_rules.Voting.{acts, prepared, promise_body, vote_body, voted}
-use Rattle.mega_wal.specs.Acceptor.{accept_answer, promise_answer}
-use Rattle.mega_wal.specs.declared.answers.Promised.{Promised as PromiseAnswer}
-use Rattle.mega_wal.specs.declared.answers.Promised.TheVariants as promise
-use Rattle.mega_wal.specs.declared.answers.Voted.{Voted as AcceptAnswer}
-use Rattle.mega_wal.specs.declared.answers.Voted.TheVariants as vote
-use Rattle.mega_base.specs.declared.names.Position.{Position}
-use Rattle.mega_ballot.specs.declared.ballot.Ballot.{Ballot}
-use Rattle.mega_entry.specs.declared.content.Content.{Content}
-use Rattle.mega_lease_laws.specs.of_run_laws.of_tape_laws.of_promises.of_rules.Locks.{lock_answer}
-use Rattle.mega_wire.specs.declared.message.Body.TheVariants.{Top, Invalidated}
-use Rattle.mega_lease_laws.specs.of_run_laws.of_tape_laws.of_promises.of_rules.Members.{is_voter, has_rows}
+use Rattle.mega_lease_laws.specs.of_run_laws.of_tape_laws.of_promises.of_rules.Replies.{answer_to, where_served}
+use Rattle.mega_lease_laws.specs.of_run_laws.of_tape_laws.of_promises.of_rules.Members.{has_rows}
 use Rattle.mega_lease_laws.specs.of_run_laws.of_tape_laws.of_promises.of_rules.Logs.{groups_of, prefix_of}
 use Rattle.mega_lease_laws.specs.of_run_laws.of_tape_laws.of_promises.of_rules.Steps.{start_note}
 use Rattle.mega_lease_laws.specs.of_run_laws.of_tape_laws.of_promises.of_rules.Steps.{Begin, Event, Step, Take, Tick, crashed, lapse_notes, lease_notes, onto, start, start_items, start_notes, step, told_notes}
@@ -55,20 +43,23 @@ use Rattle.mega_lease_laws.specs.of_run_laws.of_tape_laws.Lawful.{message}
 use Rattle.mega_lease_laws.proofs.of_run_laws.of_tape_laws.Ballots.{number_is, number_self}
 use Rattle.mega_lease_laws.proofs.of_run_laws.of_tape_laws.Lists.{some_is}
 use Rattle.mega_lease_laws.specs.of_run_laws.Justified.{Each, sent}
-use Rattle.mega_lease_laws.proofs.of_run_laws.Events.{onto_append}
+use Rattle.mega_lease_laws.proofs.of_run_laws.Events.{each_append as each_both, onto_append}
 use Rattle.mega_lease_laws.proofs.of_run_laws.Runs.{IsMark, nobody}
 use Rattle.mega_lease_laws.proofs.of_run_laws.Standing.{Good}
 use Rattle.mega_lease_laws.proofs.of_run_laws.Turns.{each_on}
 use Rattle.mega_valid_laws.specs.of_settled_laws.Covering.{Earlier}
-use Rattle.mega_valid_laws.proofs.of_settled_laws.Tapes.{IsSilent as SilentItem, each_both, earlier_stood, items_later, notes_silent, now_is, one_later, then_later}
+use Rattle.mega_lease_laws.proofs.of_run_laws.Shown.{IsSilent as SilentItem, notes_silent}
+use Rattle.mega_valid_laws.proofs.of_settled_laws.Tapes.{earlier_stood, items_later, now_is, one_later, then_later}
 use Rattle.mega_lease_laws.specs.Questions.{Asks as IsAsking, is_question}
 use Rattle.mega_valid_laws.specs.Leases.{HoldsNone, granted_on}
 use Rattle.mega_valid_laws.proofs.Epochs.{Shown, granted_shown}
-use Rattle.mega_valid_laws.proofs.Folds.{IsOwn, IsOwnNote, Told, sends_told, with_told}
+use Rattle.mega_valid_laws.proofs.Folds.{IsOwn, IsOwnNote, Told, sends_told, with_told, same_if, cond_as}
+use Rattle.mega_lease_laws.proofs.of_run_laws.AnswerKinds.{IsAnswer, answer_kind}
 use Rattle.mega_leased_laws.specs.Items.{Are}
 use Rattle.mega_leased_laws.specs.Cells.{Frees, IsFreed}
 use Rattle.mega_leased_laws.proofs.Forms.{Anything, Holds, Occurs, any_keeps, down, run_holds, stepped}
-use Rattle.mega_leased_laws.proofs.Notes.{IsRest, Origin, fronts, step_origins, step_parts}
+use Rattle.mega_leased_laws.proofs.Tails.{fronts}
+use Rattle.mega_leased_laws.proofs.Notes.{IsRest, Origin, step_origins, step_parts}
 use Rattle.mega_leased_laws.proofs.Tapes.{IsFree, are_items, are_sent, free_follows, free_notes}
 use Rattle.mega_leased_laws.proofs.Told.{cuts_told, falls_told, marks_told, starts_told, step_met, steps_told}
 use Rattle.mega_leased_laws.proofs.Locks.{IsOwed, IsStill, IsUnmarked, Matches, asks_match, closed_by, closes_match, granted_by, lapse_marks, lapsed_by, lapses_are, last_after, last_onto, lock_after, marks_both, marks_for, opening_onto, opens_match, reopen_match, still_onto, ticks_match, unmarked}
@@ -79,14 +70,6 @@ abbrev next_granted : ℕ → Met → Option (Epoch × Bool) → Option (Epoch �
 next_granted node (Grants other epoch) before = cond (other == node) (after_grant before epoch) before
 next_granted node (Lapses other epoch) before = cond (other == node) (after_lapse before epoch) before
 next_granted node _ before = before
-
-same_if : {X : Type 0} (t : Bool) (x : X) → x ≡ cond t x x
-same_if true x = refl
-same_if false x = refl
-
-cond_as : {X : Type 0} (t u : Bool) (one rest : X) → cond (t && u) one rest ≡ cond t (cond u one rest) rest
-cond_as true u one rest = refl
-cond_as false u one rest = refl
 
 module _ (node : ℕ) where
   granted_told : (v : ℕ) (c : Cluster) (nodes : ℕ → Node) (tape : List Item) (item : Item) → granted_on (with_item c nodes tape item) v node ≡ granted_on (item ∷ tape) v node
@@ -647,42 +630,24 @@ module _ (c : Cluster) (few : length c.nodes ≤ 9) (tape : List Item) (nodes : 
   other_asks from (Acquire cell epoch clock) h = absurd h
   other_asks from _ h = tt
 
-  -- what a reply may be
-  served_other : (t : Bool) (body reply : Body) → OtherBody body → where_served t body ≡ Some reply → OtherBody reply
-  served_other true body reply h is = subst OtherBody (some_is body reply is) h
-  served_other false body reply h is = cc
-
-  prepared_other : (op : OpId) (group : GroupId) (n : Position) (b : Ballot) (a : PromiseAnswer) → OtherBody (promise_body op group n b a)
-  prepared_other op group n b (promise.Yes report) = tt
-  prepared_other op group n b (promise.Shown greater) = tt
-
-  voted_other : (op : OpId) (group : GroupId) (n : Position) (b : Ballot) (e : Content) (a : AcceptAnswer) → OtherBody (vote_body op group n b e a)
-  voted_other op group n b e vote.Yes = tt
-  voted_other op group n b e (vote.Shown greater) = tt
-  voted_other op group n b e (vote.Other other) = tt
-
-  fetched_other : (op : OpId) (group : GroupId) (n : Position) (found : Option Content) → OtherBody (fetched op group n found)
-  fetched_other op group n None = tt
-  fetched_other op group n (Some entry) = tt
-
-  lock_other : (cell : ℕ) (epoch : Epoch) (clock : ℕ) (a : Asked) → OtherBody (lock_answer cell epoch clock a)
-  lock_other cell epoch clock Granted = tt
-  lock_other cell epoch clock Renewed = tt
-  lock_other cell epoch clock (TakenBy greatest) = tt
-  lock_other cell epoch clock (Over greatest) = tt
-
   abbrev mine : List Met
   mine = (nodes me).met
 
+  no_unheld : (asked : Body) → NotDead asked → (op : OpId) (cell : ℕ) (node : NodeId) → IsAnswer asked (Unheld op cell node) → ⊥
+  no_unheld (Dead o k n) not op cell node h = not
+  no_unheld _ not op cell node h = h
+
+  no_acquire : (asked : Body) (cell : ℕ) (epoch : Epoch) (clock : ℕ) → IsAnswer asked (Acquire cell epoch clock) → ⊥
+  no_acquire (Where o g) cell epoch clock h = h
+  no_acquire _ cell epoch clock h = h
+
   answer_other : (from : ℕ) (body reply : Body) → NotDead body → answer_to c me mine from body ≡ Some reply → OtherBody reply
-  answer_other from (Where op group) reply not k = served_other (is_voter c me) (Top op group (record { 0 = top_of mine group })) reply tt k
-  answer_other from (Accept op group n b e) reply not k = served_other (is_voter c me) (voted (acts mine group n.0) op group n b e) reply (voted_other op group n b e (accept_answer (acts mine group n.0) b e)) k
-  answer_other from (Prepare op group n b) reply not k = served_other (is_voter c me) (prepared (acts mine group n.0) op group n b) reply (prepared_other op group n b (promise_answer (acts mine group n.0) b)) k
-  answer_other from (Fetch op group n) reply not k = served_other (is_voter c me) (fetched op group n (decided mine group n.0)) reply (fetched_other op group n (decided mine group n.0)) k
-  answer_other from (Invalidate op group n) reply not k = served_other (is_full c me) (Invalidated op group n) reply tt k
-  answer_other from (Dead op cell node) reply not k = absurd not
-  answer_other from (Acquire cell epoch clock) reply not k = served_other (cell == me && is_cell c me) (lock_answer cell epoch clock (asked_for c me mine from epoch)) reply (lock_other cell epoch clock (asked_for c me mine from epoch)) k
-  answer_other from _ reply not k = absurd (let none = k in cc)
+  answer_other from body reply not k = by reply (answer_kind c me mine from body reply k)
+    where
+      by : (r : Body) → IsAnswer body r → OtherBody r
+      by (Unheld op cell node) h = no_unheld body not op cell node h
+      by (Acquire cell epoch clock) h = no_acquire body cell epoch clock h
+      by _ h = tt
 
   other_well : (t : List Item) (m : Message) → OtherBody m.body → SendsWell c m t
   other_well t m other = record { frees = other_frees t m m.body other; asks = other_asks m.from m.body other }

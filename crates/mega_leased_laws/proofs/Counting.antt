@@ -37,15 +37,16 @@ use Rattle.mega_lease_laws.specs.of_run_laws.of_tape_laws.Places.{count}
 use Rattle.mega_lease_laws.specs.of_run_laws.of_tape_laws.Settled.{IsCellMajority}
 use Rattle.mega_lease_laws.proofs.of_run_laws.of_tape_laws.Ballots.{number_is, number_self}
 use Rattle.mega_lease_laws.specs.of_run_laws.Justified.{Each}
-use Rattle.mega_lease_laws.proofs.of_run_laws.Events.{onto_append}
-use Rattle.mega_valid_laws.proofs.of_settled_laws.Tapes.{each_both}
+use Rattle.mega_lease_laws.proofs.of_run_laws.Events.{each_append as each_both, onto_append}
 use Rattle.mega_valid_laws.specs.Leases.{counted_on}
-use Rattle.mega_valid_laws.proofs.Folds.{IsOwn, IsOwnNote, Told, with_told}
+use Rattle.mega_valid_laws.proofs.Folds.{IsOwn, IsOwnNote, Told, with_told, same_if}
 use Rattle.mega_valid_laws.proofs.Orders.{epoch_is}
-use Rattle.mega_leased_laws.proofs.Notes.{IsRest, fronts, step_parts}
+use Rattle.mega_leased_laws.proofs.Tails.{fronts}
+use Rattle.mega_leased_laws.proofs.Notes.{IsRest, step_parts}
 use Rattle.mega_leased_laws.proofs.Told.{step_met}
 use Rattle.mega_leased_laws.proofs.Reached.{Reached, asked_present}
-use Rattle.mega_leased_laws.proofs.Beating.{Uncalled, fronts_no_call, uncalled_all}
+use Rattle.mega_valid_laws.proofs.NoCalls.{Uncalled, uncalled_all}
+use Rattle.mega_leased_laws.proofs.Beating.{fronts_no_call}
 
 -- ---- what a node met
 
@@ -57,10 +58,6 @@ next_counted cell epoch _ x = x
 abbrev pub counted_met : List Met → ℕ → Epoch → Bool
 counted_met [] cell epoch = false
 counted_met (one ∷ met) cell epoch = next_counted cell epoch one (counted_met met cell epoch)
-
-same_if : {X : Type 0} (t : Bool) (x : X) → x ≡ cond t x x
-same_if true x = refl
-same_if false x = refl
 
 cond_as : {X : Type 0} (t u w : Bool) (one rest : X) → cond ((t && u) && w) one rest ≡ cond t (cond (u && w) one rest) rest
 cond_as true u w one rest = refl

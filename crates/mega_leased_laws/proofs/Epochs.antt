@@ -4,18 +4,13 @@ use Rattle.std.proofs.Common.{◌≡◌, ◌⊎◌, inl, inr, ℕ, ◌+◌, ◌=
 use Rattle.std.specs.Prelude.{option_map}
 use Rattle.std.specs.Option.{option_map_or}
 use Rattle.mega_base.specs.declared.names.Epoch.{Epoch}
-use Rattle.mega_base.specs.declared.names.GroupId.{GroupId}
 use Rattle.mega_base.specs.declared.names.NodeId.{NodeId}
-use Rattle.mega_base.specs.declared.names.OpId.{OpId}
-use Rattle.mega_base.specs.declared.names.Position.{Position}
-use Rattle.mega_ballot.specs.declared.ballot.Ballot.{Ballot}
 use Rattle.mega_cluster.specs.declared.cluster.Cluster.{Cluster}
 use Rattle.mega_coordinator.specs.declared.answers.Counted.{Counted}
 use Rattle.mega_coordinator.specs.declared.answers.Counted.TheVariants.{No, Yes, Serving as ServingAnswer}
 use Rattle.mega_coordinator.specs.declared.lease.Lease.{Lease}
 use Rattle.mega_coordinator.specs.Lease.{counted_by, counts, epoch_of, granted_answer, is_majority, is_present, until_with}
 use Rattle.mega_coordinator.specs.History.{Ticks as TickCall, epoch_after, lease_of}
-use Rattle.mega_entry.specs.declared.content.Content.{Content}
 use Rattle.mega_handler.specs.Named.{Meanings}
 use Rattle.mega_locks.specs.declared.asked.Asked.{Asked}
 use Rattle.mega_locks.specs.declared.asked.Asked.TheVariants.{Granted, Renewed, Taken as TakenBy, Over}
@@ -25,12 +20,7 @@ use Rattle.mega_locks.specs.Rule.{answer, is_above, is_same}
 use Rattle.mega_locks.specs.declared.lock.Term.{Term}
 use Rattle.mega_locks.specs.History.{lapse_for, lock_of, nodes as lock_nodes}
 use Rattle.mega_locks.proofs.Marks.{same_is}
-use Rattle.mega_wal.specs.Acceptor.{accept_answer, promise_answer}
 use Rattle.mega_wal.specs.History.{is_epoch_below}
-use Rattle.mega_wal.specs.declared.answers.Promised.{Promised as PromiseAnswer}
-use Rattle.mega_wal.specs.declared.answers.Promised.TheVariants as promise
-use Rattle.mega_wal.specs.declared.answers.Voted.{Voted as AcceptAnswer}
-use Rattle.mega_wal.specs.declared.answers.Voted.TheVariants as vote
 use Rattle.mega_wire.specs.declared.message.Message.{Message}
 use Rattle.mega_wire.specs.declared.message.Body.{Body}
 use Rattle.mega_wire.specs.declared.message.Body.TheVariants.{Accept, Acquire, Dead, Fetch, Granted as GrantedBody, Invalidate, Invalidated, Past, Prepare, Top, Where}
@@ -44,22 +34,22 @@ use Rattle.mega_lease_laws.specs.of_run_laws.of_tape_laws.of_promises.Runs.{Happ
 use Rattle.mega_lease_laws.specs.of_run_laws.of_tape_laws.of_promises.of_rules.Met.{Met, Starts, Crashes, Ticks, Begins, Takes, Sends, Unsends, Grants, Lapses, Counts, Forgets, Serves, Loses, Validates, Invalidates, Decides, Applies, Answers}
 use Rattle.mega_lease_laws.specs.of_run_laws.of_tape_laws.of_promises.of_rules.Clock.{clock_of, is_up, start_of}
 use Rattle.mega_lease_laws.specs.of_run_laws.of_tape_laws.of_promises.of_rules.Coordinators.{coordinator_calls, counts_notes, forget_notes, grant_notes, is_cell_in, lost_note, tick_notes, tick_told}
-use Rattle.mega_lease_laws.specs.of_run_laws.of_tape_laws.of_promises.of_rules.Locks.{asked_for, cell_calls, grant_note, held_answer, held_at, lapse_note, lapses_at, last_grant, lock_answer}
-use Rattle.mega_lease_laws.specs.of_run_laws.of_tape_laws.of_promises.of_rules.Logs.{decided, top_of}
+use Rattle.mega_lease_laws.specs.of_run_laws.of_tape_laws.of_promises.of_rules.Locks.{asked_for, cell_calls, grant_note, lapse_note, lapses_at, last_grant, lock_answer}
+use Rattle.mega_lease_laws.specs.of_run_laws.of_tape_laws.of_promises.of_rules.Logs.{top_of}
 use Rattle.mega_lease_laws.specs.of_run_laws.of_tape_laws.of_promises.of_rules.Members.{cells, is_cell, is_full, is_voter, keep_of}
 use Rattle.mega_lease_laws.specs.of_run_laws.of_tape_laws.of_promises.of_rules.Operations.{Node, Setting}
-use Rattle.mega_lease_laws.specs.of_run_laws.of_tape_laws.of_promises.of_rules.Replies.{answer_to, fetched, where_served}
+use Rattle.mega_lease_laws.specs.of_run_laws.of_tape_laws.of_promises.of_rules.Replies.{answer_to, where_served}
 use Rattle.mega_lease_laws.specs.of_run_laws.of_tape_laws.of_promises.of_rules.Steps.{Begin, Event, Step, Take, Tick, crashed, lapse_notes, lease_notes, onto, start, start_notes, step, told_notes}
-use Rattle.mega_lease_laws.specs.of_run_laws.of_tape_laws.of_promises.of_rules.Voting.{acts, prepared, promise_body, vote_body, voted}
 use Rattle.mega_lease_laws.specs.of_run_laws.of_tape_laws.Lawful.{message}
 use Rattle.mega_lease_laws.proofs.of_run_laws.of_tape_laws.Ballots.{number_is}
 use Rattle.mega_lease_laws.proofs.of_run_laws.of_tape_laws.Lists.{some_is}
 use Rattle.mega_lease_laws.specs.of_run_laws.Justified.{Each, sent}
-use Rattle.mega_lease_laws.proofs.of_run_laws.Events.{onto_append}
+use Rattle.mega_lease_laws.proofs.of_run_laws.Events.{each_append as each_both, onto_append}
 use Rattle.mega_lease_laws.proofs.of_run_laws.Runs.{IsMark}
 use Rattle.mega_lease_laws.proofs.of_run_laws.Turns.{each_on}
 use Rattle.mega_valid_laws.specs.of_settled_laws.Covering.{Earlier}
-use Rattle.mega_valid_laws.proofs.of_settled_laws.Tapes.{IsSilent, each_both, earlier_stood, items_later, notes_silent, now_is, one_later, then_later}
+use Rattle.mega_lease_laws.proofs.of_run_laws.Shown.{IsSilent, notes_silent}
+use Rattle.mega_valid_laws.proofs.of_settled_laws.Tapes.{earlier_stood, items_later, now_is, one_later, then_later}
 use Rattle.mega_lease_laws.specs.Questions.{is_question}
 use Rattle.mega_valid_laws.specs.Leases.{MayServe, serving_on}
 use Rattle.mega_valid_laws.specs.Showing.{serving_met}
@@ -67,10 +57,12 @@ use Rattle.mega_valid_laws.proofs.Epochs.{Shown, granted_shown, serving_stands}
 use Rattle.mega_valid_laws.proofs.Folds.{IsOwn, tells_serving}
 use Rattle.mega_valid_laws.proofs.Shows.{ShownAt, nothing_shown, shown_keeps}
 use Rattle.mega_valid_laws.proofs.Walked.{AgreesAt, step_agrees}
+use Rattle.mega_lease_laws.proofs.of_run_laws.AnswerKinds.{IsHeldAnswer, IsLogAnswer, answer_kind}
 use Rattle.mega_leased_laws.specs.Items.{Are}
 use Rattle.mega_leased_laws.specs.Serving.{IsServing}
 use Rattle.mega_leased_laws.proofs.Forms.{Holds, Occurs, both_keep, down, run_holds, stepped}
-use Rattle.mega_leased_laws.proofs.Notes.{IsRest, Origin, fronts, step_origins, step_parts}
+use Rattle.mega_leased_laws.proofs.Tails.{fronts}
+use Rattle.mega_leased_laws.proofs.Notes.{IsRest, Origin, step_origins, step_parts}
 use Rattle.mega_leased_laws.proofs.Tapes.{Follows, IsFree, are_items, are_sent, both_follow, free_follows, free_notes}
 use Rattle.mega_leased_laws.proofs.Told.{step_met}
 use Rattle.mega_leased_laws.proofs.Locks.{IsOwed, IsStill, Matches}
@@ -600,22 +592,15 @@ module _ (c : Cluster) (few : length c.nodes ≤ 9) (h : Meanings) (now : Standi
   served_other true body reply other is = subst OtherBody (some_is body reply is) other
   served_other false body reply other is = cc
 
-  prepared_other : (op : OpId) (group : GroupId) (n : Position) (b : Ballot) (a : PromiseAnswer) → OtherBody (promise_body op group n b a)
-  prepared_other op group n b (promise.Yes report) = tt
-  prepared_other op group n b (promise.Shown greater) = tt
+  log_other : (body : Body) → IsLogAnswer body → OtherBody body
+  log_other (Acquire cell epoch clock) h = h
+  log_other (GrantedBody cell epoch clock) h = h
+  log_other _ h = tt
 
-  voted_other : (op : OpId) (group : GroupId) (n : Position) (b : Ballot) (e : Content) (a : AcceptAnswer) → OtherBody (vote_body op group n b e a)
-  voted_other op group n b e vote.Yes = tt
-  voted_other op group n b e (vote.Shown greater) = tt
-  voted_other op group n b e (vote.Other other) = tt
-
-  fetched_other : (op : OpId) (group : GroupId) (n : Position) (found : Option Content) → OtherBody (fetched op group n found)
-  fetched_other op group n None = tt
-  fetched_other op group n (Some entry) = tt
-
-  held_other : (op : OpId) (cell : ℕ) (node : NodeId) (o : Option Epoch) → OtherBody (held_answer op cell node o)
-  held_other op cell node None = tt
-  held_other op cell node (Some epoch) = tt
+  held_other : (body : Body) → IsHeldAnswer body → OtherBody body
+  held_other (Acquire cell epoch clock) h = h
+  held_other (GrantedBody cell epoch clock) h = h
+  held_other _ h = tt
 
   -- an epoch that is renewed was granted
   renewed_stands : (from : ℕ) (epoch : Epoch) → is_cell c me ≡ true → is_full c from ≡ true → asked_for c me met from epoch ≡ Renewed → Stands (Grant me (number from) epoch) now.tape
@@ -686,11 +671,11 @@ module _ (c : Cluster) (few : length c.nodes ≤ 9) (h : Meanings) (now : Standi
     reply_well : (from to : ℕ) (body : Body) (m : Message) → AskedFull c from body → m.to ≡ from → answer_to c me met from body ≡ Some m.body → SendsWell nodes m (behind (told_notes s met from body))
     reply_well from to (Acquire cell epoch clock) m full goes is = acquire_tells from cell epoch clock m full goes (cell == me && is_cell c me) refl (asked_for c me met from epoch) refl is
     reply_well from to (Where op group) m full goes is = other_well nodes _ m (served_other (is_voter c me) (Top op group (record { 0 = top_of met group })) m.body tt is)
-    reply_well from to (Accept op group n b e) m full goes is = other_well nodes _ m (served_other (is_voter c me) (voted (acts met group n.0) op group n b e) m.body (voted_other op group n b e (accept_answer (acts met group n.0) b e)) is)
-    reply_well from to (Prepare op group n b) m full goes is = other_well nodes _ m (served_other (is_voter c me) (prepared (acts met group n.0) op group n b) m.body (prepared_other op group n b (promise_answer (acts met group n.0) b)) is)
-    reply_well from to (Fetch op group n) m full goes is = other_well nodes _ m (served_other (is_voter c me) (fetched op group n (decided met group n.0)) m.body (fetched_other op group n (decided met group n.0)) is)
+    reply_well from to (Accept op group n b e) m full goes is = other_well nodes _ m (log_other m.body (answer_kind c me met from (Accept op group n b e) m.body is))
+    reply_well from to (Prepare op group n b) m full goes is = other_well nodes _ m (log_other m.body (answer_kind c me met from (Prepare op group n b) m.body is))
+    reply_well from to (Fetch op group n) m full goes is = other_well nodes _ m (log_other m.body (answer_kind c me met from (Fetch op group n) m.body is))
     reply_well from to (Invalidate op group n) m full goes is = other_well nodes _ m (served_other (is_full c me) (Invalidated op group n) m.body tt is)
-    reply_well from to (Dead op cell node) m full goes is = other_well nodes _ m (served_other (cell == me && is_cell c me) (held_answer op cell node (held_at c me met node.0)) m.body (held_other op cell node (held_at c me met node.0)) is)
+    reply_well from to (Dead op cell node) m full goes is = other_well nodes _ m (held_other m.body (answer_kind c me met from (Dead op cell node) m.body is))
     reply_well from to _ m full goes is = absurd (let none = is in cc)
 
   -- ---- how far the epochs come

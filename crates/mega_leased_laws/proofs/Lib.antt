@@ -1,4 +1,5 @@
 pub mod Forms
+pub mod Tails
 pub mod Notes
 pub mod Tapes
 pub mod Told
@@ -9,7 +10,6 @@ pub mod Pressing
 pub mod Reached
 pub mod Epochs
 pub mod Polls
-pub mod Walk
 pub mod Wheres
 pub mod Asking
 pub mod Beating

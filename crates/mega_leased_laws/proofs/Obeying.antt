@@ -1,21 +1,7 @@
 -- In every run a node that says that it is invalidated noted so behind the question.
-use Rattle.std.proofs.Common.{◌≡◌, inl, inr, ℕ, ◌+◌, ◌==◌, ◌&&◌, Bool, true, false, cond, List, [], ◌∷◌, ◌++◌, flat_map, Option, Some, None, refl, sym, subst}
-use Rattle.mega_base.specs.declared.names.Epoch.{Epoch}
-use Rattle.mega_base.specs.declared.names.GroupId.{GroupId}
-use Rattle.mega_base.specs.declared.names.NodeId.{NodeId}
-use Rattle.mega_base.specs.declared.names.OpId.{OpId}
-use Rattle.mega_base.specs.declared.names.Position.{Position}
-use Rattle.mega_ballot.specs.declared.ballot.Ballot.{Ballot}
+use Rattle.std.proofs.Common.{◌≡◌, inl, inr, ℕ, ◌+◌, Bool, true, false, cond, List, [], ◌∷◌, ◌++◌, flat_map, Some, refl, sym, subst}
 use Rattle.mega_cluster.specs.declared.cluster.Cluster.{Cluster}
-use Rattle.mega_entry.specs.declared.content.Content.{Content}
 use Rattle.mega_handler.specs.Named.{Meanings}
-use Rattle.mega_locks.specs.declared.asked.Asked.{Asked}
-use Rattle.mega_locks.specs.declared.asked.Asked.TheVariants.{Granted, Renewed, Taken as TakenBy, Over}
-use Rattle.mega_wal.specs.Acceptor.{accept_answer, promise_answer}
-use Rattle.mega_wal.specs.declared.answers.Promised.{Promised as PromiseAnswer}
-use Rattle.mega_wal.specs.declared.answers.Promised.TheVariants as promise
-use Rattle.mega_wal.specs.declared.answers.Voted.{Voted as AcceptAnswer}
-use Rattle.mega_wal.specs.declared.answers.Voted.TheVariants as vote
 use Rattle.mega_wire.specs.declared.message.Message.{Message}
 use Rattle.mega_wire.specs.declared.message.Body.{Body}
 use Rattle.mega_wire.specs.declared.message.Body.TheVariants.{Acquire, Accept, Dead, Fetch, Invalidate, Invalidated, Prepare, Top, Where}
@@ -26,22 +12,22 @@ use Rattle.mega_lease_laws.specs.of_run_laws.of_tape_laws.of_promises.Items.{num
 use Rattle.mega_lease_laws.specs.of_run_laws.of_tape_laws.of_promises.Promises.{Stands, StoodBefore}
 use Rattle.mega_lease_laws.specs.of_run_laws.of_tape_laws.of_promises.Runs.{Happening, IsRun, Standing, set_at, setting, with_items}
 use Rattle.mega_lease_laws.specs.of_run_laws.of_tape_laws.of_promises.of_rules.Met.{Met, Invalidates}
-use Rattle.mega_lease_laws.specs.of_run_laws.of_tape_laws.of_promises.of_rules.Locks.{asked_for, held_answer, held_at, lock_answer}
-use Rattle.mega_lease_laws.specs.of_run_laws.of_tape_laws.of_promises.of_rules.Logs.{decided, top_of}
-use Rattle.mega_lease_laws.specs.of_run_laws.of_tape_laws.of_promises.of_rules.Members.{is_cell, is_full, is_voter}
+use Rattle.mega_lease_laws.specs.of_run_laws.of_tape_laws.of_promises.of_rules.Logs.{top_of}
+use Rattle.mega_lease_laws.specs.of_run_laws.of_tape_laws.of_promises.of_rules.Members.{is_full, is_voter}
 use Rattle.mega_lease_laws.specs.of_run_laws.of_tape_laws.of_promises.of_rules.Operations.{Node, Setting}
-use Rattle.mega_lease_laws.specs.of_run_laws.of_tape_laws.of_promises.of_rules.Replies.{answer_to, fetched, where_served}
+use Rattle.mega_lease_laws.specs.of_run_laws.of_tape_laws.of_promises.of_rules.Replies.{answer_to, where_served}
 use Rattle.mega_lease_laws.specs.of_run_laws.of_tape_laws.of_promises.of_rules.Steps.{Begin, Event, Step, Take, Tick, start, start_items, step, told_notes}
-use Rattle.mega_lease_laws.specs.of_run_laws.of_tape_laws.of_promises.of_rules.Voting.{acts, prepared, promise_body, vote_body, voted}
 use Rattle.mega_lease_laws.specs.of_run_laws.of_tape_laws.Lawful.{message}
 use Rattle.mega_lease_laws.proofs.of_run_laws.of_tape_laws.Lists.{some_is}
 use Rattle.mega_lease_laws.specs.of_run_laws.Justified.{Each}
 use Rattle.mega_lease_laws.proofs.of_run_laws.Runs.{IsMark}
 use Rattle.mega_lease_laws.proofs.of_run_laws.Turns.{each_on}
 use Rattle.mega_valid_laws.specs.of_settled_laws.Covering.{Earlier}
-use Rattle.mega_valid_laws.proofs.of_settled_laws.Tapes.{IsSilent, items_later, notes_silent}
+use Rattle.mega_lease_laws.proofs.of_run_laws.Shown.{IsSilent, notes_silent}
+use Rattle.mega_valid_laws.proofs.of_settled_laws.Tapes.{items_later}
 use Rattle.mega_lease_laws.specs.Questions.{Asks, is_question}
 use Rattle.mega_valid_laws.proofs.Orders.{before_behind}
+use Rattle.mega_lease_laws.proofs.of_run_laws.AnswerKinds.{IsHeldAnswer, IsLockAnswer, IsLogAnswer, answer_kind}
 use Rattle.mega_leased_laws.specs.Items.{Are}
 use Rattle.mega_leased_laws.specs.Invalidations.{IsObeyed, Obeys}
 use Rattle.mega_leased_laws.proofs.Forms.{Anything, Holds, Occurs, any_keeps, run_holds, stepped}
@@ -74,28 +60,17 @@ served_other : (t : Bool) (body reply : Body) → OtherBody body → where_serve
 served_other true body reply h is = subst OtherBody (some_is body reply is) h
 served_other false body reply h is = cc
 
-prepared_other : (op : OpId) (group : GroupId) (n : Position) (b : Ballot) (a : PromiseAnswer) → OtherBody (promise_body op group n b a)
-prepared_other op group n b (promise.Yes report) = tt
-prepared_other op group n b (promise.Shown greater) = tt
+log_other : (body : Body) → IsLogAnswer body → OtherBody body
+log_other (Invalidated op group n) h = h
+log_other _ h = tt
 
-voted_other : (op : OpId) (group : GroupId) (n : Position) (b : Ballot) (e : Content) (a : AcceptAnswer) → OtherBody (vote_body op group n b e a)
-voted_other op group n b e vote.Yes = tt
-voted_other op group n b e (vote.Shown greater) = tt
-voted_other op group n b e (vote.Other other) = tt
+held_other : (body : Body) → IsHeldAnswer body → OtherBody body
+held_other (Invalidated op group n) h = h
+held_other _ h = tt
 
-fetched_other : (op : OpId) (group : GroupId) (n : Position) (found : Option Content) → OtherBody (fetched op group n found)
-fetched_other op group n None = tt
-fetched_other op group n (Some entry) = tt
-
-lock_other : (cell : ℕ) (epoch : Epoch) (clock : ℕ) (a : Asked) → OtherBody (lock_answer cell epoch clock a)
-lock_other cell epoch clock Granted = tt
-lock_other cell epoch clock Renewed = tt
-lock_other cell epoch clock (TakenBy greatest) = tt
-lock_other cell epoch clock (Over greatest) = tt
-
-held_other : (op : OpId) (cell : ℕ) (node : NodeId) (o : Option Epoch) → OtherBody (held_answer op cell node o)
-held_other op cell node None = tt
-held_other op cell node (Some epoch) = tt
+lock_other : (body : Body) → IsLockAnswer body → OtherBody body
+lock_other (Invalidated op group n) h = h
+lock_other _ h = tt
 
 module _ (c : Cluster) (me : ℕ) (met : List Met) (nodes : ℕ → Node) (base : List Item) (rest : List Met) where
   -- the tape behind the notes of what a message tells, and the rest
@@ -119,11 +94,11 @@ module _ (c : Cluster) (me : ℕ) (met : List Met) (nodes : ℕ → Node) (base 
           later : Earlier (Invalid (number me) group n ∷ base) (behind (Invalidates group n.0 ∷ []))
           later = items_later c nodes (flat_map (shown me) rest) (Invalid (number me) group n ∷ base)
   reply_obeys h j from to (Where op group) m own stands mine is = other_obeys _ m m.body (served_other (is_voter c me) (Top op group (record { 0 = top_of met group })) m.body tt is)
-  reply_obeys h j from to (Accept op group n b e) m own stands mine is = other_obeys _ m m.body (served_other (is_voter c me) (voted (acts met group n.0) op group n b e) m.body (voted_other op group n b e (accept_answer (acts met group n.0) b e)) is)
-  reply_obeys h j from to (Prepare op group n b) m own stands mine is = other_obeys _ m m.body (served_other (is_voter c me) (prepared (acts met group n.0) op group n b) m.body (prepared_other op group n b (promise_answer (acts met group n.0) b)) is)
-  reply_obeys h j from to (Fetch op group n) m own stands mine is = other_obeys _ m m.body (served_other (is_voter c me) (fetched op group n (decided met group n.0)) m.body (fetched_other op group n (decided met group n.0)) is)
-  reply_obeys h j from to (Dead op cell node) m own stands mine is = other_obeys _ m m.body (served_other (cell == me && is_cell c me) (held_answer op cell node (held_at c me met node.0)) m.body (held_other op cell node (held_at c me met node.0)) is)
-  reply_obeys h j from to (Acquire cell epoch clock) m own stands mine is = other_obeys _ m m.body (served_other (cell == me && is_cell c me) (lock_answer cell epoch clock (asked_for c me met from epoch)) m.body (lock_other cell epoch clock (asked_for c me met from epoch)) is)
+  reply_obeys h j from to (Accept op group n b e) m own stands mine is = other_obeys _ m m.body (log_other m.body (answer_kind c me met from (Accept op group n b e) m.body is))
+  reply_obeys h j from to (Prepare op group n b) m own stands mine is = other_obeys _ m m.body (log_other m.body (answer_kind c me met from (Prepare op group n b) m.body is))
+  reply_obeys h j from to (Fetch op group n) m own stands mine is = other_obeys _ m m.body (log_other m.body (answer_kind c me met from (Fetch op group n) m.body is))
+  reply_obeys h j from to (Dead op cell node) m own stands mine is = other_obeys _ m m.body (held_other m.body (answer_kind c me met from (Dead op cell node) m.body is))
+  reply_obeys h j from to (Acquire cell epoch clock) m own stands mine is = other_obeys _ m m.body (lock_other m.body (answer_kind c me met from (Acquire cell epoch clock) m.body is))
   reply_obeys h j from to _ m own stands mine is = absurd (let none = is in cc)
 
 abbrev Obeying : Cluster → List Item → (ℕ → Node) → (ℕ → List Met) → Type 0

@@ -1,10 +1,9 @@
 -- In every run an operation tells a node to invalidate a position only where a majority accepted some entry there.
-use Rattle.std.proofs.Common.{◌≡◌, ℕ, ◌+◌, ◌==◌, ◌&&◌, Bool, true, false, cond, List, [], ◌∷◌, ◌++◌, fold, flat_map, map, Option, Some, None, refl, sym, ◌∙◌, subst}
+use Rattle.std.proofs.Common.{◌≡◌, ℕ, ◌+◌, Bool, true, false, cond, List, [], ◌∷◌, ◌++◌, fold, flat_map, map, Option, Some, None, refl, sym, subst}
 use Rattle.std.specs.List.{All}
 use Rattle.std.proofs.lemmas.List.Elements.{All-append, All-cons, All-nil, All-weaker}
 use Rattle.mega_base.specs.declared.names.Epoch.{Epoch}
 use Rattle.mega_base.specs.declared.names.GroupId.{GroupId}
-use Rattle.mega_base.specs.declared.names.NodeId.{NodeId}
 use Rattle.mega_base.specs.declared.names.OpId.{OpId}
 use Rattle.mega_base.specs.declared.names.Position.{Position}
 use Rattle.mega_ballot.specs.declared.ballot.Ballot.{Ballot}
@@ -13,8 +12,6 @@ use Rattle.mega_coordinator.specs.declared.answers.NotValid.{NotValid}
 use Rattle.mega_entry.specs.declared.content.Content.{Content}
 use Rattle.mega_entry.specs.declared.content.Enter.{Enter}
 use Rattle.mega_handler.specs.Named.{Meanings}
-use Rattle.mega_locks.specs.declared.asked.Asked.{Asked}
-use Rattle.mega_locks.specs.declared.asked.Asked.TheVariants.{Granted, Renewed, Taken as TakenBy, Over}
 use Rattle.mega_outcome.specs.declared.answer.Answer.{Answer}
 use Rattle.mega_outcome.specs.declared.request.Request.{Request}
 use Rattle.mega_lease_laws.specs.of_run_laws.of_tape_laws.of_promises.of_rules.of_read.of_propose.declared.round.Cover.{Cover}
@@ -26,14 +23,9 @@ use Rattle.mega_lease_laws.specs.of_run_laws.of_tape_laws.of_promises.of_rules.o
 use Rattle.mega_lease_laws.specs.of_run_laws.of_tape_laws.of_promises.of_rules.of_read.declared.reading.Stage.TheVariants.{Catching}
 use Rattle.mega_lease_laws.specs.of_run_laws.of_tape_laws.of_promises.of_rules.of_read.declared.reading.Reader.{Reader}
 use Rattle.mega_lease_laws.specs.of_run_laws.of_tape_laws.of_promises.of_rules.of_read.Catching.{asked_by, fetches, seeks, site}
-use Rattle.mega_wal.specs.Acceptor.{accept_answer, promise_answer}
-use Rattle.mega_wal.specs.declared.answers.Promised.{Promised as PromiseAnswer}
-use Rattle.mega_wal.specs.declared.answers.Promised.TheVariants as promise
-use Rattle.mega_wal.specs.declared.answers.Voted.{Voted as AcceptAnswer}
-use Rattle.mega_wal.specs.declared.answers.Voted.TheVariants as vote
 use Rattle.mega_wire.specs.declared.message.Message.{Message}
 use Rattle.mega_wire.specs.declared.message.Body.{Body}
-use Rattle.mega_wire.specs.declared.message.Body.TheVariants.{Accept, Acquire, Dead, Fetch, Invalidate, Invalidated, Prepare, Top, Where}
+use Rattle.mega_wire.specs.declared.message.Body.TheVariants.{Invalidate, Where}
 use Rattle.mega_lease_laws.specs.of_run_laws.of_tape_laws.of_promises.of_transcript.declared.item.Item.{Item}
 use Rattle.mega_lease_laws.specs.of_run_laws.of_tape_laws.of_promises.of_transcript.declared.item.Item.TheVariants.{Sent}
 use Rattle.mega_lease_laws.specs.of_run_laws.of_tape_laws.of_promises.of_transcript.Tape.{sent_count}
@@ -42,24 +34,22 @@ use Rattle.mega_lease_laws.specs.of_run_laws.of_tape_laws.of_promises.Runs.{Happ
 use Rattle.mega_lease_laws.specs.of_run_laws.of_tape_laws.of_promises.of_rules.Met.{Met, Begins, Takes, Ticks}
 use Rattle.mega_lease_laws.specs.of_run_laws.of_tape_laws.of_promises.of_rules.Clock.{begun_of, clock_of, start_of}
 use Rattle.mega_lease_laws.specs.of_run_laws.of_tape_laws.of_promises.of_rules.Coordinators.{acquires_at, refused_at}
-use Rattle.mega_lease_laws.specs.of_run_laws.of_tape_laws.of_promises.of_rules.Locks.{asked_for, held_answer, held_at, lock_answer}
-use Rattle.mega_lease_laws.specs.of_run_laws.of_tape_laws.of_promises.of_rules.Logs.{decided, top_of}
-use Rattle.mega_lease_laws.specs.of_run_laws.of_tape_laws.of_promises.of_rules.Members.{is_cell, is_full, is_voter, nodes}
+use Rattle.mega_lease_laws.specs.of_run_laws.of_tape_laws.of_promises.of_rules.Members.{nodes}
 use Rattle.mega_lease_laws.specs.of_run_laws.of_tape_laws.of_promises.of_rules.Operations.{Node, Now, Operation, Phase, Proposes, Reads, Setting}
 use Rattle.mega_lease_laws.specs.of_run_laws.of_tape_laws.of_promises.of_rules.Acting.{completes_read, ends, read_begun, reader_of, sends_more, validated_by}
-use Rattle.mega_lease_laws.specs.of_run_laws.of_tape_laws.of_promises.of_rules.Replies.{answer_to, fetched, reply_message, reply_to, where_served}
+use Rattle.mega_lease_laws.specs.of_run_laws.of_tape_laws.of_promises.of_rules.Replies.{answer_to, reply_message, reply_to}
 use Rattle.mega_lease_laws.specs.of_run_laws.of_tape_laws.of_promises.of_rules.Steps.{Begin, Decision, Event, Heard, Step, Take, Tick, acts_in_turn, all_act, at_first, at_open, background, decision_note, does_due, first_settled, hears_message, if_new, is_out, lapse_notes, last_answer, lease_notes, new_operation, news, onto, op_of, portion_of, refusal, start, start_items, step, stored_after, taken, ticked, told_decision, told_notes, unless_refused}
-use Rattle.mega_lease_laws.specs.of_run_laws.of_tape_laws.of_promises.of_rules.Voting.{acts as acts_met, prepared, promise_body, vote_body, voted}
 use Rattle.mega_lease_laws.specs.of_run_laws.of_tape_laws.Places.{Place}
-use Rattle.mega_lease_laws.proofs.of_run_laws.of_tape_laws.Lists.{some_is}
 use Rattle.mega_lease_laws.specs.of_run_laws.Justified.{Chosen as HeardChosen, Each, Knows, Justified, sent}
 use Rattle.mega_lease_laws.proofs.of_run_laws.Opened.{Backed, BackedStage, at_place}
 use Rattle.mega_lease_laws.proofs.of_run_laws.Runs.{IsMark, nobody}
 use Rattle.mega_lease_laws.proofs.of_run_laws.Standing.{Good}
 use Rattle.mega_lease_laws.proofs.of_run_laws.Turns.{Held, each_on}
 use Rattle.mega_valid_laws.specs.of_settled_laws.Covering.{Earlier}
-use Rattle.mega_valid_laws.proofs.of_settled_laws.Tapes.{IsSilent, each_both, items_later, notes_silent, now_is, one_later, then_later}
-use Rattle.mega_valid_laws.proofs.of_settled_laws.Walk.{Walks, begun_it, goes_on_it}
+use Rattle.mega_lease_laws.proofs.of_run_laws.Shown.{IsSilent, notes_silent}
+use Rattle.mega_lease_laws.proofs.of_run_laws.Events.{each_append as each_both}
+use Rattle.mega_valid_laws.proofs.of_settled_laws.Tapes.{items_later, now_is, one_later, then_later}
+use Rattle.mega_valid_laws.proofs.of_settled_laws.Walk.{Walks, begun_it, caught, goes_on_it}
 use Rattle.mega_lease_laws.proofs.Acting.{Acquires, acquires_are}
 use Rattle.mega_lease_laws.proofs.of_node_laws.Rounds.{MayPropose, due_hold}
 use Rattle.mega_lease_laws.proofs.of_node_laws.Reading.{MayRead, falls_due_hold, seeks_hold}
@@ -67,6 +57,7 @@ use Rattle.mega_lease_laws.proofs.of_node_laws.Acting.{MayAct, background_hold, 
 use Rattle.mega_lease_laws.proofs.of_node_laws.Walk.{begun_hold}
 use Rattle.mega_valid_laws.specs.Leases.{WasChosen}
 use Rattle.mega_valid_laws.proofs.Joint.{chosen_on, vote_heard}
+use Rattle.mega_lease_laws.proofs.of_run_laws.AnswerKinds.{IsAnswer, answer_kind}
 use Rattle.mega_leased_laws.specs.Items.{Are}
 use Rattle.mega_leased_laws.specs.Invalidations.{IsPressed, Presses}
 use Rattle.mega_leased_laws.proofs.Forms.{Anything, Holds, Occurs, any_keeps, run_holds, stepped}
@@ -147,18 +138,22 @@ module _ (s : Setting) (tape : List Item) where
       by stored (Some why) = h
       by stored None = h
 
-  walks : Walks s (λ op now. AllSay now) (λ now o. AllSay now)
+  walks : Walks s (λ op now. AllSay now) (λ op now. AllSay now) (λ now o. AllSay now)
   walks = record {
     keeps_it = λ now o h. h;
     ends_it = λ now o answer h. h;
-    completes_it = λ now o group noted asked p search h. completes_say now group noted asked p search h;
+    completes_it = λ now o group noted asked p search all h. completes_say now group noted asked p search h;
     seeks_it = λ now o group r least h. mild_more now (seeks (reader_of s o.id group) r least (clock_of now.met)).sends (seeks_hold Mild (reader_of s o.id group) (mild_read (reader_of s o.id group)) r least (clock_of now.met)) h;
-    asks_it = λ now o group r n leader own promised h. more_say now (asks (site (reader_of s o.id group) (asked_by r) n) leader own (clock_of now.met)).sends (tt, tt) h;
+    asks_it = λ now o group noted asked p search leader own promised h.
+        more_say now (asks (site (reader_of s o.id group) (asked_by (caught noted asked p search)) (p + 1)) leader own (clock_of now.met)).sends (tt, tt) h;
     visits_it = λ now o before r group message h. mild_more now (read_begun s now o group (asked_by r)).sends (begun_hold Mild s (mild_act s) now o group (asked_by r)) h;
+    first_it = λ now id request clock group message h.
+        mild_more now (read_begun s now (new_operation id request clock) group []).sends (begun_hold Mild s (mild_act s) now (new_operation id request clock) group []) h;
+    ends_first = λ now id answer h. h;
   }
 
   turn_says : (now : Now) (t : Heard) → Each (Says s.cluster tape) t.sends → AllSay now → AllSay (acts_in_turn s now t)
-  turn_says now t says h = goes_on_it s (λ op next. AllSay next) (λ next o. AllSay next) walks (sends_more now t.sends) t.operation (more_say now t.sends says h)
+  turn_says now t says h = goes_on_it s (λ op next. AllSay next) (λ op next. AllSay next) (λ next o. AllSay next) walks (sends_more now t.sends) t.operation (more_say now t.sends says h)
 
   all_heard : (clock : ℕ) (m : Message) (os : List Operation) (now : Now) → AllSay now → AllSay (all_act s now (map (hears_message s clock m) os))
   all_heard clock m [] now h = h
@@ -182,7 +177,7 @@ module _ (s : Setting) (tape : List Item) where
       by false = turn_says now (does_due s clock o) (due_says clock o.id o.request o.began o.visited o.message o.phase met backed.0) h
 
   begins_say : (now : Now) (id : OpId) (request : Request) (clock : ℕ) (refusal : Option Answer) → AllSay now → AllSay (unless_refused s now (new_operation id request clock) refusal)
-  begins_say now id request clock refusal h = begun_it s (λ op next. AllSay next) (λ next o. AllSay next) walks now id clock request refusal (λ none. h) (λ answer. h)
+  begins_say now id request clock refusal h = begun_it s (λ op next. AllSay next) (λ op next. AllSay next) (λ next o. AllSay next) walks now id clock request refusal (λ none. h) (λ answer. h)
 
   -- ---- what a node sends by itself
 
@@ -191,42 +186,16 @@ module _ (s : Setting) (tape : List Item) where
 
   -- ---- its reply
 
-  served_mild : (t : Bool) (body : Body) → IsMild body → (o : Option Body) → where_served t body ≡ o → (reply : Body) → o ≡ Some reply → IsMild reply
-  served_mild true body h o is reply k = subst IsMild (some_is body reply (is ∙ k)) h
-  served_mild false body h o is reply k = absurd (let none = is ∙ k in cc)
+  no_invalidate : (asked : Body) (op : OpId) (group : GroupId) (n : Position) → IsAnswer asked (Invalidate op group n) → ⊥
+  no_invalidate (Where o g) op group n h = h
+  no_invalidate _ op group n h = h
 
-  prepared_mild : (op : OpId) (group : GroupId) (n : Position) (b : Ballot) (a : PromiseAnswer) → IsMild (promise_body op group n b a)
-  prepared_mild op group n b (promise.Yes report) = tt
-  prepared_mild op group n b (promise.Shown greater) = tt
-
-  voted_mild : (op : OpId) (group : GroupId) (n : Position) (b : Ballot) (e : Content) (a : AcceptAnswer) → IsMild (vote_body op group n b e a)
-  voted_mild op group n b e vote.Yes = tt
-  voted_mild op group n b e (vote.Shown greater) = tt
-  voted_mild op group n b e (vote.Other other) = tt
-
-  fetched_body_mild : (op : OpId) (group : GroupId) (n : Position) (found : Option Content) → IsMild (fetched op group n found)
-  fetched_body_mild op group n None = tt
-  fetched_body_mild op group n (Some entry) = tt
-
-  lock_mild : (cell : ℕ) (epoch : Epoch) (clock : ℕ) (a : Asked) → IsMild (lock_answer cell epoch clock a)
-  lock_mild cell epoch clock Granted = tt
-  lock_mild cell epoch clock Renewed = tt
-  lock_mild cell epoch clock (TakenBy greatest) = tt
-  lock_mild cell epoch clock (Over greatest) = tt
-
-  held_mild : (op : OpId) (cell : ℕ) (node : NodeId) (o : Option Epoch) → IsMild (held_answer op cell node o)
-  held_mild op cell node None = tt
-  held_mild op cell node (Some epoch) = tt
+  kind_mild : (asked reply : Body) → IsAnswer asked reply → IsMild reply
+  kind_mild asked (Invalidate op group n) h = no_invalidate asked op group n h
+  kind_mild asked _ h = tt
 
   answer_mild : (met : List Met) (from : ℕ) (body reply : Body) → answer_to s.cluster s.me met from body ≡ Some reply → IsMild reply
-  answer_mild met from (Where op group) reply is = served_mild (is_voter s.cluster s.me) (Top op group (record { 0 = top_of met group })) tt _ refl reply is
-  answer_mild met from (Accept op group n b e) reply is = served_mild (is_voter s.cluster s.me) (voted (acts_met met group n.0) op group n b e) (voted_mild op group n b e (accept_answer (acts_met met group n.0) b e)) _ refl reply is
-  answer_mild met from (Prepare op group n b) reply is = served_mild (is_voter s.cluster s.me) (prepared (acts_met met group n.0) op group n b) (prepared_mild op group n b (promise_answer (acts_met met group n.0) b)) _ refl reply is
-  answer_mild met from (Fetch op group n) reply is = served_mild (is_voter s.cluster s.me) (fetched op group n (decided met group n.0)) (fetched_body_mild op group n (decided met group n.0)) _ refl reply is
-  answer_mild met from (Invalidate op group n) reply is = served_mild (is_full s.cluster s.me) (Invalidated op group n) tt _ refl reply is
-  answer_mild met from (Dead op cell node) reply is = served_mild (cell == s.me && is_cell s.cluster s.me) (held_answer op cell node (held_at s.cluster s.me met node.0)) (held_mild op cell node (held_at s.cluster s.me met node.0)) _ refl reply is
-  answer_mild met from (Acquire cell epoch clock) reply is = served_mild (cell == s.me && is_cell s.cluster s.me) (lock_answer cell epoch clock (asked_for s.cluster s.me met from epoch)) (lock_mild cell epoch clock (asked_for s.cluster s.me met from epoch)) _ refl reply is
-  answer_mild met from _ reply is = absurd (let none = is in cc)
+  answer_mild met from body reply is = kind_mild body reply (answer_kind s.cluster s.me met from body reply is)
 
   reply_mild : (met : List Met) (m : Message) → All Mild (reply_to s.cluster s.me met m)
   reply_mild met m = by (answer_to s.cluster s.me met m.from m.body) refl

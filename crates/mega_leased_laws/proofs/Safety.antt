@@ -24,19 +24,18 @@ use Rattle.mega_lease_laws.specs.of_run_laws.of_tape_laws.of_promises.of_rules.O
 use Rattle.mega_lease_laws.specs.of_run_laws.of_tape_laws.of_promises.of_rules.Steps.{Begin, Event, Step, Take, Tick, crashed, onto, start, start_items, start_notes, step}
 use Rattle.mega_lease_laws.proofs.of_run_laws.of_tape_laws.Ballots.{number_is, number_self}
 use Rattle.mega_lease_laws.specs.of_run_laws.Justified.{Each, sent}
-use Rattle.mega_lease_laws.proofs.of_run_laws.Events.{onto_append}
+use Rattle.mega_lease_laws.proofs.of_run_laws.Events.{each_append as each_both, onto_append}
 use Rattle.mega_lease_laws.proofs.of_run_laws.Runs.{IsMark}
 use Rattle.mega_lease_laws.proofs.of_run_laws.Turns.{each_on}
-use Rattle.mega_valid_laws.proofs.of_settled_laws.Tapes.{each_both}
 use Rattle.mega_valid_laws.specs.Leases.{counted_on}
-use Rattle.mega_valid_laws.proofs.Folds.{IsOwn, IsOwnNote, Told, with_told}
+use Rattle.mega_valid_laws.proofs.Folds.{IsOwn, IsOwnNote, Told, with_told, same_if}
 use Rattle.mega_leased_laws.proofs.Forms.{Holds, down, stepped}
 use Rattle.mega_leased_laws.proofs.Told.{cuts_told, falls_told, marks_told, starts_told, step_met, steps_told}
 use Rattle.mega_leased_laws.proofs.Locks.{IsOwed, IsStill}
 use Rattle.mega_leased_laws.proofs.Cells.{by_node, occurs_own, own_noted, sends_still, start_owed, step_still}
 use Rattle.mega_leased_laws.proofs.Reached.{Grown, IsWithin, Reached, asked_present, grown_onto, present_before, present_reached, reached_grown, reached_start}
 use Rattle.mega_leased_laws.proofs.Asking.{same_is}
-use Rattle.mega_leased_laws.proofs.Beating.{Uncalled, uncalled_all}
+use Rattle.mega_valid_laws.proofs.NoCalls.{Uncalled, uncalled_all}
 use Rattle.mega_leased_laws.proofs.Counting.{CountNote, Counting, CountsAt, CountsNow, counted_met, counted_then, lease_at, next_counted, none_slot, present_at, step_counted, step_counts, tells_counted}
 use Rattle.mega_leased_laws.proofs.Validating.{Ruled, owed_no_call}
 
@@ -50,10 +49,6 @@ lapsed_on node epoch (_ ∷ before) cell = lapsed_on node epoch before cell
 abbrev next_lapsed : ℕ → Epoch → Met → Bool → Bool
 next_lapsed node epoch (Lapses to e) x = (to == node && is_same e epoch) || x
 next_lapsed node epoch _ x = x
-
-same_if : {X : Type 0} (t : Bool) (x : X) → x ≡ cond t x x
-same_if true x = refl
-same_if false x = refl
 
 same_self : (e : Epoch) → is_same e e ≡ true
 same_self e = joined (e.start == e.start) (e.count == e.count) (number_self e.start) (number_self e.count)

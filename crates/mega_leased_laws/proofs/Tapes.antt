@@ -12,7 +12,7 @@ use Rattle.mega_lease_laws.specs.of_run_laws.of_tape_laws.of_promises.Runs.{brea
 use Rattle.mega_lease_laws.specs.of_run_laws.of_tape_laws.of_promises.of_rules.Met.{Met}
 use Rattle.mega_lease_laws.specs.of_run_laws.of_tape_laws.of_promises.of_rules.Operations.{Node}
 use Rattle.mega_lease_laws.specs.of_run_laws.Justified.{Each, sent}
-use Rattle.mega_valid_laws.proofs.of_settled_laws.Tapes.{each_both}
+use Rattle.mega_lease_laws.proofs.of_run_laws.Events.{each_append as each_both}
 use Rattle.mega_leased_laws.specs.Items.{Are}
 
 pub each_all : {X : Type 0} (P Q : X → Type 0) → ((x : X) → P x → Q x) → (xs : List X) → All P xs → Each Q xs

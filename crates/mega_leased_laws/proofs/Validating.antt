@@ -53,7 +53,7 @@ use Rattle.mega_lease_laws.specs.of_run_laws.of_tape_laws.Polls.{IsPolled, has_a
 use Rattle.mega_lease_laws.proofs.of_run_laws.of_tape_laws.Ballots.{number_is, number_self}
 use Rattle.mega_lease_laws.proofs.of_run_laws.of_tape_laws.Lists.{some_is}
 use Rattle.mega_lease_laws.specs.of_run_laws.Justified.{Each, sent}
-use Rattle.mega_lease_laws.proofs.of_run_laws.Events.{IsAnswer, IsPlain, lapses_plain, lease_plain, onto_append, told_plain}
+use Rattle.mega_lease_laws.proofs.of_run_laws.Events.{IsAnswer, IsPlain, each_append as each_both, lapses_plain, lease_plain, onto_append, told_plain}
 use Rattle.mega_lease_laws.proofs.of_run_laws.Noting.{Lasts, all_act_it, begun_it, ticked_it}
 use Rattle.mega_lease_laws.proofs.of_run_laws.Runs.{IsMark, Keeps, nobody}
 use Rattle.mega_lease_laws.proofs.of_run_laws.Sending.{took_on}
@@ -61,7 +61,8 @@ use Rattle.mega_lease_laws.proofs.of_run_laws.Standing.{Good}
 use Rattle.mega_lease_laws.proofs.of_run_laws.Steps.{never_asked}
 use Rattle.mega_lease_laws.proofs.of_run_laws.Turns.{Held, IsRising, Known, each_on}
 use Rattle.mega_valid_laws.specs.of_settled_laws.Covering.{Earlier}
-use Rattle.mega_valid_laws.proofs.of_settled_laws.Tapes.{IsSilent, each_both, earlier_stood, items_later, notes_silent, now_is, one_later, sent_later, then_later}
+use Rattle.mega_lease_laws.proofs.of_run_laws.Shown.{IsSilent, notes_silent}
+use Rattle.mega_valid_laws.proofs.of_settled_laws.Tapes.{earlier_stood, items_later, now_is, one_later, sent_later, then_later}
 use Rattle.mega_lease_laws.proofs.Acting.{Acquires, acquires_are}
 use Rattle.mega_valid_laws.specs.Leases.{asks_end, has_polled, serving_on}
 use Rattle.mega_valid_laws.specs.Showing.{next_serving, serving_met}
@@ -72,14 +73,16 @@ use Rattle.mega_leased_laws.specs.Items.{Are}
 use Rattle.mega_leased_laws.specs.Serving.{IsServing}
 use Rattle.mega_leased_laws.specs.Validation.{IsValidated}
 use Rattle.mega_leased_laws.proofs.Forms.{Holds, Occurs, both_keep, down, run_holds, stepped}
-use Rattle.mega_leased_laws.proofs.Notes.{front_apart, fronts, step_parts}
+use Rattle.mega_leased_laws.proofs.Tails.{front_apart, fronts}
+use Rattle.mega_leased_laws.proofs.Notes.{step_parts}
 use Rattle.mega_leased_laws.proofs.Tapes.{Follows, IsFree, are_items, both_follow, free_follows, free_notes}
 use Rattle.mega_leased_laws.proofs.Told.{cuts_told, falls_told, marks_told, starts_told, step_met, steps_told, told_notes_of}
 use Rattle.mega_leased_laws.proofs.Locks.{IsOwed}
 use Rattle.mega_leased_laws.proofs.Cells.{Celling, IsGiven, at_me, by_node, celling_holds, nothing_celling, occurs_own, of_given, own_noted, start_owed}
 use Rattle.mega_leased_laws.proofs.Epochs.{Before, Epoching, IsTold, Tells, epoching_holds, nothing_epoching, rest_serves, sends_serve}
 use Rattle.mega_leased_laws.proofs.Asking.{AllActed, Kept, MayNote, OpenAt, Own, OwnBody, ValidNote, all_heard_acted, all_ticked_acted, begins_acted, phase_on, polls_both, polls_in}
-use Rattle.mega_leased_laws.proofs.Beating.{Beats, IsIdle, IsNoCall, NoGrant, NoGrantBody, Uncalled, beaten_at, beaten_met, beaten_on, fronts_beat, fronts_no_call, idle_none, invalid_most, next_beaten, step_beats, step_idle, step_unchanged, tells_beaten, uncalled_all, uncalled_idle, uncalled_serves, own_idle}
+use Rattle.mega_valid_laws.proofs.NoCalls.{IsNoCall, Uncalled, uncalled_all}
+use Rattle.mega_leased_laws.proofs.Beating.{Beats, IsIdle, NoGrant, NoGrantBody, beaten_at, beaten_met, beaten_on, fronts_beat, fronts_no_call, idle_none, invalid_most, next_beaten, step_beats, step_idle, step_unchanged, tells_beaten, uncalled_idle, uncalled_serves, own_idle}
 
 -- ---- what a node sends by itself, and its reply, asks no end of a log and proposes nothing
 

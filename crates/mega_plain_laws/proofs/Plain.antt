@@ -43,7 +43,7 @@ use Rattle.mega_plain_laws.proofs.Events.{run_spelled}
 
 -- ---- what is found
 
-both_true : (a b : Bool) → (a && b) ≡ true → (a ≡ true) × (b ≡ true)
+pub both_true : (a b : Bool) → (a && b) ≡ true → (a ≡ true) × (b ≡ true)
 both_true true b h = (refl, h)
 both_true false b h = cc
 
@@ -65,7 +65,7 @@ plain_cell ps cell (Some property) named fits held =
     let parts = both_true (is_count property.need (length cell.values)) (list_all (has_kind property.kind) cell.values) fits in
     (named property refl, (both_are (list_all (has_kind property.kind) cell.values) (cond (is_repeated property.need) (nat_lt 0 (length cell.values)) (length cell.values == 1)) parts.1 (counted property.need (length cell.values) parts.0), held))
 
-plain_cells : (ps : List Property) (low : ℕ) (cells : List Cell) → ((n : ℕ) (property : Property) → numbered ps n ≡ Some property → names_property ps n property.name ≡ true) → cells_fit ps low cells ≡ true → AllByRecursion HoldsCell cells → ArePlainCells ps low cells
+pub plain_cells : (ps : List Property) (low : ℕ) (cells : List Cell) → ((n : ℕ) (property : Property) → numbered ps n ≡ Some property → names_property ps n property.name ≡ true) → cells_fit ps low cells ≡ true → AllByRecursion HoldsCell cells → ArePlainCells ps low cells
 plain_cells ps low [] named fits held = tt
 plain_cells ps low (c ∷ cs) named fits held =
     let parts = both_true (nat_lt low c.property) (cell_fits (numbered ps c.property) c.values && cells_fit ps c.property cs) fits in

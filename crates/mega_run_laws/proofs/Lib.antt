@@ -1,4 +1,5 @@
 pub mod Replied
+pub mod AnswerKinds
 pub mod Told
 pub mod Counted
 pub mod Sending
@@ -24,6 +25,7 @@ pub mod Silent
 pub mod Standing
 pub mod Stepping
 pub mod Events
+pub mod Shown
 pub mod Deciding
 pub mod Whole
 pub mod Ticking

@@ -1,37 +1,28 @@
 -- What a node answers to one that polls: no position below those that it accepted.
-use Rattle.std.proofs.Common.{◌≡◌, ◌⊎◌, inl, inr, ℕ, ◌==◌, ◌&&◌, ◌≤◌, max, Bool, true, false, cond, List, [], ◌∷◌, Option, Some, None, refl, sym, subst, arith}
+use Rattle.std.proofs.Common.{◌≡◌, ◌⊎◌, inl, inr, ℕ, ◌==◌, ◌&&◌, ◌≤◌, max, Bool, true, false, cond, List, [], ◌∷◌, Some, refl, sym, subst, arith}
 use Rattle.mega_base.specs.declared.names.GroupId.{GroupId}
 use Rattle.mega_base.specs.declared.names.OpId.{OpId}
-use Rattle.mega_base.specs.declared.names.NodeId.{NodeId}
-use Rattle.mega_base.specs.declared.names.Epoch.{Epoch}
-use Rattle.mega_base.specs.declared.names.Position.{Position}
 use Rattle.mega_ballot.specs.declared.ballot.Ballot.{Ballot}
 use Rattle.mega_cluster.specs.declared.cluster.Cluster.{Cluster}
 use Rattle.mega_entry.specs.declared.content.Content.{Content}
 use Rattle.mega_wire.specs.declared.message.Message.{Message}
 use Rattle.mega_wire.specs.declared.message.Body.{Body}
 use Rattle.mega_wire.specs.declared.message.Body.TheVariants.{Accept, Accepted, Acquire, Dead, Fetch, Invalidate, Prepare, Promise, Top, Where}
-use Rattle.mega_wal.specs.declared.answers.Promised.{Promised as PromiseAnswer}
-use Rattle.mega_wal.specs.declared.answers.Promised.TheVariants as promise
-use Rattle.mega_wal.specs.declared.answers.Voted.{Voted as AcceptAnswer}
-use Rattle.mega_wal.specs.declared.answers.Voted.TheVariants as vote
-use Rattle.mega_wal.specs.Acceptor.{Promised, Voted, accept_answer, promise_answer}
+use Rattle.mega_wal.specs.Acceptor.{Promised, Voted}
 use Rattle.mega_wal.specs.Same.{same_group}
 use Rattle.mega_tape_laws.specs.of_transcript.declared.item.Item.{Item}
-use Rattle.mega_locks.specs.declared.asked.Asked.{Asked}
-use Rattle.mega_locks.specs.declared.asked.Asked.TheVariants.{Granted as AnswerGranted, Renewed, Taken, Over}
 use Rattle.mega_tape_laws.specs.of_rules.Met.{Met, Sends, Unsends, Decides}
-use Rattle.mega_tape_laws.specs.of_rules.Logs.{accepted_at, decided, top_of}
-use Rattle.mega_tape_laws.specs.of_rules.Locks.{asked_for, held_answer, held_at, lock_answer}
-use Rattle.mega_tape_laws.specs.of_rules.Members.{is_cell, is_full, is_voter}
-use Rattle.mega_tape_laws.specs.of_rules.Replies.{answer_to, fetched}
-use Rattle.mega_tape_laws.specs.of_rules.Voting.{act_if, act_in, acts, prepared, promise_body, vote_body, voted}
+use Rattle.mega_tape_laws.specs.of_rules.Logs.{accepted_at, top_of}
+use Rattle.mega_tape_laws.specs.of_rules.Members.{is_full, is_voter}
+use Rattle.mega_tape_laws.specs.of_rules.Replies.{answer_to}
+use Rattle.mega_tape_laws.specs.of_rules.Voting.{act_if, act_in, acts}
 use Rattle.mega_tape_laws.specs.Places.{In, Took}
 use Rattle.mega_tape_laws.specs.Lawful.{message}
 use Rattle.mega_tape_laws.specs.Polls.{MayPoll, MayTell, is_asking}
 use Rattle.mega_tape_laws.proofs.Ballots.{number_is}
 use Rattle.mega_tape_laws.proofs.Lists.{from_cons}
 use Rattle.mega_run_laws.specs.Shows.{Shows}
+use Rattle.mega_run_laws.proofs.AnswerKinds.{IsHeldAnswer, IsLockAnswer, IsLogAnswer, answer_kind}
 use Rattle.mega_run_laws.proofs.Replied.{served}
 use Rattle.mega_run_laws.proofs.Owned.{NoAccept}
 
@@ -72,7 +63,7 @@ made_most : (g : GroupId) (n : ℕ) (body : Body) (before : List Met) (b : Ballo
 made_most g n body before b e (inl is) = first_most n (accepted_at g body) (top_of before g) (act_voted g n body b e is)
 made_most g n body before b e (inr le) = second_most n (accepted_at g body) (top_of before g) le
 
-top_most : (met : List Met) (g : GroupId) (n : ℕ) (b : Ballot) (e : Content) → In (Voted b e) (acts met g n) → n ≤ top_of met g
+pub top_most : (met : List Met) (g : GroupId) (n : ℕ) (b : Ballot) (e : Content) → In (Voted b e) (acts met g n) → n ≤ top_of met g
 top_most [] g n b e i = absurd i
 top_most (Sends m ∷ before) g n b e i = made_most g n m.body before b e (elim (from_cons (act_in g n m.body) (acts before g n) (Voted b e) i) [ inl is ↦ inl is | inr j ↦ inr (top_most before g n b e j) ])
 top_most (Unsends m ∷ before) g n b e i = made_most g n m.body before b e (elim (from_cons (act_in g n m.body) (acts before g n) (Voted b e) i) [ inl is ↦ inl is | inr j ↦ inr (top_most before g n b e j) ])
@@ -97,47 +88,32 @@ no_poll tape m (Top op g n) h = absurd h
 no_poll tape m (Accept op g n b e) h = absurd h
 no_poll tape m _ h = (tt, λ x. refl, tt)
 
-vote_plain : (op : OpId) (g : GroupId) (n : Position) (b : Ballot) (e : Content) (a : AcceptAnswer) → NoPoll (vote_body op g n b e a)
-vote_plain op g n b e vote.Yes = tt
-vote_plain op g n b e (vote.Shown greater) = tt
-vote_plain op g n b e (vote.Other other) = tt
+log_plain : (body : Body) → IsLogAnswer body → NoPoll body
+log_plain (Where op g) h = h
+log_plain (Top op g n) h = h
+log_plain (Accept op g n b e) h = h
+log_plain _ h = tt
 
-promise_plain : (op : OpId) (g : GroupId) (n : Position) (b : Ballot) (a : PromiseAnswer) → NoPoll (promise_body op g n b a)
-promise_plain op g n b (promise.Yes report) = tt
-promise_plain op g n b (promise.Shown greater) = tt
+held_plain : (body : Body) → IsHeldAnswer body → NoPoll body
+held_plain (Where op g) h = h
+held_plain (Top op g n) h = h
+held_plain (Accept op g n b e) h = h
+held_plain _ h = tt
 
-fetch_plain : (op : OpId) (g : GroupId) (n : Position) (o : Option Content) → NoPoll (fetched op g n o)
-fetch_plain op g n None = tt
-fetch_plain op g n (Some entry) = tt
-
-held_plain : (op : OpId) (cell : ℕ) (node : NodeId) (o : Option Epoch) → NoPoll (held_answer op cell node o)
-held_plain op cell node None = tt
-held_plain op cell node (Some epoch) = tt
-
-lock_plain : (cell : ℕ) (epoch : Epoch) (clock : ℕ) (a : Asked) → NoPoll (lock_answer cell epoch clock a)
-lock_plain cell epoch clock AnswerGranted = tt
-lock_plain cell epoch clock Renewed = tt
-lock_plain cell epoch clock (Taken greatest) = tt
-lock_plain cell epoch clock (Over greatest) = tt
+lock_plain : (body : Body) → IsLockAnswer body → NoPoll body
+lock_plain (Where op g) h = h
+lock_plain (Top op g n) h = h
+lock_plain (Accept op g n b e) h = h
+lock_plain _ h = tt
 
 -- what a node answers to a request that it took
 pub answer_told : (c : Cluster) (tape : List Item) (me from : ℕ) (met : List Met) → Shows tape me met → (asked : Body) → Took tape (message from me asked)
     → (answer : Body) → answer_to c me met from asked ≡ Some answer → Told tape (message me from answer) answer
-answer_told c tape me from met s (Accept op group position b e) asked answer h =
-    served (is_voter c me) (voted (acts met group position.0) op group position b e) answer (λ body. Told tape (message me from body) body)
-    (no_poll tape (message me from (voted (acts met group position.0) op group position b e)) (voted (acts met group position.0) op group position b e) (vote_plain op group position b e (accept_answer (acts met group position.0) b e))) h
-answer_told c tape me from met s (Prepare op group position b) asked answer h =
-    served (is_voter c me) (prepared (acts met group position.0) op group position b) answer (λ body. Told tape (message me from body) body)
-    (no_poll tape (message me from (prepared (acts met group position.0) op group position b)) (prepared (acts met group position.0) op group position b) (promise_plain op group position b (promise_answer (acts met group position.0) b))) h
-answer_told c tape me from met s (Fetch op group position) asked answer h =
-    served (is_voter c me) (fetched op group position (decided met group position.0)) answer (λ body. Told tape (message me from body) body)
-    (no_poll tape (message me from (fetched op group position (decided met group position.0))) (fetched op group position (decided met group position.0)) (fetch_plain op group position (decided met group position.0))) h
-answer_told c tape me from met s (Dead op cell node) asked answer h =
-    served (cell == me && is_cell c me) (held_answer op cell node (held_at c me met node.0)) answer (λ body. Told tape (message me from body) body)
-    (no_poll tape (message me from (held_answer op cell node (held_at c me met node.0))) (held_answer op cell node (held_at c me met node.0)) (held_plain op cell node (held_at c me met node.0))) h
-answer_told c tape me from met s (Acquire cell epoch clock) asked answer h =
-    served (cell == me && is_cell c me) (lock_answer cell epoch clock (asked_for c me met from epoch)) answer (λ body. Told tape (message me from body) body)
-    (no_poll tape (message me from (lock_answer cell epoch clock (asked_for c me met from epoch))) (lock_answer cell epoch clock (asked_for c me met from epoch)) (lock_plain cell epoch clock (asked_for c me met from epoch))) h
+answer_told c tape me from met s (Accept op group position b e) asked answer h = no_poll tape (message me from answer) answer (log_plain answer (answer_kind c me met from (Accept op group position b e) answer h))
+answer_told c tape me from met s (Prepare op group position b) asked answer h = no_poll tape (message me from answer) answer (log_plain answer (answer_kind c me met from (Prepare op group position b) answer h))
+answer_told c tape me from met s (Fetch op group position) asked answer h = no_poll tape (message me from answer) answer (log_plain answer (answer_kind c me met from (Fetch op group position) answer h))
+answer_told c tape me from met s (Dead op cell node) asked answer h = no_poll tape (message me from answer) answer (held_plain answer (answer_kind c me met from (Dead op cell node) answer h))
+answer_told c tape me from met s (Acquire cell epoch clock) asked answer h = no_poll tape (message me from answer) answer (lock_plain answer (answer_kind c me met from (Acquire cell epoch clock) answer h))
 answer_told c tape me from met s (Where op group) asked answer h = served (is_voter c me) _ answer (λ body. Told tape (message me from body) body) (tells, λ x. refl, tt) h
   where
     tells : MayTell tape from me op group (record { 0 = top_of met group })

@@ -31,7 +31,8 @@ use Rattle.mega_run_laws.proofs.Counted.{majority_is, none_accepted, one_more, w
 use Rattle.mega_run_laws.proofs.Rounds.{ballot_is, here_is}
 use Rattle.mega_run_laws.proofs.Sending.{took_on}
 use Rattle.mega_settled_laws.specs.Covering.{Earlier, has_asked_about}
-use Rattle.mega_settled_laws.proofs.Tapes.{Mine, asks_both, asks_in, asks_map, each_both, earlier_stood, joined_has, mine_map, neither, now_is, then_later}
+use Rattle.mega_run_laws.proofs.Events.{each_append as each_both}
+use Rattle.mega_settled_laws.proofs.Tapes.{Mine, asks_both, asks_in, asks_map, earlier_stood, joined_has, mine_map, neither, now_is, then_later}
 
 -- ---- what a round knows
 

@@ -32,7 +32,7 @@ use Rattle.mega_run_laws.specs.of_tape_laws.Places.{Place}
 use Rattle.mega_run_laws.specs.of_tape_laws.Writes.{has_begun}
 use Rattle.mega_run_laws.proofs.of_tape_laws.Ballots.{clash, number_is, number_self}
 use Rattle.mega_run_laws.specs.Justified.{Each, sent}
-use Rattle.mega_run_laws.proofs.Events.{IsPlain}
+use Rattle.mega_run_laws.proofs.Events.{IsPlain, each_append as each_both}
 use Rattle.mega_run_laws.proofs.Noted.{with_append, with_sent}
 use Rattle.mega_run_laws.proofs.Runs.{IsMark, Keeps, nobody, run_keeps, starts_plain}
 use Rattle.mega_run_laws.proofs.Sending.{Stood, took_on}
@@ -40,7 +40,8 @@ use Rattle.mega_run_laws.proofs.Standing.{Good}
 use Rattle.mega_run_laws.proofs.Steps.{never_begun}
 use Rattle.mega_run_laws.proofs.Turns.{Held, each_on}
 use Rattle.mega_settled_laws.specs.Covering.{Earlier, IsCoveredSince, asks_about, free, has_asked_about, invalidated, voted}
-use Rattle.mega_settled_laws.proofs.Tapes.{IsSilent, asked_sent, asks_in, each_both, earlier_stood, items_asked, items_later, notes_silent, now_is, one_later, sent_later, then_later}
+use Rattle.mega_run_laws.proofs.Shown.{IsSilent, notes_silent}
+use Rattle.mega_settled_laws.proofs.Tapes.{asked_sent, asks_in, earlier_stood, items_asked, items_later, now_is, one_later, sent_later, then_later}
 use Rattle.mega_settled_laws.proofs.Settle.{AreOfCells, Cause, CellBody, by_answer, by_news, by_own}
 use Rattle.mega_settled_laws.proofs.Steps.{NoteCause, StepKnows, begin_knows, take_knows, tick_knows}
 use Rattle.mega_settled_laws.proofs.Turns.{Kept, OpenAt, Own, OwnBody, knowing_on}

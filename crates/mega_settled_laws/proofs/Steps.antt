@@ -40,12 +40,12 @@ use Rattle.mega_run_laws.specs.of_tape_laws.Writes.{has_begun}
 use Rattle.mega_run_laws.proofs.of_tape_laws.Ballots.{number_is}
 use Rattle.mega_run_laws.proofs.of_tape_laws.Lists.{some_is}
 use Rattle.mega_run_laws.specs.Justified.{Each}
-use Rattle.mega_run_laws.proofs.Events.{IsAnswer, IsPlain, apply_plain, lapses_plain, lease_plain, told_plain}
+use Rattle.mega_run_laws.proofs.Events.{IsAnswer, IsPlain, apply_plain, each_append as each_both, lapses_plain, lease_plain, told_plain}
 use Rattle.mega_run_laws.proofs.Noting.{Lasts, all_act_it, begun_it as begun_noted, ticked_it}
 use Rattle.mega_run_laws.proofs.Opened.{at_place}
 use Rattle.mega_run_laws.proofs.Turns.{IsRising, each_on}
 use Rattle.mega_settled_laws.specs.Covering.{asks_about, has_asked_about}
-use Rattle.mega_settled_laws.proofs.Tapes.{asks_both, asks_in, each_both}
+use Rattle.mega_settled_laws.proofs.Tapes.{asks_both, asks_in}
 use Rattle.mega_settled_laws.proofs.Settle.{AreOfCells, Cause, CauseOf, by_answer, by_news, first_settles}
 use Rattle.mega_settled_laws.proofs.Turns.{Acted, AllActed, Kept, Own, OwnBody, Opens, all_heard_acted, all_ticked_acted, begins_acted}
 

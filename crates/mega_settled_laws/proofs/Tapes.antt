@@ -1,5 +1,5 @@
 -- Earlier moments of a tape, and what was asked of cells on it.
-use Rattle.std.proofs.Common.{◌≡◌, inr, ℕ, ◌+◌, ◌==◌, ◌&&◌, ◌||◌, Bool, true, false, not, cond, List, [], ◌∷◌, ◌++◌, flat_map, map, refl, sym, ap, ◌∙◌, subst}
+use Rattle.std.proofs.Common.{◌≡◌, inr, ℕ, ◌+◌, ◌==◌, ◌&&◌, ◌||◌, Bool, true, false, not, cond, List, [], ◌∷◌, ◌++◌, map, refl, sym, ap, ◌∙◌, subst}
 use Rattle.mega_base.specs.declared.names.OpId.{OpId}
 use Rattle.mega_cluster.specs.declared.cluster.Cluster.{Cluster}
 use Rattle.mega_wire.specs.declared.message.Message.{Message}
@@ -8,12 +8,10 @@ use Rattle.mega_wire.specs.declared.message.Body.TheVariants.{Dead, Unheld}
 use Rattle.mega_wal.specs.Same.{same_op}
 use Rattle.mega_run_laws.specs.of_transcript.declared.item.Item.{Item}
 use Rattle.mega_run_laws.specs.of_transcript.declared.item.Item.TheVariants.{Sent, Unsafe}
-use Rattle.mega_run_laws.specs.of_promises.Items.{shown}
 use Rattle.mega_run_laws.specs.of_promises.Messages.{is_unsafe}
 use Rattle.mega_run_laws.specs.of_promises.Promises.{Stands}
 use Rattle.mega_run_laws.specs.of_promises.Runs.{breaks, with_item, with_items}
 use Rattle.mega_run_laws.specs.of_rules.of_read.of_propose.Members.{has, joined, without}
-use Rattle.mega_run_laws.specs.of_rules.Met.{Met, Starts, Crashes, Ticks, Begins, Takes, Sends, Unsends, Grants, Lapses, Counts, Forgets, Serves, Loses, Validates, Invalidates, Decides, Applies, Answers}
 use Rattle.mega_run_laws.specs.of_rules.Operations.{Node}
 use Rattle.mega_schema.specs.declared.schema.Schema.{Schema}
 use Rattle.mega_run_laws.specs.of_tape_laws.Answers.{AreAnswered}
@@ -23,6 +21,7 @@ use Rattle.mega_run_laws.specs.of_tape_laws.Writes.{AreWritten, Usage}
 use Rattle.mega_run_laws.proofs.of_tape_laws.Ballots.{number_is}
 use Rattle.mega_run_laws.specs.Justified.{Each, sent}
 use Rattle.mega_run_laws.proofs.Sending.{Stood}
+use Rattle.mega_run_laws.proofs.Shown.{IsSilent}
 use Rattle.mega_settled_laws.specs.Covering.{Earlier, asks_about, has_asked_about}
 
 -- ---- moments
@@ -118,10 +117,6 @@ pub mine_map : {X : Type 0} (op : OpId) (f : X → Message) → ((x : X) → Min
 mine_map op f h [] = tt
 mine_map op f h (x ∷ xs) = (h x, mine_map op f h xs)
 
-pub each_both : {X : Type 0} (P : X → Type 0) (xs ys : List X) → Each P xs → Each P ys → Each P (xs ++ ys)
-each_both P [] ys a b = b
-each_both P (x ∷ xs) ys a b = (a.0, each_both P xs ys a.1 b)
-
 -- another operation's messages ask nothing for this one
 apart_about : (op x : OpId) (node : ℕ) (body : Body) → same_op op x ≡ false → OfDead op body → asks_about x node body ≡ false
 apart_about op x node (Dead asking cell about) apart of = first_false (same_op asking x) (about.0 == node) (ap (λ y. same_op y x) of ∙ apart)
@@ -140,38 +135,9 @@ asked_sent n [] tape op node h k = k
 asked_sent n (m ∷ ms) tape op node h k = let parts = neither (asks_about op node m.body) (asks_in ms op node) h in
     asked_sent (n + 1) ms (Sent n m ∷ tape) op node parts.1 (either_false (asks_about op node m.body) (has_asked_about tape op node) parts.0 k)
 
--- an item that sends nothing
-abbrev pub IsSilent : Item → Type 0
-IsSilent (Sent key m) = ⊥
-IsSilent _ = Unit {0}
-
 silent_asked : (tape : List Item) (item : Item) (op : OpId) (node : ℕ) → IsSilent item → has_asked_about (item ∷ tape) op node ≡ has_asked_about tape op node
 silent_asked tape (Sent key m) op node h = absurd h
 silent_asked tape _ op node h = refl
-
-pub shown_silent : (me : ℕ) (one : Met) → Each IsSilent (shown me one)
-shown_silent me (Starts start) = (tt, tt)
-shown_silent me Crashes = (tt, tt)
-shown_silent me (Ticks now) = (tt, tt)
-shown_silent me (Begins op text) = (tt, tt)
-shown_silent me (Takes message) = tt
-shown_silent me (Sends message) = tt
-shown_silent me (Unsends message) = (tt, tt)
-shown_silent me (Grants node epoch) = (tt, tt)
-shown_silent me (Lapses node epoch) = (tt, tt)
-shown_silent me (Counts cell epoch) = (tt, tt)
-shown_silent me (Forgets cell epoch) = (tt, tt)
-shown_silent me (Serves epoch) = (tt, tt)
-shown_silent me (Loses epoch) = (tt, tt)
-shown_silent me (Validates group position) = (tt, tt)
-shown_silent me (Invalidates group position) = (tt, tt)
-shown_silent me (Decides group position entry) = (tt, tt)
-shown_silent me (Applies group position) = (tt, tt)
-shown_silent me (Answers op answer) = (tt, tt)
-
-pub notes_silent : (me : ℕ) (notes : List Met) → Each IsSilent (flat_map (shown me) notes)
-notes_silent me [] = tt
-notes_silent me (one ∷ notes) = each_both IsSilent (shown me one) (flat_map (shown me) notes) (shown_silent me one) (notes_silent me notes)
 
 module _ (c : Cluster) (nodes : ℕ → Node) where
   item_asked : (tape : List Item) (item : Item) (op : OpId) (node : ℕ) → IsSilent item → has_asked_about (with_item c nodes tape item) op node ≡ has_asked_about tape op node

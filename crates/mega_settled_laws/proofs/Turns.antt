@@ -6,7 +6,9 @@ use Rattle.mega_base.specs.declared.names.OpId.{OpId}
 use Rattle.mega_cluster.specs.declared.cluster.Cluster.{Cluster}
 use Rattle.mega_coordinator.specs.declared.answers.NotValid.{NotValid}
 use Rattle.mega_outcome.specs.declared.answer.Answer.{Answer}
+use Rattle.mega_entry.specs.declared.content.Enter.{Enter}
 use Rattle.mega_outcome.specs.declared.request.Request.{Request}
+use Rattle.mega_outcome.specs.declared.request.Request.TheVariants.{Refresh}
 use Rattle.mega_wire.specs.declared.message.Message.{Message}
 use Rattle.mega_wire.specs.declared.message.Body.{Body}
 use Rattle.mega_wire.specs.declared.message.Body.TheVariants.{Dead, Unheld}
@@ -19,13 +21,13 @@ use Rattle.mega_run_laws.specs.of_rules.of_read.declared.reading.Reading.{Readin
 use Rattle.mega_run_laws.specs.of_rules.of_read.declared.reading.Search.{Search}
 use Rattle.mega_run_laws.specs.of_rules.of_read.declared.reading.Stage.TheVariants.{Catching}
 use Rattle.mega_run_laws.specs.of_rules.of_read.declared.reading.Move.{Move as ReadMove}
-use Rattle.mega_run_laws.specs.of_rules.of_read.Catching.{asked_by, local_read, polled_read, seeks, site}
+use Rattle.mega_run_laws.specs.of_rules.of_read.Catching.{asked_by, first_reading, local_read, polled_read, seeks, site}
 use Rattle.mega_run_laws.specs.of_rules.Clock.{clock_of}
 use Rattle.mega_run_laws.specs.of_rules.Coordinators.{refused_at, serves_at, valid_at}
 use Rattle.mega_run_laws.specs.of_rules.Logs.{top_of}
 use Rattle.mega_run_laws.specs.of_rules.Members.{is_cell}
 use Rattle.mega_run_laws.specs.of_rules.Operations.{Now, Operation, Phase, Proposes, Reads, Setting}
-use Rattle.mega_run_laws.specs.of_rules.Acting.{completes_read, ends, in_phase, is_visited, keeps, read_begun, reader_of, sends_more, validated_by}
+use Rattle.mega_run_laws.specs.of_rules.Acting.{completes_read, ends, in_phase, is_visited, keeps, read_begun, reader_of, sends_more, validated_by, visiting}
 use Rattle.mega_run_laws.specs.of_rules.Steps.{Heard, acts_in_turn, all_act, does_due, hears_message, is_out, last_answer, new_operation, ticked, unless_refused}
 use Rattle.mega_run_laws.specs.of_tape_laws.Places.{Took}
 use Rattle.mega_run_laws.specs.of_tape_laws.Lawful.{message}
@@ -34,10 +36,11 @@ use Rattle.mega_run_laws.specs.Justified.{Each}
 use Rattle.mega_run_laws.proofs.Opened.{at_place}
 use Rattle.mega_run_laws.proofs.Turns.{IsRising, each_on, each_push}
 use Rattle.mega_settled_laws.specs.Covering.{Earlier, asks_about, has_asked_about}
-use Rattle.mega_settled_laws.proofs.Tapes.{Mine, OfDead, asks_apart, asks_both, asks_in, each_both}
+use Rattle.mega_run_laws.proofs.Events.{each_append as each_both}
+use Rattle.mega_settled_laws.proofs.Tapes.{Mine, OfDead, asks_apart, asks_both, asks_in}
 use Rattle.mega_settled_laws.proofs.Rounds.{Knows, asks_proceeds, due_proceeds, knows_on, takes_proceeds, told_of}
 use Rattle.mega_settled_laws.proofs.Reading.{ReadProceeds, StageKnows, asked_of, falls_due_read, hears_read, local_begun, polled_begun, seeks_read, stage_on, told_stage}
-use Rattle.mega_settled_laws.proofs.Walk.{Walks, begun_it, goes_on_it}
+use Rattle.mega_settled_laws.proofs.Walk.{Walks, begun_it, caught, goes_on_it, no_group}
 
 -- ---- what an operation knows
 
@@ -222,6 +225,10 @@ module _ (s : Setting) (tape : List Item) where
   abbrev ActedAt : OpId → Now → Type 0
   ActedAt op now = Acted s.cluster tape s.me (op.number + 1) now
 
+  -- what holds as an operation begins
+  abbrev BeginsAt : OpId → Now → Type 0
+  BeginsAt id now = (clock : ℕ) → Acts s.cluster tape s.me now id (Reads no_group (first_reading clock))
+
   begins_proceeds : (now : Now) (o : Operation) (r : Reading) (group : GroupId) → ReadProceeds s.cluster tape o.id group (asked_by r) [] (read_begun s now o group (asked_by r))
   begins_proceeds now o r group = by (is_visited o group) (valid_at s.cluster now.met group)
     where
@@ -247,19 +254,26 @@ module _ (s : Setting) (tape : List Item) where
       validates_acts _ group p (refused_at s.cluster now.met group p noted) o.id (Reads group (record { noted = Some noted; asked = asked; stage = Catching p search }))
       (stores_acts now _ o.id (Reads group (record { noted = Some noted; asked = asked; stage = Catching p search })) a)
 
-  walks : Walks s ActedAt ActsAt
+  visits_acts : (now : Now) (o : Operation) (before : GroupId) (r : Reading) (group : GroupId) (message : Option Enter) → Acts s.cluster tape s.me now o.id (Reads before r)
+      → ActsAt (sends_more now (read_begun s now o group (asked_by r)).sends) (visiting o group message (read_begun s now o group (asked_by r)))
+  visits_acts now o before r group message a = acts_reads s.cluster tape s.me now o.id before group r (read_begun s now o group (asked_by r)) a
+      (begun_read s.cluster tape s.me o.id group r (read_begun s now o group (asked_by r)) (begins_proceeds now o r group))
+
+  walks : Walks s BeginsAt ActedAt ActsAt
   walks = record {
     keeps_it = λ now o a. acts_keeps s.cluster tape s.me now o a;
     ends_it = λ now o answer a. acts_ends s.cluster tape s.me now o answer a;
-    completes_it = completes_acts;
+    completes_it = λ now o group noted asked p search all a. completes_acts now o group noted asked p search a;
     seeks_it = λ now o group r least a. acts_reads s.cluster tape s.me now o.id group group r (seeks (reader_of s o.id group) r least (clock_of now.met)) a
         (seeks_read s.cluster tape o.id group r least (clock_of now.met) (a.knowing).knows);
-    asks_it = λ now o group r n leader own promised a.
-        let w = asks_proceeds s.cluster tape o.id (at_place group n) (asked_by r) leader own (clock_of now.met) in
-        acts_sends s.cluster tape s.me now o.id (Reads group r) (Proposes group n (asked_by r) (asks (site (reader_of s o.id group) (asked_by r) n) leader own (clock_of now.met)).proposal promised)
-        (asks (site (reader_of s o.id group) (asked_by r) n) leader own (clock_of now.met)).sends a w.knows (λ node b d. asked_of r node b) w.silent w.mine;
-    visits_it = λ now o before r group message a. acts_reads s.cluster tape s.me now o.id before group r (read_begun s now o group (asked_by r)) a
-        (begun_read s.cluster tape s.me o.id group r (read_begun s now o group (asked_by r)) (begins_proceeds now o r group));
+    asks_it = λ now o group noted asked p search leader own promised a.
+        let w = asks_proceeds s.cluster tape o.id (at_place group (p + 1)) (asked_by (caught noted asked p search)) leader own (clock_of now.met) in
+        acts_sends s.cluster tape s.me now o.id (Reads group (caught noted asked p search))
+        (Proposes group (p + 1) (asked_by (caught noted asked p search)) (asks (site (reader_of s o.id group) (asked_by (caught noted asked p search)) (p + 1)) leader own (clock_of now.met)).proposal promised)
+        (asks (site (reader_of s o.id group) (asked_by (caught noted asked p search)) (p + 1)) leader own (clock_of now.met)).sends a w.knows (λ node b d. asked_of (caught noted asked p search) node b) w.silent w.mine;
+    visits_it = visits_acts;
+    first_it = λ now id request clock group message b. visits_acts now (new_operation id request clock) no_group (first_reading clock) group message (b clock);
+    ends_first = λ now id answer b. acts_ends s.cluster tape s.me now (new_operation id Refresh 0) answer (b 0);
   }
 
   -- ---- one after another
@@ -298,7 +312,7 @@ module _ (s : Setting) (tape : List Item) where
       op = (t.operation).id
 
   pub turn_acted : (k : ℕ) (now : Now) (t : Heard) → k ≤ ((t.operation).id).number → Acted s.cluster tape s.me k now → Heeds t → Acted s.cluster tape s.me (((t.operation).id).number + 1) (acts_in_turn s now t)
-  turn_acted k now t le a h = goes_on_it s ActedAt ActsAt walks (sends_more now t.sends) t.operation (acts_first k now t le a h)
+  turn_acted k now t le a h = goes_on_it s BeginsAt ActedAt ActsAt walks (sends_more now t.sends) t.operation (acts_first k now t le a h)
 
   -- those of a list acted, and all numbers are below some number
   pub record AllActed (now : Now) : Type 0 where
@@ -400,7 +414,7 @@ module _ (s : Setting) (tape : List Item) where
   begins_acted now id request clock None node begun silent kept quiet ended =
       record {
         k = id.number + 1;
-        acted = begun_it s ActedAt ActsAt walks now id clock request None (λ none. record {
+        acted = begun_it s BeginsAt ActedAt ActsAt walks now id clock request None (λ none. λ first. record {
           kept = kept none;
           own = subst (Each (Own s.cluster tape s.me (id.number + 1))) (sym silent) tt;
           node = node;

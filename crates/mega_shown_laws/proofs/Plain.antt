@@ -1,23 +1,16 @@
 -- What shows rows that fit is plain, and so is every item of a run.
-use Rattle.std.proofs.Common.{◌≡◌, ◌&&◌, ℕ, ◌<◌, ◌==◌, nat_lt, Bool, true, false, cond, List, [], ◌∷◌, ◌++◌, flat_map, length, Option, Some, None, Result, Ok, Err, inl, inr, refl, arith}
+use Rattle.std.proofs.Common.{◌≡◌, ℕ, Bool, true, false, List, [], ◌∷◌, ◌++◌, flat_map, length, Option, Some, None, Result, Ok, Err, inl, inr, refl}
 use Rattle.std.specs.Prelude.{All, is_ok, is_none}
-use Rattle.std.specs.List.{AllByRecursion, list_all}
-use Rattle.std.proofs.lemmas.Bool.Decides.{nat_tests}
+use Rattle.std.specs.List.{AllByRecursion}
 use Rattle.mega_base.specs.declared.names.OpId.{OpId}
 use Rattle.mega_base.specs.declared.names.Position.{Position}
-use Rattle.mega_base.specs.declared.values.Cell.{Cell}
 use Rattle.mega_base.specs.declared.values.Row.{Row}
 use Rattle.mega_cluster.specs.declared.cluster.Cluster.{Cluster}
 use Rattle.mega_handler.specs.Named.{Meanings}
-use Rattle.mega_keys.specs.Fit.{has_kind}
-use Rattle.mega_syntax.specs.declared.need.Need.{Need}
-use Rattle.mega_syntax.specs.declared.need.Need.TheVariants.{Required, Optional, Repeated}
-use Rattle.mega_schema.specs.declared.schema.Property.{Property}
 use Rattle.mega_schema.specs.declared.schema.Schema.{Schema}
 use Rattle.mega_schema.specs.declared.schema.Table.{Table}
-use Rattle.mega_schema.specs.Lookup.{is_repeated}
 use Rattle.mega_index.specs.Cells.{key_values}
-use Rattle.mega_index.specs.Fits.{cell_fits, cells_fit, fits_in, has_place, has_required, is_count, key_of, long_key, numbered, properties_fit}
+use Rattle.mega_index.specs.Fits.{cells_fit, fits_in, has_place, has_required, key_of, long_key, numbered, properties_fit}
 use Rattle.mega_outcome.specs.declared.answer.Answer.{Answer}
 use Rattle.mega_outcome.specs.declared.answer.Answer.TheVariants as answers
 use Rattle.mega_outcome.specs.declared.answer.Shown.{Shown}
@@ -25,9 +18,8 @@ use Rattle.mega_outcome.specs.declared.answer.Turn.{Turn}
 use Rattle.mega_outcome.specs.declared.answer.Turn.TheVariants.{OtherGroup, BadRow, CheckFailed, NoRow, Overflow, TooLarge, DiskFault, Full, BadRecord, NoMemory}
 use Rattle.mega_transcript.specs.declared.item.Item.{Item}
 use Rattle.mega_transcript.specs.declared.item.Item.TheVariants.{Start, Unsent, Tick, Begin, Taken, Dropped, Sent, Grant, Lapse, Counts, Forgets, Serving, Lost, Valid, Invalid, Decide, Apply, Answer as AnswerItem, Crash, Cut, Unsafe}
-use Rattle.mega_transcript.specs.Named.{names_property}
 use Rattle.mega_transcript.specs.Plain.{IsPlain}
-use Rattle.mega_transcript.specs.PlainRows.{ArePlainCells, ArePlainIn, ArePlainResults, ArePlainRows, IsHeld, IsPlainCell}
+use Rattle.mega_transcript.specs.PlainRows.{ArePlainIn, ArePlainResults, ArePlainRows}
 use Rattle.mega_transcript.specs.PlainTurns.{IsPlainTurn}
 use Rattle.mega_promises.specs.Promises.{Stands}
 use Rattle.mega_promises.specs.Runs.{Happening, IsRun}
@@ -37,7 +29,7 @@ use Rattle.mega_format_laws.proofs.Each.{all_of_each, each_of_all}
 use Rattle.mega_plain_laws.specs.Answers.{IsNamed, IsWord, shows_rows}
 use Rattle.mega_plain_laws.specs.Formed.{AreFormed, is_of_rows}
 use Rattle.mega_plain_laws.specs.of_held.Held.{HoldsCell, HoldsItem, HoldsResult, HoldsRows, HoldsTurn}
-use Rattle.mega_plain_laws.proofs.Plain.{items_plain}
+use Rattle.mega_plain_laws.proofs.Plain.{both_true, items_plain, plain_cells}
 use Rattle.mega_plain_laws.proofs.Showing.{each_stands}
 use Rattle.mega_plain_laws.proofs.Turning.{AreWords}
 use Rattle.mega_tape_laws.specs.Indexed.{IsDeclared}
@@ -47,39 +39,6 @@ use Rattle.mega_shown_laws.specs.Fitting.{FitsTable, replies_of, rows_of}
 use Rattle.mega_shown_laws.proofs.Runs.{batch_refuses, each_shown}
 
 -- ---- rows
-
-both_true : (a b : Bool) → (a && b) ≡ true → (a ≡ true) × (b ≡ true)
-both_true true b h = (refl, h)
-both_true false b h = cc
-
-both_are : (a b : Bool) → a ≡ true → b ≡ true → (a && b) ≡ true
-both_are true b g h = h
-both_are false b g h = g
-
-above : (low n : ℕ) → nat_lt low n ≡ true → low < n
-above low n lt = grind (arith, nat_tests)
-
-counted : (need : Need) (n : ℕ) → is_count need n ≡ true → cond (is_repeated need) (nat_lt 0 n) (n == 1) ≡ true
-counted Required n h = h
-counted Optional n h = h
-counted Repeated n h = h
-
-plain_cell : (ps : List Property) (cell : Cell) (o : Option Property) → ((property : Property) → o ≡ Some property → names_property ps cell.property property.name ≡ true) → cell_fits o cell.values ≡ true
-    → AllByRecursion IsHeld cell.values → IsPlainCell ps o cell
-plain_cell ps cell None named fit held = cc
-plain_cell ps cell (Some property) named fit held =
-    let parts = both_true (is_count property.need (length cell.values)) (list_all (has_kind property.kind) cell.values) fit in (
-      named property refl,
-      (both_are (list_all (has_kind property.kind) cell.values) (cond (is_repeated property.need) (nat_lt 0 (length cell.values)) (length cell.values == 1)) parts.1 (counted property.need (length cell.values) parts.0), held),
-    )
-
-plain_cells : (ps : List Property) (low : ℕ) (cells : List Cell) → ((n : ℕ) (property : Property) → numbered ps n ≡ Some property → names_property ps n property.name ≡ true) → cells_fit ps low cells ≡ true
-    → AllByRecursion HoldsCell cells → ArePlainCells ps low cells
-plain_cells ps low [] named fit held = tt
-plain_cells ps low (c ∷ cs) named fit held =
-    let parts = both_true (nat_lt low c.property) (cell_fits (numbered ps c.property) c.values && cells_fit ps c.property cs) fit in
-    let more = both_true (cell_fits (numbered ps c.property) c.values) (cells_fit ps c.property cs) parts.1 in
-    (above low c.property parts.0, (plain_cell ps c (numbered ps c.property) (named c.property) more.0 (held.0).1, plain_cells ps c.property cs named more.1 held.1))
 
 plain_in : (k : Schema) → IsNamed k → (n : ℕ) (o : Option Table) (row : Row) → numbered k.tables n ≡ o → fits_in k n o row ≡ true → AllByRecursion HoldsCell row.cells → ArePlainIn k n o row.cells
 plain_in k named n None row at fit held = cc

@@ -16,6 +16,7 @@ pub mod Origins
 pub mod Serial
 pub mod Messages
 pub mod Writing
+pub mod Totals
 pub mod Complete
 pub mod Answered
 pub mod Sending

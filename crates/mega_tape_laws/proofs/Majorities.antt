@@ -10,7 +10,7 @@ pub record Shared (f g : ℕ → Bool) : Type 0 where
   pub second : g node ≡ true
 
 -- nodes of which none passes both tests are as many at least as pass the one and the other
-overlap : (f g : ℕ → Bool) (nodes : List ℕ) → (count f nodes + count g nodes ≤ length nodes) ⊎ Shared f g
+pub overlap : (f g : ℕ → Bool) (nodes : List ℕ) → (count f nodes + count g nodes ≤ length nodes) ⊎ Shared f g
 overlap f g [] = inl (omega arith)
 overlap f g (node ∷ nodes) = go (f node) (g node) refl refl (overlap f g nodes)
   where

@@ -41,7 +41,7 @@ pub settled : IsSettled cluster (newest all_accept) (op_of 1) place (entry_of 1)
 settled = record { ballot = zero_ballot; present = refl; test = first_two; majority = two_of_three; heard = heard; covered = covered }
 
 -- what stands on a tape is found on it
-finds : (test : Item → Bool) (item : Item) (tape : List Item) → Stands item tape → test item ≡ true → list_any test tape ≡ true
+pub finds : (test : Item → Bool) (item : Item) (tape : List Item) → Stands item tape → test item ≡ true → list_any test tape ≡ true
 finds test item [] s t = absurd s
 finds test item (other ∷ before) (inl same) t = either (test other) (list_any test before) (ap test same ∙ t)
   where

@@ -35,7 +35,7 @@ use Rattle.mega_transcript_reading.proofs.SoundRows.{rows_sound, finds_sound, ma
 use Rattle.mega_transcript_reading.proofs.ItemLaws.{parsed_again}
 
 -- bytes with no line feed
-abbrev NoEnd : List ℕ → Type 0
+abbrev pub NoEnd : List ℕ → Type 0
 NoEnd bytes = lacks 10 bytes ≡ true
 
 both : (a b : List ℕ) → NoEnd a → NoEnd b → NoEnd (a ++ b)
@@ -47,16 +47,16 @@ after c b f g = ap (λ t. t && lacks 10 b) f ∙ g
 number : (n : ℕ) → n < 2 ^ 64 → NoEnd (decimal n)
 number n small = decimal-lacks 10 n (omega arith) small
 
-u8 : (n : ℕ) → IsU8 n → NoEnd (decimal n)
+pub u8 : (n : ℕ) → IsU8 n → NoEnd (decimal n)
 u8 n f = number n (omega arith)
 
-u32 : (n : ℕ) → IsU32 n → NoEnd (decimal n)
+pub u32 : (n : ℕ) → IsU32 n → NoEnd (decimal n)
 u32 n f = number n (omega arith)
 
 u64 : (n : ℕ) → IsU64 n → NoEnd (decimal n)
 u64 n f = number n (omega arith)
 
-hex : (bytes : List ℕ) → IsBytes bytes → NoEnd (encode_lower bytes)
+pub hex : (bytes : List ℕ) → IsBytes bytes → NoEnd (encode_lower bytes)
 hex bytes f = solid-lacks 10 (encode_lower bytes) (omega arith) (hex-solid bytes f)
 
 op : (o : OpId) → IsOp o → NoEnd (op_word o)
@@ -89,12 +89,12 @@ name_told (bodies.Request token json) = refl
 name_told (bodies.Reply token text) = refl
 
 -- ---- lines
-abbrev NoEnds : List (List ℕ) → Type 0
+abbrev pub NoEnds : List (List ℕ) → Type 0
 NoEnds [] = Unit {0}
 NoEnds (word ∷ words) = NoEnd word × NoEnds words
 
 -- a text with a line feed at its end alone
-abbrev IsLine : List ℕ → Type 0
+abbrev pub IsLine : List ℕ → Type 0
 IsLine text = (front : List ℕ) × ((text ≡ front ++ 10 ∷ []) × NoEnd front)
 
 spaced_line : (words : List (List ℕ)) → NoEnds words → IsLine (spaced words)
@@ -103,7 +103,7 @@ spaced_line (word ∷ words) f =
     let rest = spaced_line words f.1 in
     ((32 ∷ word) ++ rest.0, (ap (λ t. (32 ∷ word) ++ t) rest.1.0 ∙ sym (append_assoc (32 ∷ word) rest.0 (10 ∷ [])), both (32 ∷ word) rest.0 (after 32 word refl f.0) rest.1.1))
 
-told : (word : List ℕ) (words : List (List ℕ)) → NoEnd word → NoEnds words → IsLine (word ++ spaced words)
+pub told : (word : List ℕ) (words : List (List ℕ)) → NoEnd word → NoEnds words → IsLine (word ++ spaced words)
 told word words f g =
     let rest = spaced_line words g in
     (word ++ rest.0, (ap (λ t. word ++ t) rest.1.0 ∙ sym (append_assoc word rest.0 (10 ∷ [])), both word rest.0 f rest.1.1))
@@ -144,7 +144,7 @@ answer_told schema (answers.NoHandler queue) fit = (refl, (text_told 0 (string q
 answer_told schema (answers.Batched position results) fit = (refl, (u64 position.0 fit.0, (text_told 6 (results_data schema results) (results_sound 0 schema results fit.1), tt)))
 answer_told schema (answers.AllTurned results) fit = (refl, (refl, (text_told 6 (results_data schema results) (results_sound 0 schema results fit), tt)))
 
-line_told : (schema : Schema) (item : Item) → IsPlain schema item → IsLine (line schema item)
+pub line_told : (schema : Schema) (item : Item) → IsPlain schema item → IsLine (line schema item)
 line_told schema (items.Start node start) fit = told (codes "start") (decimal node.0 ∷ decimal start ∷ []) refl (u8 node.0 fit.0, (u32 start fit.1, tt))
 line_told schema (items.Unsent node message) fit = told (codes "unsent") (decimal node.0 ∷ kind_name message.body ∷ encode_lower (message_text message) ∷ []) refl (u8 node.0 fit.0, (name_told message.body, (hex (message_text message) fit.1.1, tt)))
 line_told schema (items.Tick node now) fit = told (codes "tick") (decimal node.0 ∷ decimal now ∷ []) refl (u8 node.0 fit.0, (u64 now fit.1, tt))

@@ -19,11 +19,11 @@ use Rattle.mega_valid_laws.specs.Leases.{serving_on, valid_on}
 use Rattle.mega_valid_laws.specs.Showing.{next_serving, next_valid, serving_met, valid_met}
 
 -- the same on both sides of a test
-same_if : {X : Type 0} (t : Bool) (x : X) → x ≡ cond t x x
+pub same_if : {X : Type 0} (t : Bool) (x : X) → x ≡ cond t x x
 same_if true x = refl
 same_if false x = refl
 
-cond_as : {X : Type 0} (t u : Bool) (one rest : X) → cond (t && u) one rest ≡ cond t (cond u one rest) rest
+pub cond_as : {X : Type 0} (t u : Bool) (one rest : X) → cond (t && u) one rest ≡ cond t (cond u one rest) rest
 cond_as true u one rest = refl
 cond_as false u one rest = refl
 

@@ -4,6 +4,7 @@ pub mod Joint
 pub mod Decided
 pub mod Folds
 pub mod Agreeing
+pub mod NoCalls
 pub mod Walked
 pub mod Shows
 pub mod Witness

@@ -1,5 +1,5 @@
 -- The order in which items stand, and of epochs.
-use Rattle.std.proofs.Common.{◌≡◌, ◌⊎◌, inl, inr, ℕ, ◌+◌, ◌*◌, ◌<◌, ◌≤◌, ◌==◌, ◌&&◌, ◌||◌, nat_lt, Bool, true, false, cond, List, [], ◌∷◌, ◌++◌, length, refl, sym, ap, ◌∙◌, arith}
+use Rattle.std.proofs.Common.{◌≡◌, ◌⊎◌, inl, inr, ℕ, ◌+◌, ◌*◌, ◌<◌, ◌≤◌, ◌==◌, ◌&&◌, ◌||◌, nat_lt, Bool, true, false, List, [], ◌∷◌, ◌++◌, length, refl, sym, ap, ◌∙◌, arith}
 use Rattle.std.proofs.lemmas.Bool.Decides.{nat_tests}
 use Rattle.std.proofs.lemmas.List.FromFn.{length-range_with_len}
 use Rattle.mega_base.specs.declared.names.Epoch.{Epoch}
@@ -11,7 +11,7 @@ use Rattle.mega_settled_laws.specs.of_tape_laws.of_promises.of_rules.Members.{ce
 use Rattle.mega_settled_laws.specs.of_tape_laws.Places.{count}
 use Rattle.mega_settled_laws.specs.of_tape_laws.Settled.{IsCellMajority}
 use Rattle.mega_settled_laws.proofs.of_tape_laws.Ballots.{number_is}
-use Rattle.mega_settled_laws.proofs.of_tape_laws.Majorities.{Shared}
+use Rattle.mega_settled_laws.proofs.of_tape_laws.Majorities.{Shared, overlap}
 use Rattle.mega_settled_laws.specs.Covering.{Earlier}
 
 -- ---- epochs
@@ -112,20 +112,6 @@ neither_below a b h k = λ i. record { start = starts i; count = counts i }
             by false e false f = grind (arith, nat_tests)
 
 -- ---- two majorities of the cells share one
-
-overlap : (f g : ℕ → Bool) (nodes : List ℕ) → (count f nodes + count g nodes ≤ length nodes) ⊎ Shared f g
-overlap f g [] = inl (omega arith)
-overlap f g (node ∷ nodes) = go (f node) (g node) refl refl (overlap f g nodes)
-  where
-    go : (s t : Bool) → f node ≡ s → g node ≡ t → (count f nodes + count g nodes ≤ length nodes) ⊎ Shared f g
-        → ((cond s 1 0 + count f nodes) + (cond t 1 0 + count g nodes) ≤ length (node ∷ nodes)) ⊎ Shared f g
-    go true true x y h = inr (record { node = node; first = x; second = y })
-    go true false x y (inl h) = inl (omega arith)
-    go false true x y (inl h) = inl (omega arith)
-    go false false x y (inl h) = inl (omega arith)
-    go true false x y (inr h) = inr h
-    go false true x y (inr h) = inr h
-    go false false x y (inr h) = inr h
 
 too_many : (n a b l : ℕ) → n < 2 * a → n < 2 * b → l ≡ n → a + b ≤ l → ⊥
 too_many n a b l h k e f = omega (arith, h, k, e, f)

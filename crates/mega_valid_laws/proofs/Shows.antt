@@ -19,10 +19,9 @@ use Rattle.mega_settled_laws.specs.of_tape_laws.of_promises.of_rules.Replies.{re
 use Rattle.mega_settled_laws.specs.of_tape_laws.of_promises.of_rules.Steps.{Begin, Decision, Event, Heard, Step, Take, Tick, crashed, first_settled, hears_message, if_new, news, onto, op_of, start, start_items, start_note, start_notes, step, taken, told_decision, told_notes}
 use Rattle.mega_settled_laws.proofs.of_tape_laws.Ballots.{number_is}
 use Rattle.mega_settled_laws.specs.of_run_laws.Justified.{Each, sent}
-use Rattle.mega_settled_laws.proofs.of_run_laws.Events.{onto_append}
+use Rattle.mega_settled_laws.proofs.of_run_laws.Events.{each_append as each_both, onto_append}
 use Rattle.mega_settled_laws.proofs.of_run_laws.Noted.{with_append, with_sent}
 use Rattle.mega_settled_laws.proofs.of_run_laws.Runs.{IsMark, Keeps, run_keeps}
-use Rattle.mega_settled_laws.proofs.Tapes.{each_both}
 use Rattle.mega_valid_laws.specs.Leases.{serving_on, valid_on}
 use Rattle.mega_valid_laws.specs.Showing.{next_serving, next_valid, serving_met, valid_met}
 use Rattle.mega_valid_laws.proofs.Folds.{IsOwn, IsOwnNote, Told, after, notes_told, sends_after, sends_told, tells_serving, tells_valid}

@@ -5,10 +5,8 @@ use Rattle.mega_base.specs.declared.names.GroupId.{GroupId}
 use Rattle.mega_base.specs.declared.names.OpId.{OpId}
 use Rattle.mega_cluster.specs.declared.cluster.Cluster.{Cluster}
 use Rattle.mega_coordinator.specs.declared.answers.NotValid.{NotValid}
-use Rattle.mega_coordinator.specs.Lease.{counted_by, granted_answer}
+use Rattle.mega_coordinator.specs.Lease.{counted_by}
 use Rattle.mega_coordinator.specs.History.{Grants as Grant, Invalidates as Invalid, Passes, Ticks as Told, epoch_after, is_valid, lease_of, serving}
-use Rattle.mega_coordinator.specs.declared.answers.Counted.{Counted}
-use Rattle.mega_coordinator.specs.declared.answers.Counted.TheVariants.{No, Yes, Serving}
 use Rattle.mega_locks.specs.declared.asked.Asked.{Asked}
 use Rattle.mega_locks.specs.History.{lapse_for, nodes as lock_nodes}
 use Rattle.mega_wal.specs.Same.{same_group}
@@ -22,7 +20,7 @@ use Rattle.mega_settled_laws.specs.of_tape_laws.of_promises.of_rules.of_read.dec
 use Rattle.mega_settled_laws.specs.of_tape_laws.of_promises.of_rules.of_read.declared.reading.Search.{Search}
 use Rattle.mega_settled_laws.specs.of_tape_laws.of_promises.of_rules.Met.{Met, Starts, Crashes, Ticks, Begins, Takes, Sends, Unsends, Grants, Lapses, Counts, Forgets, Serves, Loses, Validates, Invalidates, Decides, Applies, Answers}
 use Rattle.mega_settled_laws.specs.of_tape_laws.of_promises.of_rules.Clock.{clock_of, start_of}
-use Rattle.mega_settled_laws.specs.of_tape_laws.of_promises.of_rules.Coordinators.{acquires_at, coordinator_calls, counts_notes, forget_notes, grant_notes, is_cell_in, lost_note, refused_at, tick_told, told_by, validated}
+use Rattle.mega_settled_laws.specs.of_tape_laws.of_promises.of_rules.Coordinators.{acquires_at, coordinator_calls, forget_notes, grant_notes, is_cell_in, lost_note, refused_at, tick_told, told_by, validated}
 use Rattle.mega_settled_laws.specs.of_tape_laws.of_promises.of_rules.Locks.{asked_for, cell_calls, grant_note, lapse_note, lapses_at}
 use Rattle.mega_settled_laws.specs.of_tape_laws.of_promises.of_rules.Logs.{groups_of}
 use Rattle.mega_settled_laws.specs.of_tape_laws.of_promises.of_rules.Members.{cells, has_rows, is_full, keep_of}
@@ -31,13 +29,13 @@ use Rattle.mega_settled_laws.specs.of_tape_laws.of_promises.of_rules.Acting.{com
 use Rattle.mega_settled_laws.specs.of_tape_laws.of_promises.of_rules.Steps.{Begin, Decision, Event, Heard, Step, Take, Tick, acts_in_turn, all_act, applied_at, apply_note, apply_notes, at_first, at_open, background, begin_step, decision_note, does_due, first_settled, hears_message, if_new, is_out, lapse_notes, last_answer, lease_notes, new_operation, news, onto, op_of, portion_of, refusal, step, stored_after, take_step, taken, tick_step, ticked, told_decision, told_notes, unless_refused}
 use Rattle.mega_settled_laws.specs.of_tape_laws.of_promises.of_rules.Replies.{reply_to}
 use Rattle.mega_settled_laws.specs.of_run_laws.Justified.{Each}
-use Rattle.mega_settled_laws.proofs.of_run_laws.Events.{IsAnswer, onto_append}
+use Rattle.mega_settled_laws.proofs.of_run_laws.Events.{IsAnswer, each_append as each_both, onto_append}
 use Rattle.mega_settled_laws.proofs.of_run_laws.Turns.{each_on}
-use Rattle.mega_settled_laws.proofs.Tapes.{each_both}
 use Rattle.mega_settled_laws.proofs.Walk.{Walks, begun_it, goes_on_it}
 use Rattle.mega_valid_laws.specs.Showing.{serving_met, valid_met}
 use Rattle.mega_valid_laws.proofs.Agreeing.{Agrees, grant_agrees, invalid_agrees, pass_agrees, tick_agrees, valid_agrees}
 use Rattle.mega_valid_laws.proofs.Folds.{after_serving, after_valid, onto_serving, onto_valid}
+use Rattle.mega_valid_laws.proofs.NoCalls.{IsNoCall, Uncalled, forgets_no_call, lost_no_call, told_no_call, uncalled_all}
 
 abbrev pub AgreesAt : Cluster → List Met → Type 0
 AgreesAt c met = Agrees (start_of met) c.cells (coordinator_calls c met) (serving_met met) (valid_met met)
@@ -138,30 +136,6 @@ answers_neutral notes h = each_on IsAnswer IsNeutral one notes h
 
 -- ---- notes of the coordinator
 
--- notes that are no call
-abbrev IsNoCall : Met → Type 0
-IsNoCall (Starts start) = ⊥
-IsNoCall (Ticks now) = ⊥
-IsNoCall (Takes message) = ⊥
-IsNoCall (Validates group position) = ⊥
-IsNoCall _ = Unit {0}
-
-record Uncalled (c : Cluster) (one two : List Met) : Type 0 where
-  start : start_of one ≡ start_of two
-  calls : coordinator_calls c one ≡ coordinator_calls c two
-
-uncalled_one : (c : Cluster) (one : Met) (met : List Met) → IsNoCall one → Uncalled c (one ∷ met) met
-uncalled_one c (Starts start) met n = absurd n
-uncalled_one c (Ticks now) met n = absurd n
-uncalled_one c (Takes message) met n = absurd n
-uncalled_one c (Validates group position) met n = absurd n
-uncalled_one c _ met n = record { start = refl; calls = refl }
-
-uncalled_all : (c : Cluster) (notes met : List Met) → Each IsNoCall notes → Uncalled c (onto notes met) met
-uncalled_all c [] met n = record { start = refl; calls = refl }
-uncalled_all c (one ∷ notes) met n =
-    let rest = uncalled_all c notes (one ∷ met) n.1 in let first = uncalled_one c one met n.0 in record { start = rest.start ∙ first.start; calls = rest.calls ∙ first.calls }
-
 agrees_noted : (c : Cluster) (notes met : List Met) → Each IsNoCall notes
     → Agrees (start_of met) c.cells (coordinator_calls c met) (after_serving notes (serving_met met)) (λ group. after_valid group notes (valid_met met group)) → AgreesAt c (onto notes met)
 agrees_noted c notes met n a = record {
@@ -171,31 +145,6 @@ agrees_noted c notes met n a = record {
   where
     same : Uncalled c (onto notes met) met
     same = uncalled_all c notes met n
-
-no_call_if : (t : Bool) (xs : List Met) → Each IsNoCall xs → Each IsNoCall (cond t xs [])
-no_call_if true xs h = h
-no_call_if false xs h = tt
-
-grant_no_call : (node : ℕ) (epoch : Epoch) (a : Asked) → Each IsNoCall (grant_note node epoch a)
-grant_no_call node epoch AnswerGranted = (tt, tt)
-grant_no_call node epoch Renewed = tt
-grant_no_call node epoch (AnswerTaken greatest) = tt
-grant_no_call node epoch (Over greatest) = tt
-
-counts_no_call : (cell : ℕ) (epoch : Epoch) (was : Bool) (a : Counted) → Each IsNoCall (counts_notes cell epoch was a)
-counts_no_call cell epoch was No = tt
-counts_no_call cell epoch true Yes = tt
-counts_no_call cell epoch false Yes = (tt, tt)
-counts_no_call cell epoch true Serving = (tt, tt)
-counts_no_call cell epoch false Serving = (tt, (tt, tt))
-
-told_no_call : (s : Setting) (met : List Met) (from : ℕ) (body : Body) → Each IsNoCall (told_notes s met from body)
-told_no_call s met from (Acquire cell epoch clock) = no_call_if (cell == s.me && nat_le s.me s.cluster.cells) (grant_note from epoch (asked_for s.cluster s.me met from epoch)) (grant_no_call from epoch (asked_for s.cluster s.me met from epoch))
-told_no_call s met from (Granted cell epoch clock) = no_call_if (is_full s.cluster s.me && nat_le cell s.cluster.cells) (grant_notes s.cluster met cell epoch clock)
-    (counts_no_call cell epoch (is_some (counted_by (lease_of (start_of met) s.cluster.cells (coordinator_calls s.cluster met)) cell))
-    (granted_answer (start_of met) s.cluster.cells (lease_of (start_of met) s.cluster.cells (coordinator_calls s.cluster met)) cell epoch (clock + s.cluster.lease) (clock_of met)))
-told_no_call s met from (Invalidate op group position) = no_call_if (is_full s.cluster s.me) (Invalidates group position.0 ∷ []) (tt, tt)
-told_no_call s met from _ = tt
 
 -- ---- a message that is taken
 
@@ -259,15 +208,6 @@ module _ (s : Setting) (full : is_full s.cluster s.me ≡ true) where
   forgets_valid group None xs more x = refl
   forgets_valid group (Some epoch) [] more x = refl
   forgets_valid group (Some epoch) (cell ∷ xs) more x = forgets_valid group (Some epoch) xs more x
-
-  forgets_no_call : (o : Option Epoch) (xs : List ℕ) → Each IsNoCall (forget_notes o xs)
-  forgets_no_call None xs = tt
-  forgets_no_call (Some epoch) [] = tt
-  forgets_no_call (Some epoch) (cell ∷ xs) = (tt, forgets_no_call (Some epoch) xs)
-
-  lost_no_call : (o : Option Epoch) → Each IsNoCall (lost_note o)
-  lost_no_call None = tt
-  lost_no_call (Some epoch) = (tt, tt)
 
   lease_agrees : (met : List Met) (now : ℕ) → AgreesAt s.cluster met → AgreesAt s.cluster (onto (lease_notes s met now) (Ticks now ∷ met))
   lease_agrees met now a = by (is_full s.cluster s.me) full
@@ -333,18 +273,20 @@ module _ (s : Setting) (base : List Met) where
   completes_holds now o group None asked p search h = record { met_is = h.met_is; valid = h.valid; answers = h.answers; agrees = h.agrees }
   completes_holds now o group (Some noted) asked p search h = validates_holds now _ group p noted (refused_at s.cluster now.met group p noted) refl h
 
-  walks : Walks s (λ op now. Holds s.cluster base now) (λ now o. Holds s.cluster base now)
+  walks : Walks s (λ op now. Holds s.cluster base now) (λ op now. Holds s.cluster base now) (λ now o. Holds s.cluster base now)
   walks = record {
     keeps_it = λ now o h. record { met_is = h.met_is; valid = h.valid; answers = h.answers; agrees = h.agrees };
     ends_it = λ now o answer h. ends_holds now o.id answer h;
-    completes_it = λ now o group noted asked p search h. completes_holds now o group noted asked p search h;
+    completes_it = λ now o group noted asked p search all h. completes_holds now o group noted asked p search h;
     seeks_it = λ now o group r least h. record { met_is = h.met_is; valid = h.valid; answers = h.answers; agrees = h.agrees };
-    asks_it = λ now o group r n leader own promised h. record { met_is = h.met_is; valid = h.valid; answers = h.answers; agrees = h.agrees };
+    asks_it = λ now o group noted asked p search leader own promised h. record { met_is = h.met_is; valid = h.valid; answers = h.answers; agrees = h.agrees };
     visits_it = λ now o before r group message h. record { met_is = h.met_is; valid = h.valid; answers = h.answers; agrees = h.agrees };
+    first_it = λ now id request clock group message h. record { met_is = h.met_is; valid = h.valid; answers = h.answers; agrees = h.agrees };
+    ends_first = λ now id answer h. ends_holds now id answer h;
   }
 
   turn_holds : (now : Now) (t : Heard) → Holds s.cluster base now → Holds s.cluster base (acts_in_turn s now t)
-  turn_holds now t h = goes_on_it s (λ op next. Holds s.cluster base next) (λ next o. Holds s.cluster base next) walks (sends_more now t.sends) t.operation
+  turn_holds now t h = goes_on_it s (λ op next. Holds s.cluster base next) (λ op next. Holds s.cluster base next) (λ next o. Holds s.cluster base next) walks (sends_more now t.sends) t.operation
       (record { met_is = h.met_is; valid = h.valid; answers = h.answers; agrees = h.agrees })
 
   all_hold : (ts : List Heard) (now : Now) → Holds s.cluster base now → Holds s.cluster base (all_act s now ts)
@@ -360,7 +302,7 @@ module _ (s : Setting) (base : List Met) where
       by false = turn_holds now (does_due s clock o) h
 
   begins_hold : (now : Now) (id : OpId) (request : Request) (clock : ℕ) (refusal : Option Answer) → Holds s.cluster base now → Holds s.cluster base (unless_refused s now (new_operation id request clock) refusal)
-  begins_hold now id request clock refusal h = begun_it s (λ op next. Holds s.cluster base next) (λ next o. Holds s.cluster base next) walks now id clock request refusal (λ none. h) (λ answer. ends_holds now id answer h)
+  begins_hold now id request clock refusal h = begun_it s (λ op next. Holds s.cluster base next) (λ op next. Holds s.cluster base next) (λ next o. Holds s.cluster base next) walks now id clock request refusal (λ none. h) (λ answer. ends_holds now id answer h)
 
 -- ---- steps
 

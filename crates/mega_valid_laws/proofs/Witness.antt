@@ -1,5 +1,5 @@
 -- A tape that is leased, on which a group is valid under an epoch that is held, and an entry settled.
-use Rattle.std.proofs.Common.{◌≡◌, inl, inr, ℕ, zero, suc, ◌≤◌, ◌==◌, ◌||◌, Bool, true, false, List, [], ◌∷◌, ◌++◌, refl, ◌∙◌, ap, subst, sym, arith}
+use Rattle.std.proofs.Common.{◌≡◌, inl, inr, ℕ, zero, suc, ◌≤◌, ◌==◌, Bool, true, false, List, [], ◌∷◌, ◌++◌, refl, ◌∙◌, subst, sym, arith}
 use Rattle.std.specs.List.{cons_option, list_any}
 use Rattle.mega_base.specs.declared.names.Position.{Position}
 use Rattle.mega_ballot.specs.declared.ballot.Ballot.{Ballot}
@@ -12,7 +12,6 @@ use Rattle.mega_settled_laws.specs.of_tape_laws.of_promises.of_transcript.declar
 use Rattle.mega_settled_laws.specs.of_tape_laws.of_promises.of_transcript.declared.item.Item.TheVariants.{Counts, Decide, Grant, Invalid, Lapse, Serving, Valid}
 use Rattle.mega_settled_laws.specs.of_tape_laws.of_promises.of_transcript.Tape.{newest}
 use Rattle.mega_settled_laws.specs.of_tape_laws.of_promises.Items.{number}
-use Rattle.mega_settled_laws.specs.of_tape_laws.of_promises.Promises.{Stands}
 use Rattle.mega_settled_laws.specs.of_tape_laws.of_promises.of_rules.Examples.{cluster, entry_of, group, op_of}
 use Rattle.mega_settled_laws.specs.of_tape_laws.of_promises.of_rules.Members.{full_nodes}
 use Rattle.mega_settled_laws.specs.of_tape_laws.of_promises.of_rules.Voting.{act_if}
@@ -25,22 +24,8 @@ use Rattle.mega_settled_laws.proofs.of_tape_laws.Witnesses.{first_two, two_of_th
 use Rattle.mega_settled_laws.specs.Covering.{IsCoveredSince, WasCovered, voted}
 use Rattle.mega_valid_laws.specs.Leases.{AreLeased, IsHeld, MayBeValid, MayServe, NoneAbove}
 use Rattle.mega_valid_laws.specs.Examples.{epoch, granted, polling, served, validated}
+use Rattle.mega_settled_laws.proofs.of_tape_laws.Settling.{finds}
 use Rattle.mega_valid_laws.proofs.Orders.{stood_second}
-
--- ---- what stands on a tape is found there
-
-finds : (test : Item → Bool) (item : Item) (tape : List Item) → Stands item tape → test item ≡ true → list_any test tape ≡ true
-finds test item [] s t = absurd s
-finds test item (other ∷ before) (inl same) t = left (test other) (list_any test before) (ap test same ∙ t)
-  where
-    left : (a b : Bool) → a ≡ true → (a || b) ≡ true
-    left true b e = refl
-    left false b e = cc
-finds test item (other ∷ before) (inr earlier) t = right (test other) (list_any test before) (finds test item before earlier t)
-  where
-    right : (a b : Bool) → b ≡ true → (a || b) ≡ true
-    right true b e = refl
-    right false b e = e
 
 abbrev is_serving : Item → Bool
 is_serving (Serving node e) = true
