@@ -7,7 +7,6 @@ mod numbers;
 mod requests;
 mod world;
 
-use crate::asserted::same_in;
 use mega_base::Text;
 use mega_schedule::{LineFault, WorldEvent, event};
 use mega_schema::{Schema, parse};
@@ -49,7 +48,7 @@ fn reason(answer: Result<WorldEvent, LineFault>) -> u8 {
 fn tells(rt: &impl Abort, alloc: Global, schema: &Schema, wanted: &str, line: &str) {
     let told = reason(event(alloc, line.as_bytes(), 1, schema));
     let told = format!(in alloc; "{told}").expect(rt, "refused");
-    same_in(rt, line, told.as_str(), wanted);
+    assert_eq!(rt; told.as_str(), wanted, "{line}");
 }
 
 /// Asserts of a row, which is a reason and a line, that the line is refused for the reason.

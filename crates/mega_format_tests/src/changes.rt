@@ -1,20 +1,16 @@
 //! Texts of a format in hex, cut short at each byte and changed at each byte, and where each is refused.
-use crate::asserted::{same, same_in};
 use mega_base::{Bytes, Field, FieldFault, decode, encode};
 use std::alloc::{AllocError, Global};
 use std::process::Abort;
 
-/// 1000 where the text is that of the value, else 0.
-fn place_of<T: Field>(rt: &impl Abort, alloc: Global, value: &T, bytes: &[u8]) -> u64 {
-    let mut out = Bytes::new(alloc);
-    encode(value, &mut out).expect(rt, "refused");
-    if out.as_slice() == bytes { 1000 } else { 0 }
-}
-
 /// Where the text is refused; 1000 where it is that of the value which it is read as.
 fn place<T: Field>(rt: &impl Abort, alloc: Global, bytes: &[u8]) -> u64 {
     match decode::<T>(alloc, bytes) {
-        Ok(value) => place_of(rt, alloc, &value, bytes),
+        Ok(value) => {
+            let mut out = Bytes::new(alloc);
+            encode(&value, &mut out).expect(rt, "refused");
+            if out.as_slice() == bytes { 1000 } else { 0 }
+        }
         Err(FieldFault::Malformed { at }) => at,
         Err(FieldFault::NoMemory) => 0,
     }
@@ -43,7 +39,7 @@ fn sum_of_changes<T: Field>(rt: &impl Abort, alloc: Global, bytes: &[u8]) -> u64
 /// Asserts that a number is the one that its row begins with.
 pub fn check_told(rt: &impl Abort, alloc: Global, told: u64, wanted: &str, text: &str) {
     let told = format!(in alloc; "{told}").expect(rt, "refused");
-    same_in(rt, text, told.as_str(), wanted);
+    assert_eq!(rt; told.as_str(), wanted, "{text}");
 }
 
 /// Asserts of a row, which is a place and a text, that the text is refused there.
@@ -63,9 +59,9 @@ pub fn check_places<T: Field>(rt: &impl Abort, alloc: Global, rows: &str) {
 
 /// Asserts that a text is that of a value, and that what is cut short is refused at its end.
 fn check_cuts<T: Field>(rt: &impl Abort, alloc: Global, bytes: &[u8]) {
-    same(rt, place::<T>(rt, alloc, bytes), 1000);
+    assert_eq!(rt; place::<T>(rt, alloc, bytes), 1000);
     for end in 0..bytes.len() {
-        same(rt, place::<T>(rt, alloc, &bytes[..end]), end as u64);
+        assert_eq!(rt; place::<T>(rt, alloc, &bytes[..end]), end as u64);
     }
 }
 

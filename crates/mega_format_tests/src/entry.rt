@@ -1,6 +1,5 @@
 //! Each entry of a table, cut short at each byte and changed at each byte, is refused at the byte that a
 //! reader written apart from this one names, or read as the entry whose text it is.
-use crate::asserted::same_in;
 use crate::changes::check_changes;
 use mega_base::{Copied, Same};
 use mega_entry::{Entry, decode};
@@ -31,8 +30,8 @@ fn check_copy(rt: &impl Abort, alloc: Global, empty: &Entry, row: &str) {
     let (_, text) = row.split_once(' ').expect(rt, "no sum");
     let entry = entry(rt, alloc, text);
     let copy = entry.copy(alloc).expect(rt, "refused");
-    same_in(rt, text, copy.same_as(&entry), true);
-    same_in(rt, text, empty.same_as(&entry), text.len() == 38);
+    assert!(rt; copy.same_as(&entry), "{text}");
+    assert!(rt; empty.same_as(&entry) == (text.len() == 38), "{text}");
 }
 
 #[test]

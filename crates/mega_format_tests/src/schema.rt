@@ -1,8 +1,8 @@
 //! A schema that is declared, and statements that break each rule.
 use crate::asserted::same;
 use crate::changes::check_told;
-use mega_base::{Kind, Shape, Text};
-use mega_schema::{Index, Schema, SchemaFault, Table, parse};
+use mega_base::{Kind, Text};
+use mega_schema::{Schema, SchemaFault, parse};
 use std::alloc::Global;
 use std::process::Abort;
 
@@ -37,14 +37,6 @@ fn photos(rt: &impl Abort, alloc: Global) -> Schema {
     parse(alloc, &text).expect(rt, "refused")
 }
 
-/// Asserts the key and the group of the table of photos.
-fn check_photo(rt: &impl Abort, photo: &Table) {
-    same(rt, photo.primary.as_slice(), [1, 2].as_slice());
-    same(rt, photo.group.as_slice(), [1].as_slice());
-    same(rt, photo.root, 1);
-    same(rt, [photo.inside, photo.scatter], [true, false]);
-}
-
 #[test]
 fn photos_are_declared(rt: HostRuntime) {
     let schema = photos(&rt, rt.alloc());
@@ -53,15 +45,10 @@ fn photos_are_declared(rt: HostRuntime) {
     let [_, photo] = schema.tables.as_slice() else {
         panic!(rt; "not two tables");
     };
-    check_photo(&rt, photo);
-}
-
-/// Asserts what the index by tag holds.
-fn check_by_tag(rt: &impl Abort, by_tag: &Index) {
-    same(rt, by_tag.global, true);
-    same(rt, by_tag.table, 2);
-    same(rt, by_tag.indexed.as_slice(), [6].as_slice());
-    same(rt, by_tag.storing.as_slice(), [5].as_slice());
+    same(&rt, photo.primary.as_slice(), [1, 2].as_slice());
+    same(&rt, photo.group.as_slice(), [1].as_slice());
+    same(&rt, photo.root, 1);
+    same(&rt, [photo.inside, photo.scatter], [true, false]);
 }
 
 #[test]
@@ -70,40 +57,29 @@ fn photos_are_indexed_by_tag(rt: HostRuntime) {
     let [_, by_tag] = schema.indexes.as_slice() else {
         panic!(rt; "not two indexes");
     };
-    check_by_tag(&rt, by_tag);
-}
-
-/// The shape of the keys of photos.
-fn photo_shape(rt: &impl Abort, alloc: Global) -> Shape {
-    let schema = photos(rt, alloc);
-    if schema.tables.len() != 2 {
-        panic!(rt; "not two tables");
-    }
-    schema.shape(alloc, 2).expect(rt, "refused")
+    same(&rt, by_tag.global, true);
+    same(&rt, by_tag.table, 2);
+    same(&rt, by_tag.indexed.as_slice(), [6].as_slice());
+    same(&rt, by_tag.storing.as_slice(), [5].as_slice());
 }
 
 #[test]
 fn photos_have_a_shape(rt: HostRuntime) {
-    let shape = photo_shape(&rt, rt.alloc());
+    let schema = photos(&rt, rt.alloc());
+    assert_eq!(rt; schema.tables.len(), 2);
+    let shape = schema.shape(rt.alloc(), 2).expect(&rt, "refused");
     same(&rt, [shape.space, shape.root, shape.table], [1, 1, 2]);
     same(&rt, shape.root_kinds.as_slice(), [Kind::Int64].as_slice());
     same(&rt, shape.rest_kinds.as_slice(), [Kind::Int32].as_slice());
 }
 
-/// The rule that was broken at this place; 100 for a token that cannot stand there.
-fn broken_at(fault: SchemaFault, place: u64) -> u8 {
-    match fault {
-        SchemaFault::Rule { at, rule } if at == place => rule,
-        SchemaFault::Syntax { at } if at == place => 100,
-        _ => 255,
-    }
-}
-
-/// The rule that a text breaks at this place; 0 for none.
+/// The rule that a text breaks at this place; 0 for none, 100 for a token that cannot stand there.
 fn rule_at(alloc: Global, text: &Text, place: u64) -> u8 {
     match parse(alloc, text) {
         Ok(_) => 0,
-        Err(fault) => broken_at(fault, place),
+        Err(SchemaFault::Rule { at, rule }) if at == place => rule,
+        Err(SchemaFault::Syntax { at }) if at == place => 100,
+        Err(_) => 255,
     }
 }
 

@@ -2,8 +2,6 @@
 #![tactic(auto)]
 
 #[cfg(test)]
-mod asserted;
-#[cfg(test)]
 mod lines;
 #[cfg(test)]
 mod reading_tests;

@@ -1,6 +1,5 @@
 //! Lines of transcripts are read and written back as they are, and lines of no item are refused where they differ.
 
-use crate::asserted::same;
 use crate::lines;
 use crate::written::written_back;
 use mega_base::{Bytes, Text};
@@ -25,18 +24,15 @@ fn fed(rt: &impl Abort, alloc: Global, line: &str) -> Bytes {
     fed
 }
 
-/// Asserts that a line is written back as it is.
-fn check_line(rt: &impl Abort, alloc: Global, schema: &Schema, row: &str) {
-    let line = fed(rt, alloc, row);
-    let made = written_back(alloc, schema, line.as_slice()).expect(rt, row);
-    same(rt, made.as_slice(), line.as_slice(), row);
-}
-
 /// Asserts that each line is written back as it is.
 fn check(rt: &impl Abort, alloc: Global, declared: &str, rows: &str) {
     let schema = schema(rt, alloc, declared);
     for row in rows.lines() {
-        check_line(rt, alloc, &schema, row);
+        let line = fed(rt, alloc, row);
+        let Ok(made) = written_back(alloc, &schema, line.as_slice()) else {
+            panic!(rt; "a line is none of an item: {row}");
+        };
+        assert_eq!(rt; made.as_slice(), line.as_slice(), "{row}");
     }
 }
 
@@ -55,19 +51,23 @@ fn lines_of_photos_are_written_back(rt: HostRuntime) {
     check(&rt, rt.alloc(), lines::PHOTOS_SCHEMA, lines::PHOTOS);
 }
 
-/// Asserts that a line is none of an item, by the offset at which that shows.
-fn check_none(rt: &impl Abort, alloc: Global, schema: &Schema, row: &str) {
-    let (at, line) = row.split_once(' ').expect(rt, "no offset");
-    let at = at.parse::<u64>().expect(rt, "refused");
-    let line = fed(rt, alloc, line);
-    let fault = written_back(alloc, schema, line.as_slice()).err();
-    same(rt, fault, Some(ItemFault::NotItem { at }), row);
+/// Where a line shows that it is none of an item.
+fn fault_at(read: Result<Bytes, ItemFault>) -> Option<u64> {
+    match read {
+        Err(ItemFault::NotItem { at }) => Some(at),
+        _ => None,
+    }
 }
 
 #[test]
 fn lines_of_no_item_are_refused(rt: HostRuntime) {
-    let schema = schema(&rt, rt.alloc(), lines::USERS_SCHEMA);
+    let alloc = rt.alloc();
+    let schema = schema(&rt, alloc, lines::USERS_SCHEMA);
     for row in NONE.lines() {
-        check_none(&rt, rt.alloc(), &schema, row);
+        let (wanted, line) = row.split_once(' ').expect(&rt, "no offset");
+        let line = fed(&rt, alloc, line);
+        let at = fault_at(written_back(alloc, &schema, line.as_slice())).expect(&rt, "it is taken");
+        let told = format!(in alloc; "{at}").expect(&rt, "refused");
+        assert_eq!(rt; told.as_str(), wanted, "{row}");
     }
 }

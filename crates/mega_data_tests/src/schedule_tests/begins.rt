@@ -1,7 +1,6 @@
 //! What lines of operations ask for, and the text with which they begin.
 
 use super::schema;
-use crate::asserted::same;
 use mega_base::Text;
 use mega_outcome::Request;
 use mega_schedule::{WorldEvent, event};
@@ -39,7 +38,7 @@ pub fn begun(rt: &impl Abort, alloc: Global, line: &str) -> (Request, Text) {
 fn check_text(rt: &impl Abort, alloc: Global, row: &str) {
     let (line, wanted) = row.split_once(" => ").expect(rt, "no arrow");
     let (_request, text) = begun(rt, alloc, line);
-    same(rt, text.as_str(), wanted);
+    assert_eq!(rt; text.as_str(), wanted);
 }
 
 #[test]

@@ -1,7 +1,6 @@
 //! Lines at the limits of length, number and nesting, and each byte in each place of a line.
 
 use super::{lines, reason, schema};
-use crate::asserted::same;
 use mega_schedule::event;
 use mega_schema::Schema;
 use std::alloc::Global;
@@ -26,7 +25,7 @@ fn check_line(
     wanted: u8,
 ) {
     let told = reason(event(alloc, line, number, schema));
-    same(rt, (number, line.len(), told), (number, line.len(), wanted));
+    assert_eq!(rt; told, wanted, "line {number} with {} bytes", line.len());
 }
 
 /// Asserts what is told of a line in the shortest and longest spelling, in the last place and behind it.
@@ -127,7 +126,7 @@ fn check_byte(
     line.extend_from_slice(around.1.as_bytes())
         .expect(rt, "refused");
     let told = reason(event(alloc, line.as_slice(), 1, schema));
-    same(rt, (around, byte, told), (around, byte, wanted));
+    assert_eq!(rt; told, wanted, "the byte {byte} behind {around:?}");
 }
 
 /// The bytes that stand for themselves in a text; no byte above them is a character of UTF-8 by itself.

@@ -1,7 +1,6 @@
 //! What lines of operations ask for: names by their numbers, and values by the kinds of their places.
 
 use super::begins::begun;
-use crate::asserted::same;
 use std::alloc::Global;
 use std::process::Abort;
 
@@ -35,7 +34,7 @@ fn check_request(rt: &impl Abort, alloc: Global, row: &str) {
     let (line, wanted) = row.split_once(" => ").expect(rt, "no arrow");
     let (request, _text) = begun(rt, alloc, line);
     let told = format!(in alloc; "{request:?}").expect(rt, "refused");
-    same(rt, told.as_str(), wanted);
+    assert_eq!(rt; told.as_str(), wanted);
 }
 
 #[test]

@@ -1,7 +1,6 @@
 //! Events of the world itself.
 
 use super::schema;
-use crate::asserted::same;
 use mega_disk::Device;
 use mega_schedule::{WorldEvent, event};
 use mega_schema::Schema;
@@ -68,7 +67,7 @@ fn check_event(rt: &impl Abort, alloc: Global, schema: &Schema, row: &str) {
     let event = event(alloc, line.as_bytes(), 1, schema).expect(rt, "refused");
     let (word, numbers) = shown(&event);
     let told = format!(in alloc; "{word} {numbers:?}").expect(rt, "refused");
-    same(rt, told.as_str(), wanted);
+    assert_eq!(rt; told.as_str(), wanted);
 }
 
 #[test]
