@@ -38,34 +38,36 @@ fn sample<'a>(samples: &'a str, name: &str) -> Option<&'a str> {
 /// Whether a request puts the plan in the state of this digit.
 fn puts(request: &[u8], state: &str) -> bool {
     let name = if state == "0" { "plan" } else { "decide" };
-    let front = sample(samples::PUTS, name).unwrap_or("?");
-    let digit = state.as_bytes();
-    request.starts_with(front.as_bytes())
-        && request.ends_with(b"}}]}")
-        && digit.len() == 1
-        && request.len() > 5
-        && request[request.len() - 5] == digit[0]
+    match (sample(samples::PUTS, name), sample(samples::ENDS, state)) {
+        (Some(front), Some(end)) => {
+            request.starts_with(front.as_bytes()) && request.ends_with(end.as_bytes())
+        }
+        _ => false,
+    }
 }
 
-/// Whether the change asks what a history names, or ended so.
-pub fn is_at(two: &Two, wanted: &str) -> bool {
-    if let Some(ended) = two.ended() {
-        return two.ask().is_none() && end_of(ended) == wanted;
-    }
-    let Some(request) = two.ask() else {
-        return false;
-    };
+/// Whether a request is what a history names.
+fn is_request(request: &[u8], wanted: &str) -> bool {
     match sample(samples::REQUESTS, wanted) {
         Some(text) => request == text.as_bytes(),
         None => puts(request, wanted),
     }
 }
 
+/// Whether the change asks what a history names, or ended so.
+pub fn is_at(two: &Two, wanted: &str) -> bool {
+    match (two.ended(), two.ask()) {
+        (Some(ended), None) => end_of(ended) == wanted,
+        (None, Some(request)) => is_request(request, wanted),
+        _ => false,
+    }
+}
+
 /// The reason for which a line begins no change, 0 where it begins one, 255 where memory ran out.
 pub fn reason_of(alloc: Global, schema: &Schema, line: &str) -> u8 {
-    match Two::begin(alloc, schema, line.as_bytes()) {
-        Ok(_) => 0,
-        Err(TwoFault::Refused { reason }) => reason,
-        Err(TwoFault::NoMemory) => 255,
+    match Two::begin(alloc, schema, line.as_bytes()).err() {
+        None => 0,
+        Some(TwoFault::Refused { reason }) => reason,
+        Some(TwoFault::NoMemory) => 255,
     }
 }

@@ -32,6 +32,9 @@ pub const PUTS: &str =
     r#"plan {"checks":[{"gone":"TwoPlan","key":["t1"]}],"do":"txn","group":["TwoPlan",["t1"]],"reads":[],"sends":[],"writes":[{"put":"TwoPlan","row":{"gid":"t1","plan":"7b2267
 decide {"checks":[{"is":"TwoPlan","key":["t1"],"property":"state","values":[0]}],"do":"txn","group":["TwoPlan",["t1"]],"reads":[],"sends":[],"writes":[{"put":"TwoPlan","row":{"gid":"t1","plan":"7b2267"#;
 
+/// The end of the requests that put the plan, by the state.
+pub const ENDS: &str = "0 0}}]}\n1 1}}]}\n2 2}}]}";
+
 /// Replies, each with the name of the request that follows it, and how it ends: a history a line.
 pub const HISTORIES: &str =
     "committed>prepare1;committed>prepare2;turned check 2>2;committed>abort1;committed>abort2;turned check 0>lock2;read 3 [null]>aborted
