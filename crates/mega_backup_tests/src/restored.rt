@@ -1,7 +1,7 @@
 //! What a restore of a backup writes.
 
 use mega_backup::{BackupFault, line, read};
-use mega_base::{Bytes, NoMemory, Position, Text};
+use mega_base::{Bytes, Position, Text};
 use mega_outcome::Transaction;
 use mega_schema::{Schema, parse};
 use std::alloc::Global;
@@ -25,24 +25,27 @@ pub fn lines_of(rt: &impl Abort, alloc: Global, text: &str) -> Vec<Bytes> {
 }
 
 /// The schedule lines of transactions, one after another.
-fn shown(alloc: Global, schema: &Schema, txns: &[Transaction]) -> Result<Bytes, NoMemory> {
+fn shown(rt: &impl Abort, alloc: Global, schema: &Schema, txns: &[Transaction]) -> Bytes {
     let mut text = Bytes::new(alloc);
     for txn in txns {
-        line(alloc, schema, txn, &mut text)?;
+        line(alloc, schema, txn, &mut text).expect(rt, "refused");
     }
-    Ok(text)
+    text
+}
+
+/// A word and a number.
+pub fn told(rt: &impl Abort, alloc: Global, word: &str, number: u64) -> Bytes {
+    let words = format!(in alloc; "{word} {number}").expect(rt, "refused");
+    Bytes::from_slice(alloc, words.as_bytes()).expect(rt, "refused")
 }
 
 /// The words of a refusal.
 fn refusal(rt: &impl Abort, alloc: Global, fault: &BackupFault) -> Bytes {
-    let words = match fault {
-        BackupFault::Short { has } => format!(in alloc; "short {}", has.0).expect(rt, "refused"),
-        BackupFault::Malformed { line } => format!(in alloc; "malformed {line}").expect(
-            rt, "refused",
-        ),
-        _ => String::from_str(alloc, "another fault").expect(rt, "refused"),
-    };
-    Bytes::from_slice(alloc, words.as_bytes()).expect(rt, "refused")
+    match fault {
+        BackupFault::Short { has } => told(rt, alloc, "short", has.0),
+        BackupFault::Malformed { line } => told(rt, alloc, "malformed", *line),
+        _ => told(rt, alloc, "another fault", 0),
+    }
 }
 
 /// What a restore of these lines at a position writes.
@@ -54,7 +57,7 @@ pub fn restored(
     through: u64,
 ) -> Bytes {
     match read(alloc, schema, lines, Position(through)) {
-        Ok(txns) => shown(alloc, schema, txns.as_slice()).expect(rt, "refused"),
+        Ok(txns) => shown(rt, alloc, schema, txns.as_slice()),
         Err(fault) => refusal(rt, alloc, &fault),
     }
 }

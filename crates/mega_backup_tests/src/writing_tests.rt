@@ -1,95 +1,110 @@
 //! What is written of a log.
-ghost use Rattle.std.specs.Prelude.{length, IfOk, ◌≤◌};
+ghost use Rattle.std.specs.Prelude.{length, ◌≤◌};
 ghost use Rattle.mega_base.specs.Codec.{IsNested};
 ghost use Rattle.mega_entry.specs.Entries.{entry_text, IsEntry};
 ghost use Rattle.mega_wal.specs.Compaction.{IsOfFormat};
 
+use crate::asserted::same;
 use crate::samples;
 use mega_backup::{BackupFault, write};
-use mega_base::{Bytes, GroupId, NoMemory, Position};
+use mega_base::{Bytes, GroupId, Position};
 use mega_disk::MemRecords;
-use mega_entry::{Entry, EntryFault, decode};
+use mega_entry::{Entry, decode};
 use mega_io::MemSink;
-use mega_wal::{LogFault, Logs};
+use mega_wal::Logs;
 use std::alloc::Global;
-use std::test::Fail;
+use std::process::Abort;
 
 /// The group of user 101.
-fn group(alloc: Global) -> Result<GroupId, NoMemory>
-    ensures { IfOk result (λ group. length group.key ≤ 65536) }
+fn group(rt: &impl Abort, alloc: Global) -> GroupId
+    ensures { length result.key ≤ 65536 }
 {
-    let key = Bytes::from_slice(alloc, &[1, 128, 0, 0, 0, 0, 0, 0, 101])?;
-    Ok(GroupId { key })
+    let key = Bytes::from_slice(alloc, &[1, 128, 0, 0, 0, 0, 0, 0, 101]).expect(rt, "refused");
+    GroupId { key }
 }
 
 /// The entry of this text.
-fn entry(alloc: Global, text: &[u8]) -> Result<Entry, EntryFault>
+fn entry(rt: &impl Abort, alloc: Global, text: &[u8]) -> Entry
     requires { length text.now ≤ 65536 }
-    ensures { IfOk result (IsNested 65536 entry_text IsEntry) }
+    ensures { IsNested 65536 entry_text IsEntry result }
 {
-    let entry = decode(alloc, text)?;
-    Ok(entry)
+    decode(alloc, text).expect(rt, "refused")
 }
 
-/// Logs with this entry decided at position 1.
-fn logs_with(alloc: Global, group: &GroupId, entry: Entry) -> Result<Logs<MemRecords>, LogFault>
-    requires group { length group.now.key ≤ 65536 }
-    requires entry { IsNested 65536 entry_text IsEntry entry }
-    ensures { IfOk result (λ logs. IsOfFormat logs.kept) }
+/// The entry of user 101.
+fn user_entry(rt: &impl Abort, alloc: Global) -> Entry
+    ensures { IsNested 65536 entry_text IsEntry result }
 {
-    let mut logs = match Logs::open(alloc, MemRecords::new(alloc)) {
-        Ok(logs) => logs,
-        Err((fault, _)) => return Err(fault),
-    };
-    logs.decide(alloc, group, Position(1), entry)?;
-    Ok(logs)
-}
-
-/// Logs with the entry of user 101.
-fn logs(alloc: Global, group: &GroupId) -> Result<Logs<MemRecords>, Fail>
-    requires { length group.now.key ≤ 65536 }
-    ensures { IfOk result (λ logs. IsOfFormat logs.kept) }
-{
-    let text = hex::decode(alloc, samples::USER_ENTRY.as_bytes())?;
+    let text = hex::decode(alloc, samples::USER_ENTRY.as_bytes()).expect(rt, "refused");
     if 65536 < text.len() {
-        return Err("a long entry".into());
+        panic!(rt; "a long entry");
     }
-    let entry = entry(alloc, text.as_slice())?;
-    Ok(logs_with(alloc, group, entry)?)
+    entry(rt, alloc, text.as_slice())
+}
+
+/// Logs in which nothing is decided.
+fn fresh(rt: &impl Abort, alloc: Global) -> Logs<MemRecords>
+    ensures { IsOfFormat result.kept }
+{
+    match Logs::open(alloc, MemRecords::new(alloc)) {
+        Ok(logs) => logs,
+        Err((fault, _)) => panic!(rt; "refused: {fault:?}"),
+    }
+}
+
+/// Logs with the entry of user 101 decided at position 1.
+fn logs(rt: &impl Abort, alloc: Global, group: &GroupId) -> Logs<MemRecords>
+    requires { length group.now.key ≤ 65536 }
+    ensures { IsOfFormat result.kept }
+{
+    let entry = user_entry(rt, alloc);
+    let mut logs = fresh(rt, alloc);
+    logs.decide(alloc, group, Position(1), entry)
+        .expect(rt, "refused");
+    logs
+}
+
+/// Writes a backup of these logs through a position, and gives the fault.
+fn fault_of(
+    rt: &impl Abort,
+    alloc: Global,
+    through: u64,
+    sink: &mut MemSink,
+) -> Option<BackupFault> {
+    let group = group(rt, alloc);
+    let logs = logs(rt, alloc, &group);
+    write(alloc, &logs, &group, Position(through), sink).err()
 }
 
 #[test]
-fn a_log_is_written(rt: HostRuntime) -> Result<(), Fail> {
+fn a_log_is_written(rt: HostRuntime) {
     let alloc = rt.alloc();
-    let group = group(alloc)?;
-    let logs = logs(alloc, &group)?;
     let mut sink = MemSink::new(alloc, Vec::new(alloc));
-    let done = write(alloc, &logs, &group, Position(1), &mut sink);
-    assert!(rt; done.is_ok());
-    assert_eq!(rt; sink.bytes(), samples::USER_BACKUP.as_bytes());
-    Ok(())
+    let fault = fault_of(&rt, alloc, 1, &mut sink);
+    same(&rt, fault.is_none(), true);
+    same(&rt, sink.bytes(), samples::USER_BACKUP.as_bytes());
 }
 
 #[test]
-fn a_backup_beyond_the_log_is_short(rt: HostRuntime) -> Result<(), Fail> {
+fn a_backup_beyond_the_log_is_short(rt: HostRuntime) {
     let alloc = rt.alloc();
-    let group = group(alloc)?;
-    let logs = logs(alloc, &group)?;
     let mut sink = MemSink::new(alloc, Vec::new(alloc));
-    let done = write(alloc, &logs, &group, Position(2), &mut sink);
-    assert!(rt; matches!(done, Err(BackupFault::Short { has: Position(1) })));
-    assert!(rt; sink.bytes().is_empty());
-    Ok(())
+    let fault = fault_of(&rt, alloc, 2, &mut sink);
+    let is_short = matches!(fault, Some(BackupFault::Short { has: Position(1) }));
+    same(&rt, is_short, true);
+    same(&rt, sink.bytes().is_empty(), true);
 }
 
 #[test]
-fn a_sink_that_fails_is_told(rt: HostRuntime) -> Result<(), Fail> {
+fn a_sink_that_fails_is_told(rt: HostRuntime) {
     let alloc = rt.alloc();
-    let group = group(alloc)?;
-    let logs = logs(alloc, &group)?;
-    let mut sink = MemSink::new(alloc, vec![in alloc; 2]?);
-    let done = write(alloc, &logs, &group, Position(1), &mut sink);
-    assert!(rt; matches!(done, Err(BackupFault::SinkFault)));
-    assert_eq!(rt; sink.bytes(), b"backup 018000000000000065 1\n".as_slice());
-    Ok(())
+    let failing = vec![in alloc; 2].expect(&rt, "refused");
+    let mut sink = MemSink::new(alloc, failing);
+    let fault = fault_of(&rt, alloc, 1, &mut sink);
+    same(&rt, matches!(fault, Some(BackupFault::SinkFault)), true);
+    same(
+        &rt,
+        sink.bytes(),
+        b"backup 018000000000000065 1\n".as_slice(),
+    );
 }
