@@ -90,20 +90,13 @@ fn photos_have_a_shape(rt: HostRuntime) {
     same(&rt, shape.rest_kinds.as_slice(), [Kind::Int32].as_slice());
 }
 
-/// The rule that was broken at this place; 100 for a token that cannot stand there.
-fn broken_at(fault: SchemaFault, place: u64) -> u8 {
-    match fault {
-        SchemaFault::Rule { at, rule } if at == place => rule,
-        SchemaFault::Syntax { at } if at == place => 100,
-        _ => 255,
-    }
-}
-
-/// The rule that a text breaks at this place; 0 for none.
+/// The rule that a text breaks at this place; 0 for none, 100 for a token that cannot stand there.
 fn rule_at(alloc: Global, text: &Text, place: u64) -> u8 {
     match parse(alloc, text) {
         Ok(_) => 0,
-        Err(fault) => broken_at(fault, place),
+        Err(SchemaFault::Rule { at, rule }) if at == place => rule,
+        Err(SchemaFault::Syntax { at }) if at == place => 100,
+        Err(_) => 255,
     }
 }
 
