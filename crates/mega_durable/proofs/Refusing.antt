@@ -40,10 +40,10 @@ refused_above (Take message) below refused = λ h node is. refused h node (below
 refused_above (Begin request text) below refused = refused
 refused_above (Tick now) below refused = λ h node is. refused h node (below h node is)
 
-pub late_above : {Was Is : Meanings → RuleNode → Type 0} {c : Cluster} (event : Event) → ((h : Meanings) (node : RuleNode) → Is h node → Was h node) → IsTooLate Was c event → IsTooLate Is c event
-late_above (Take message) below late = λ h node is. late h node (below h node is)
-late_above (Begin request text) below late = late
-late_above (Tick now) below late = late
+pub late_above : {Was Is : Meanings → RuleNode → Type 0} (c : Cluster) (event : Event) → ((h : Meanings) (node : RuleNode) → Is h node → Was h node) → IsTooLate Was c event → IsTooLate Is c event
+late_above c (Take message) below late = λ h node is. late h node (below h node is)
+late_above c (Begin request text) below late = late
+late_above c (Tick now) below late = late
 
 -- a step
 fault_of : LogFault → Option LogFault → LogFault

@@ -89,7 +89,7 @@ pub returns-in-Err-clause-unserved : goal.returns-in-Err-clause-unserved
 returns-in-Err-clause-unserved g c = λ is. refused_above (event_of c.args.event) (λ h node up. up.stands) (c.in-Err.ensures.unserved (ap Err (same_step _ _ is)))
 
 pub returns-in-Err-clause-late : goal.returns-in-Err-clause-late
-returns-in-Err-clause-late g c = λ is. late_above (event_of c.args.event) (λ h node up. up.stands) (c.in-Err.ensures.late (ap Err (same_step _ _ is)))
+returns-in-Err-clause-late g c = λ is. late_above c.args.self.now.node.replica.members (event_of c.args.event) (λ h node up. up.stands) (c.in-Err.ensures.late (ap Err (same_step _ _ is)))
 
 pub returns-in-Err-keep-clause-formed : goal.returns-in-Err-keep-clause-formed
 returns-in-Err-keep-clause-formed g c = λ told is h node up may.
