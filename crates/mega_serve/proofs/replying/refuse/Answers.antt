@@ -10,4 +10,4 @@ reply-requires-clause-short c = c.in_ok-text.ensures.short
 
 pub returns : goal.returns
 returns c = λ schema lines page.
-    subst (λ (text : List ℕ). IsPage schema c.reply.new.page (lines ++ Put (OfClient c.args.client) (message_text (record { from = c.args.me; to = 0; body = Reply c.args.token text })) ∷ [])) c.in_ok-text.ensures.text (c.in_ok-reply.ensures schema lines page)
+    subst (λ (text : List ℕ). IsPage schema c.reply.new.self (lines ++ Put (OfClient c.args.client) (message_text (record { from = c.args.me; to = 0; body = Reply c.args.token text })) ∷ [])) c.in_ok-text.ensures.text (c.in_ok-reply.ensures schema lines page)

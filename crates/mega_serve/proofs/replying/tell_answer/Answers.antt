@@ -14,8 +14,8 @@ reply-requires-clause-short c = c.in_ok-text-in-Some.ensures.short
 pub returns-in_ok-reply-in-Some : goal.returns-in_ok-reply-in-Some
 returns-in_ok-reply-in-Some c = λ lines page.
     let one = c.in-Some.one in
-    subst (λ (found : Option Waits). IsPage c.args.schema.now c.reply.new.page (lines ++ answered_line c.args.schema.now c.args.me c.args.answer.now (option_map waiting_of found))) (sym c.in-Some.is)
-    (subst (λ (text : List ℕ). IsPage c.args.schema.now c.reply.new.page (lines ++ Put (OfClient one.client) (message_text (record { from = c.args.me; to = 0; body = Reply one.token text })) ∷ [])) c.in_ok-text-in-Some.ensures.text
+    subst (λ (found : Option Waits). IsPage c.args.schema.now c.reply.new.self (lines ++ answered_line c.args.schema.now c.args.me c.args.answer.now (option_map waiting_of found))) (sym c.in-Some.is)
+    (subst (λ (text : List ℕ). IsPage c.args.schema.now c.reply.new.self (lines ++ Put (OfClient one.client) (message_text (record { from = c.args.me; to = 0; body = Reply one.token text })) ∷ [])) c.in_ok-text-in-Some.ensures.text
     (c.in_ok-reply-in-Some.ensures c.args.schema.now lines page))
 
 pub returns-in-None : goal.returns-in-None
