@@ -1,5 +1,5 @@
 //! Calls of a voter's logs that are drawn, and the small values in them.
-ghost use Rattle.std.specs.Prelude.{◌≤◌, ◌<◌, length};
+ghost use Rattle.std.specs.Prelude.{◌≤◌, ◌<◌, length, IfOk};
 ghost use Rattle.mega_base.specs.Codec.{IsNested};
 ghost use Rattle.mega_base.specs.Names.{IsNode, IsPositionIn};
 ghost use Rattle.mega_ballot.specs.Ballots.{IsBallot};
@@ -8,10 +8,9 @@ ghost use Rattle.mega_entry.specs.Entries.{entry_text, IsEntry};
 use crate::crashes::entry;
 use crate::draws::Draws;
 use mega_ballot::Ballot;
-use mega_base::{Bytes, Epoch, GroupId, NodeId, OpId, Position};
-use mega_entry::Entry;
+use mega_base::{Bytes, Epoch, GroupId, NoMemory, NodeId, OpId, Position};
+use mega_entry::{Entry, EntryFault};
 use std::alloc::Global;
-use std::process::Abort;
 
 /// What a call asks of the logs.
 #[derive(Clone, Copy, PartialEq, Eq, Debug, Drop)]
@@ -69,16 +68,16 @@ fn drawn_kind(draws: &mut Draws) -> Kind {
 }
 
 /// A group: the key of the first is a prefix of that of the second.
-pub fn group(rt: &impl Abort, alloc: Global, number: u8) -> GroupId
-    ensures { length result.key ≤ 65536 }
+pub fn group(alloc: Global, number: u8) -> Result<GroupId, NoMemory>
+    ensures { IfOk result (λ group. length group.key ≤ 65536) }
 {
     let bytes = [b'a', b'b'];
     let key = match number {
-        0 => Bytes::from_slice(alloc, &bytes[..1]).expect(rt, "refused"),
-        1 => Bytes::from_slice(alloc, &bytes).expect(rt, "refused"),
-        _ => Bytes::from_slice(alloc, &bytes[1..]).expect(rt, "refused"),
+        0 => Bytes::from_slice(alloc, &bytes[..1])?,
+        1 => Bytes::from_slice(alloc, &bytes)?,
+        _ => Bytes::from_slice(alloc, &bytes[1..])?,
     };
-    GroupId { key }
+    Ok(GroupId { key })
 }
 
 pub fn position(number: u8) -> Position
@@ -120,19 +119,17 @@ pub fn epoch(number: u8) -> Epoch {
 }
 
 /// An entry with nothing in it: three of three leaders with no id, and three with an id.
-pub fn entry_of(rt: &impl Abort, alloc: Global, number: u8) -> Entry
-    ensures { IsNested 65536 entry_text IsEntry result }
+pub fn entry_of(alloc: Global, number: u8) -> Result<Entry, EntryFault>
+    ensures { IfOk result (IsNested 65536 entry_text IsEntry) }
 {
     let leader = 1 + number % 3;
     if number < 3 {
         return entry(
-            rt,
             alloc,
             &[1, 0, leader, 0, 0, 0, 0, 0, 0, 0, 0, 0, 0, 0, 0, 0, 0, 0, 0],
         );
     }
     entry(
-        rt,
         alloc,
         &[
             1, 1, 1, 0, 0, 0, 1, 0, 0, 0, 1, leader, 0, 0, 0, 0, 0, 0, 0, 0, 0, 0, 0, 0, 0, 0, 0, 0,

@@ -1,5 +1,5 @@
 //! Drawn calls of a voter's logs beside a list that keeps everything.
-ghost use Rattle.std.specs.Prelude.{◌≡◌, ◌≤◌, ◌+◌, All, length};
+ghost use Rattle.std.specs.Prelude.{◌≡◌, ◌≤◌, ◌+◌, All, length, IfOk, OnOk};
 ghost use Rattle.mega_wal.specs.declared.item.JournalItem.TheVariants.{Accept, Decide, Grant, Lapse, Promise};
 ghost use Rattle.mega_wal.specs.Compaction.{IsOfFormat};
 ghost use Rattle.mega_wal.specs.Items.{IsItem};
@@ -9,73 +9,71 @@ use crate::draws::Draws;
 use crate::plain::{Plain, Seen, Told};
 use mega_ballot::Ballot;
 use mega_base::{Epoch, GroupId, NodeId, Position};
-use mega_disk::{MemRecords, Records};
+use mega_disk::MemRecords;
 use mega_entry::Entry;
-use mega_wal::{Logs, Promised, Voted};
+use mega_wal::{LogFault, Logs, Promised, Voted};
 use std::alloc::Global;
-use std::fmt::Debug;
 use std::process::Abort;
+use std::test::Fail;
 
 /// Logs over a list of records.
 #[tactic(auto, using(crate::proofs::Staged::none_each, crate::proofs::Staged::none_few))]
-fn opened(rt: &impl Abort, alloc: Global, records: MemRecords) -> Logs<MemRecords>
-    ensures few { length result.staged.items ≡ 0 }
-    ensures each { All IsItem result.staged.items }
-    ensures format { IsOfFormat result.kept }
+fn opened(alloc: Global, records: MemRecords) -> Result<Logs<MemRecords>, LogFault>
+    ensures few { IfOk result (λ logs. length logs.staged.items ≡ 0) }
+    ensures each { IfOk result (λ logs. All IsItem logs.staged.items) }
+    ensures format { IfOk result (λ logs. IsOfFormat logs.kept) }
 {
     match Logs::open(alloc, records) {
-        Ok(logs) => logs,
-        Err((fault, _)) => panic!(rt; "refused: {fault:?}"),
+        Ok(logs) => Ok(logs),
+        Err((fault, _)) => Err(fault),
     }
 }
 
 /// The same logs, opened again.
-fn reopened(rt: &impl Abort, alloc: Global, logs: Logs<MemRecords>) -> Logs<MemRecords>
-    ensures few { length result.staged.items ≡ 0 }
-    ensures each { All IsItem result.staged.items }
-    ensures format { IsOfFormat result.kept }
+fn reopened(alloc: Global, logs: Logs<MemRecords>) -> Result<Logs<MemRecords>, LogFault>
+    ensures few { IfOk result (λ logs. length logs.staged.items ≡ 0) }
+    ensures each { IfOk result (λ logs. All IsItem logs.staged.items) }
+    ensures format { IfOk result (λ logs. IsOfFormat logs.kept) }
 {
     let mut records = logs.close();
-    records.reopen().expect(rt, "refused");
-    opened(rt, alloc, records)
+    records.reopen()?;
+    opened(alloc, records)
 }
 
 /// Makes a record of what waits, and compacts the records where they are due for it.
 #[tactic(auto, using(crate::proofs::Staged::none_each, crate::proofs::Staged::none_few))]
-fn flush(rt: &impl Abort, alloc: Global, logs: &mut Logs<MemRecords>)
+fn flush(alloc: Global, logs: &mut Logs<MemRecords>) -> Result<(), LogFault>
     requires few { length logs.old.staged.items ≤ 1000 }
     requires each { All IsItem logs.old.staged.items }
     requires format { IsOfFormat logs.old.kept }
-    ensures few { length logs.new.staged.items ≡ 0 }
-    ensures each { All IsItem logs.new.staged.items }
-    ensures format { IsOfFormat logs.new.kept }
+    ensures few { OnOk result (length logs.new.staged.items ≡ 0) }
+    ensures each { OnOk result (All IsItem logs.new.staged.items) }
+    ensures format { OnOk result (IsOfFormat logs.new.kept) }
 {
-    logs.flush(alloc).expect(rt, "refused");
+    logs.flush(alloc)?;
     if logs.due() {
-        logs.compact(alloc).expect(rt, "refused");
+        logs.compact(alloc)?;
     }
+    Ok(())
 }
 
 #[tactic(auto, using(crate::proofs::Staged::promise_each, crate::proofs::Staged::promise_few))]
-fn promise<R: Records>(
-    rt: &impl Abort,
+fn promise(
     alloc: Global,
-    logs: &mut Logs<R>,
+    logs: &mut Logs<MemRecords>,
     group: &GroupId,
     position: Position,
     ballot: Ballot,
-) -> Told
+) -> Result<Told, LogFault>
     requires item { IsItem (Promise group.now position ballot) }
     requires each { All IsItem logs.old.staged.items }
     requires format { IsOfFormat logs.old.kept }
-    ensures few { length logs.new.staged.items ≤ length logs.old.staged.items + 1 }
-    ensures each { All IsItem logs.new.staged.items }
-    ensures format { IsOfFormat logs.new.kept }
+    ensures few { OnOk result (length logs.new.staged.items ≤ length logs.old.staged.items + 1) }
+    ensures each { OnOk result (All IsItem logs.new.staged.items) }
+    ensures format { OnOk result (IsOfFormat logs.new.kept) }
 {
-    let promised = logs
-        .promise(alloc, group, position, ballot)
-        .expect(rt, "refused");
-    told_promise(&promised)
+    let promised = logs.promise(alloc, group, position, ballot)?;
+    Ok(told_promise(&promised))
 }
 
 fn told_promise(promised: &Promised) -> Told {
@@ -87,26 +85,23 @@ fn told_promise(promised: &Promised) -> Told {
 }
 
 #[tactic(auto, using(crate::proofs::Staged::accept_each, crate::proofs::Staged::accept_few))]
-fn accept<R: Records>(
-    rt: &impl Abort,
+fn accept(
     alloc: Global,
-    logs: &mut Logs<R>,
+    logs: &mut Logs<MemRecords>,
     group: &GroupId,
     position: Position,
     ballot: Ballot,
     entry: Entry,
-) -> Told
+) -> Result<Told, LogFault>
     requires item { IsItem (Accept group.now position ballot entry) }
     requires each { All IsItem logs.old.staged.items }
     requires format { IsOfFormat logs.old.kept }
-    ensures few { length logs.new.staged.items ≤ length logs.old.staged.items + 1 }
-    ensures each { All IsItem logs.new.staged.items }
-    ensures format { IsOfFormat logs.new.kept }
+    ensures few { OnOk result (length logs.new.staged.items ≤ length logs.old.staged.items + 1) }
+    ensures each { OnOk result (All IsItem logs.new.staged.items) }
+    ensures format { OnOk result (IsOfFormat logs.new.kept) }
 {
-    let voted = logs
-        .accept(alloc, group, position, ballot, entry)
-        .expect(rt, "refused");
-    told_vote(&voted)
+    let voted = logs.accept(alloc, group, position, ballot, entry)?;
+    Ok(told_vote(&voted))
 }
 
 fn told_vote(voted: &Voted) -> Told {
@@ -118,169 +113,145 @@ fn told_vote(voted: &Voted) -> Told {
 }
 
 #[tactic(auto, using(crate::proofs::Staged::decide_each, crate::proofs::Staged::decide_few))]
-fn decide<R: Records>(
-    rt: &impl Abort,
+fn decide(
     alloc: Global,
-    logs: &mut Logs<R>,
+    logs: &mut Logs<MemRecords>,
     group: &GroupId,
     position: Position,
     entry: Entry,
-) -> Told
+) -> Result<Told, LogFault>
     requires item { IsItem (Decide group.now position entry) }
     requires each { All IsItem logs.old.staged.items }
     requires format { IsOfFormat logs.old.kept }
-    ensures few { length logs.new.staged.items ≤ length logs.old.staged.items + 1 }
-    ensures each { All IsItem logs.new.staged.items }
-    ensures format { IsOfFormat logs.new.kept }
+    ensures few { OnOk result (length logs.new.staged.items ≤ length logs.old.staged.items + 1) }
+    ensures each { OnOk result (All IsItem logs.new.staged.items) }
+    ensures format { OnOk result (IsOfFormat logs.new.kept) }
 {
-    let new = logs
-        .decide(alloc, group, position, entry)
-        .expect(rt, "refused");
+    let new = logs.decide(alloc, group, position, entry)?;
     if new {
-        return Told::Kept(None);
+        return Ok(Told::Kept(None));
     }
-    Told::Decided
+    Ok(Told::Decided)
 }
 
 #[tactic(auto, using(crate::proofs::Staged::one_each, crate::proofs::Staged::one_few))]
-fn grant<R: Records>(
-    rt: &impl Abort,
+fn grant(
     alloc: Global,
-    logs: &mut Logs<R>,
+    logs: &mut Logs<MemRecords>,
     node: NodeId,
     epoch: Epoch,
-) -> Told
+) -> Result<Told, LogFault>
     requires item { IsItem (Grant node epoch) }
     requires each { All IsItem logs.old.staged.items }
     requires format { IsOfFormat logs.old.kept }
-    ensures few { length logs.new.staged.items ≤ length logs.old.staged.items + 1 }
-    ensures each { All IsItem logs.new.staged.items }
-    ensures format { IsOfFormat logs.new.kept }
+    ensures few { OnOk result (length logs.new.staged.items ≤ length logs.old.staged.items + 1) }
+    ensures each { OnOk result (All IsItem logs.new.staged.items) }
+    ensures format { OnOk result (IsOfFormat logs.new.kept) }
 {
-    logs.grant(alloc, node, epoch).expect(rt, "refused");
-    Told::Kept(None)
+    logs.grant(alloc, node, epoch)?;
+    Ok(Told::Kept(None))
 }
 
 #[tactic(auto, using(crate::proofs::Staged::one_each, crate::proofs::Staged::one_few))]
-fn lapse<R: Records>(
-    rt: &impl Abort,
+fn lapse(
     alloc: Global,
-    logs: &mut Logs<R>,
+    logs: &mut Logs<MemRecords>,
     node: NodeId,
     epoch: Epoch,
-) -> Told
+) -> Result<Told, LogFault>
     requires item { IsItem (Lapse node epoch) }
     requires each { All IsItem logs.old.staged.items }
     requires format { IsOfFormat logs.old.kept }
-    ensures few { length logs.new.staged.items ≤ length logs.old.staged.items + 1 }
-    ensures each { All IsItem logs.new.staged.items }
-    ensures format { IsOfFormat logs.new.kept }
+    ensures few { OnOk result (length logs.new.staged.items ≤ length logs.old.staged.items + 1) }
+    ensures each { OnOk result (All IsItem logs.new.staged.items) }
+    ensures format { OnOk result (IsOfFormat logs.new.kept) }
 {
-    logs.lapse(alloc, node, epoch).expect(rt, "refused");
-    Told::Kept(None)
+    logs.lapse(alloc, node, epoch)?;
+    Ok(Told::Kept(None))
 }
 
 #[tactic(auto, using(crate::proofs::Staged::start_each, crate::proofs::Staged::one_few))]
-fn begin<R: Records>(rt: &impl Abort, alloc: Global, logs: &mut Logs<R>) -> Told
+fn begin(alloc: Global, logs: &mut Logs<MemRecords>) -> Result<Told, LogFault>
     requires each { All IsItem logs.old.staged.items }
     requires format { IsOfFormat logs.old.kept }
-    ensures few { length logs.new.staged.items ≤ length logs.old.staged.items + 1 }
-    ensures each { All IsItem logs.new.staged.items }
-    ensures format { IsOfFormat logs.new.kept }
+    ensures few { OnOk result (length logs.new.staged.items ≤ length logs.old.staged.items + 1) }
+    ensures each { OnOk result (All IsItem logs.new.staged.items) }
+    ensures format { OnOk result (IsOfFormat logs.new.kept) }
 {
     if logs.starts() == u32::MAX {
-        return Told::Decided;
+        return Ok(Told::Decided);
     }
-    logs.begin(alloc).expect(rt, "refused");
-    Told::Kept(None)
+    logs.begin(alloc)?;
+    Ok(Told::Kept(None))
 }
 
 /// Asks the logs.
-fn ask<R: Records>(rt: &impl Abort, alloc: Global, logs: &mut Logs<R>, call: Call) -> Told
+fn ask(alloc: Global, logs: &mut Logs<MemRecords>, call: Call) -> Result<Told, Fail>
     requires each { All IsItem logs.old.staged.items }
     requires format { IsOfFormat logs.old.kept }
-    ensures few { length logs.new.staged.items ≤ length logs.old.staged.items + 1 }
-    ensures each { All IsItem logs.new.staged.items }
-    ensures format { IsOfFormat logs.new.kept }
+    ensures few { OnOk result (length logs.new.staged.items ≤ length logs.old.staged.items + 1) }
+    ensures each { OnOk result (All IsItem logs.new.staged.items) }
+    ensures format { OnOk result (IsOfFormat logs.new.kept) }
 {
-    let group = group(rt, alloc, call.group);
-    let entry = entry_of(rt, alloc, call.entry);
+    let group = group(alloc, call.group)?;
+    let entry = entry_of(alloc, call.entry)?;
     let (position, ballot) = (position(call.place), ballot(call.ballot));
     match call.kind {
-        Kind::Promise => promise(rt, alloc, logs, &group, position, ballot),
-        Kind::Accept => accept(rt, alloc, logs, &group, position, ballot, entry),
-        Kind::Decide => decide(rt, alloc, logs, &group, position, entry),
-        Kind::Grant => grant(rt, alloc, logs, node(call.node), epoch(call.epoch)),
-        Kind::Lapse => lapse(rt, alloc, logs, node(call.node), epoch(call.epoch)),
-        Kind::Begin => begin(rt, alloc, logs),
-    }
-}
-
-/// The vote that logs tell of a place.
-fn vote_at<R: Records>(logs: &Logs<R>, group: &GroupId, place: Position) -> Option<(Ballot, u8)> {
-    match logs.accepted(group, place) {
-        Some((ballot, entry)) => Some((*ballot, number_of(entry))),
-        None => None,
-    }
-}
-
-/// The entry that logs tell to be decided at a place.
-fn decided_at<R: Records>(logs: &Logs<R>, group: &GroupId, place: Position) -> Option<u8> {
-    match logs.decided(group, place) {
-        Some(entry) => Some(number_of(entry)),
-        None => None,
+        Kind::Promise => Ok(promise(alloc, logs, &group, position, ballot)?),
+        Kind::Accept => Ok(accept(alloc, logs, &group, position, ballot, entry)?),
+        Kind::Decide => Ok(decide(alloc, logs, &group, position, entry)?),
+        Kind::Grant => Ok(grant(alloc, logs, node(call.node), epoch(call.epoch))?),
+        Kind::Lapse => Ok(lapse(alloc, logs, node(call.node), epoch(call.epoch))?),
+        Kind::Begin => Ok(begin(alloc, logs)?),
     }
 }
 
 /// What the logs' readers tell of the place, the group and the node of a call.
-fn seen<R: Records>(rt: &impl Abort, alloc: Global, logs: &Logs<R>, at: Call) -> Seen {
-    let group = group(rt, alloc, at.group);
+fn seen(alloc: Global, logs: &Logs<MemRecords>, at: Call) -> Result<Seen, Fail> {
+    let group = group(alloc, at.group)?;
     let place = position(at.place);
-    Seen {
+    let accepted = match logs.accepted(&group, place) {
+        Some((ballot, entry)) => Some((*ballot, number_of(entry))),
+        None => None,
+    };
+    let decided = match logs.decided(&group, place) {
+        Some(entry) => Some(number_of(entry)),
+        None => None,
+    };
+    Ok(Seen {
         promised: logs.promised(&group, place),
-        accepted: vote_at(logs, &group, place),
-        decided: decided_at(logs, &group, place),
+        accepted,
+        decided,
         top: logs.top(&group).0,
         newest: logs.newest(&group).0,
         prefix: logs.prefix(&group).0,
         granted: logs.granted(node(at.node)),
         starts: logs.starts(),
-    }
+    })
 }
 
 /// Logs over so many records, each of one start.
-fn worn(rt: &impl Abort, alloc: Global, starts: u32) -> Logs<MemRecords>
-    ensures few { length result.staged.items ≡ 0 }
-    ensures each { All IsItem result.staged.items }
-    ensures format { IsOfFormat result.kept }
+fn worn(alloc: Global, starts: u32) -> Result<Logs<MemRecords>, LogFault>
+    ensures few { IfOk result (λ logs. length logs.staged.items ≡ 0) }
+    ensures each { IfOk result (λ logs. All IsItem logs.staged.items) }
+    ensures format { IfOk result (λ logs. IsOfFormat logs.kept) }
 {
-    let mut logs = opened(rt, alloc, MemRecords::new(alloc));
+    let mut logs = opened(alloc, MemRecords::new(alloc))?;
     for _ in 0..starts {
-        begin(rt, alloc, &mut logs);
-        flush(rt, alloc, &mut logs);
+        let _ = begin(alloc, &mut logs)?;
+        flush(alloc, &mut logs)?;
     }
-    logs
-}
-
-/// Asserts that the logs tell at a call what the list does.
-fn agree<T: PartialEq + Debug + Drop>(
-    rt: &impl Abort,
-    found: T,
-    wanted: T,
-    number: u32,
-    seed: u64,
-) {
-    assert_eq!(rt; found, wanted, "call {number} of seed {seed}");
+    Ok(logs)
 }
 
 /// Five hundred drawn calls, with a flush after half of them and an opening after some; what is not flushed is gone at
 /// an opening. After so many flushes the records are due to be compacted.
-fn run(rt: &impl Abort, alloc: Global, seed: u64, flushes: u32)
+fn run(rt: &impl Abort, alloc: Global, seed: u64, flushes: u32) -> Result<(), Fail>
     requires { flushes ≤ 4096 }
 {
     let before = 4096 - flushes;
     let mut draws = Draws::new(seed);
-    let mut logs = worn(rt, alloc, before);
+    let mut logs = worn(alloc, before)?;
     let mut plain = Plain {
         before,
         calls: Vec::new(alloc),
@@ -289,28 +260,34 @@ fn run(rt: &impl Abort, alloc: Global, seed: u64, flushes: u32)
     let mut waiting = 0u32;
     for number in 0..500u32 {
         let call = Call::drawn(&mut draws, (number / 8 % 64) as u8);
-        let told = ask(rt, alloc, &mut logs, call);
-        let wanted = plain.ask(call).expect(rt, "refused");
-        agree(rt, told, wanted, number, seed);
+        let told = ask(alloc, &mut logs, call)?;
+        assert_eq!(rt; told, plain.ask(call)?, "call {number} of seed {seed}");
         waiting += 1;
         if waiting >= 8 || draws.draw(2) == 0 {
-            flush(rt, alloc, &mut logs);
+            flush(alloc, &mut logs)?;
             waiting = 0;
             flushed = plain.calls.len();
         }
         if draws.draw(32) == 0 {
-            logs = reopened(rt, alloc, logs);
+            logs = reopened(alloc, logs)?;
             waiting = 0;
             plain.calls.truncate(flushed);
         }
-        let seen = seen(rt, alloc, &logs, call);
-        agree(rt, seen, plain.seen(call), number, seed);
+        let seen = seen(alloc, &logs, call)?;
+        assert_eq!(rt;
+            seen,
+            plain.seen(call),
+            "after call {number} of seed {seed}"
+        );
     }
+    Ok(())
 }
 
 #[test]
-fn ten_thousand_calls_beside_a_list_that_keeps_everything(rt: HostRuntime) {
+fn ten_thousand_calls_beside_a_list_that_keeps_everything(rt: HostRuntime) -> Result<(), Fail> {
+    let alloc = rt.alloc();
     for seed in 1..=20u32 {
-        run(&rt, rt.alloc(), u64::from(seed), seed * 9);
+        run(&rt, alloc, u64::from(seed), seed * 9)?;
     }
+    Ok(())
 }

@@ -30,12 +30,10 @@ fn number_in(list: &[Kept], key: u8, at: u64) -> i32 {
 /// A key of one or two bytes: key 0 is a prefix of key 1, and so on.
 fn key_bytes(rt: &impl Abort, alloc: Global, key: u8) -> Bytes {
     let bytes = [b'a' + key / 2 % 8, b'b'];
-    let front = if key % 2 == 0 {
-        &bytes[..1]
-    } else {
-        &bytes[..]
-    };
-    Bytes::from_slice(alloc, front).expect(rt, "refused")
+    if key % 2 == 0 {
+        return Bytes::from_slice(alloc, &bytes[..1]).expect(rt, "refused");
+    }
+    Bytes::from_slice(alloc, &bytes).expect(rt, "refused")
 }
 
 /// A row of one number.
@@ -101,43 +99,6 @@ fn scanned_in(list: &[Kept], from: u8, to: u8, at: u64) -> i64 {
     sum
 }
 
-/// Puts a drawn row, and keeps it in the list.
-fn put_drawn(
-    rt: &impl Abort,
-    alloc: Global,
-    rows: &mut VersionedRows,
-    list: &mut Vec<Kept>,
-    kept: Kept,
-) {
-    let key = key_bytes(rt, alloc, kept.key);
-    let row = row_of(rt, alloc, kept.number);
-    rows.put(alloc, &key, Position(kept.at), row)
-        .expect(rt, "refused");
-    list.push(kept).expect(rt, "refused");
-}
-
-/// The number of the latest row of a key.
-fn latest(rt: &impl Abort, alloc: Global, rows: &mut VersionedRows, key: u8) -> i64 {
-    let bytes = key_bytes(rt, alloc, key);
-    let row = rows.latest(alloc, &bytes).expect(rt, "refused");
-    i64::from(number_of(row))
-}
-
-/// The number of the row that a read of a key at a position sees.
-fn read(rt: &impl Abort, alloc: Global, rows: &mut VersionedRows, key: u8, at: u64) -> i64 {
-    let bytes = key_bytes(rt, alloc, key);
-    let row = rows.get(alloc, &bytes, Position(at)).expect(rt, "refused");
-    i64::from(number_of(row))
-}
-
-/// Cleans the rows from one key to another.
-fn clean(rt: &impl Abort, alloc: Global, rows: &mut VersionedRows, from: u8, to: u8, at: u64) {
-    let from = key_bytes(rt, alloc, from);
-    let to = key_bytes(rt, alloc, to);
-    rows.clean(alloc, &from, &to, Position(at))
-        .expect(rt, "refused");
-}
-
 /// One drawn call of the rows, and of the list; what they answer, as two numbers.
 fn call(
     rt: &impl Abort,
@@ -149,51 +110,59 @@ fn call(
 ) -> (i64, i64) {
     let key = draws.draw(12) as u8;
     let at = draws.draw(100);
-    let later = at.max(*cleaned);
+    let bytes = key_bytes(rt, alloc, key);
     match draws.draw(8) {
         0..=3 => {
             let number = draws.draw(1000) as i32;
-            put_drawn(rt, alloc, rows, list, Kept { key, at, number });
+            rows.put(alloc, &bytes, Position(at), row_of(rt, alloc, number))
+                .expect(rt, "refused");
+            list.push(Kept { key, at, number }).expect(rt, "refused");
             (0, 0)
         }
-        4 => (
-            latest(rt, alloc, rows, key),
-            i64::from(number_in(list.as_slice(), key, u64::MAX)),
-        ),
+        4 => {
+            let row = rows.latest(alloc, &bytes).expect(rt, "refused");
+            (
+                i64::from(number_of(row)),
+                i64::from(number_in(list.as_slice(), key, u64::MAX)),
+            )
+        }
         5 => {
             let to = draws.draw(12) as u8;
+            let at = at.max(*cleaned);
             (
-                scanned(rt, alloc, rows, key, to, later),
-                scanned_in(list.as_slice(), key, to, later),
+                scanned(rt, alloc, rows, key, to, at),
+                scanned_in(list.as_slice(), key, to, at),
             )
         }
         6 if at % 8 == 0 => {
-            clean(rt, alloc, rows, key, draws.draw(12) as u8, at);
-            *cleaned = later;
+            let end = key_bytes(rt, alloc, draws.draw(12) as u8);
+            rows.clean(alloc, &bytes, &end, Position(at))
+                .expect(rt, "refused");
+            *cleaned = at.max(*cleaned);
             (0, 0)
         }
-        _ => (
-            read(rt, alloc, rows, key, later),
-            i64::from(number_in(list.as_slice(), key, later)),
-        ),
-    }
-}
-
-/// A thousand drawn calls.
-fn run(rt: &impl Abort, alloc: Global, seed: u64) {
-    let mut draws = Draws::new(seed);
-    let mut rows = VersionedRows::new(alloc);
-    let mut list = Vec::new(alloc);
-    let mut cleaned = 0;
-    for number in 0..1000u32 {
-        let (told, kept) = call(rt, alloc, &mut draws, &mut rows, &mut list, &mut cleaned);
-        assert_eq!(rt; told, kept, "call {number} of seed {seed}");
+        _ => {
+            let at = at.max(*cleaned);
+            let row = rows.get(alloc, &bytes, Position(at)).expect(rt, "refused");
+            (
+                i64::from(number_of(row)),
+                i64::from(number_in(list.as_slice(), key, at)),
+            )
+        }
     }
 }
 
 #[test]
 fn ten_thousand_calls_beside_a_list_that_keeps_everything(rt: HostRuntime) {
+    let alloc = rt.alloc();
     for seed in 1..=10u64 {
-        run(&rt, rt.alloc(), seed);
+        let mut draws = Draws::new(seed);
+        let mut rows = VersionedRows::new(alloc);
+        let mut list = Vec::new(alloc);
+        let mut cleaned = 0;
+        for number in 0..1000u32 {
+            let (told, kept) = call(&rt, alloc, &mut draws, &mut rows, &mut list, &mut cleaned);
+            assert_eq!(rt; told, kept, "call {number} of seed {seed}");
+        }
     }
 }

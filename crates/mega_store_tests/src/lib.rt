@@ -2,8 +2,6 @@
 #![tactic(auto)]
 
 #[cfg(test)]
-mod asserted;
-#[cfg(test)]
 mod calls;
 #[cfg(test)]
 mod crashes;
