@@ -57,12 +57,12 @@ is_no_stranger c (Take message) near strange = near (inl strange)
 is_no_stranger c (Begin request text) near strange = strange
 is_no_stranger c (Tick now) near strange = strange
 
-pub is_timely : {Is : Meanings → RuleNode → Type 0} {members : Cluster} (c : Cluster) (event : Event) → members ≡ c → IsNear c event → IsTooLate Is members event → (h : Meanings) (node : RuleNode) → Is h node → ⊥
-is_timely c (Take message) same near late h node is = near (inr (subst (λ (cluster : Cluster). IsLate cluster message.body) same (late h node is)))
-is_timely c (Begin request text) same near late h node is = late
-is_timely c (Tick now) same near late h node is = late
+pub is_timely : (Is : Meanings → RuleNode → Type 0) {members : Cluster} (c : Cluster) (event : Event) → members ≡ c → IsNear c event → IsTooLate Is members event → (h : Meanings) (node : RuleNode) → Is h node → ⊥
+is_timely Is c (Take message) same near late h node is = near (inr (subst (λ (cluster : Cluster). IsLate cluster message.body) same (late h node is)))
+is_timely Is c (Begin request text) same near late h node is = late
+is_timely Is c (Tick now) same near late h node is = late
 
-pub may_serve : {Is : Meanings → RuleNode → Type 0} (c : Cluster) (event : Event) → IsNear c event → IsUnserved Is event → (h : Meanings) (node : RuleNode) → Is h node → ⊥
-may_serve c (Take message) near refused h node is = refused h node is
-may_serve c (Begin request text) near refused h node is = let clash : true ≡ false = sym near ∙ refused in cc
-may_serve c (Tick now) near refused h node is = refused h node is
+pub may_serve : (Is : Meanings → RuleNode → Type 0) (c : Cluster) (event : Event) → IsNear c event → IsUnserved Is event → (h : Meanings) (node : RuleNode) → Is h node → ⊥
+may_serve Is c (Take message) near refused h node is = refused h node is
+may_serve Is c (Begin request text) near refused h node is = let clash : true ≡ false = sym near ∙ refused in cc
+may_serve Is c (Tick now) near refused h node is = refused h node is

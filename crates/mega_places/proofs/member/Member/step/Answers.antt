@@ -58,9 +58,9 @@ fault_of-requires-clause-own g c =
     let here = is_here k.cluster k.handlers k.me c.args.self.now k.ruled k.is in
     let event = event_of c.args.event in
     not_strange c.in-Err-Step.fault
-    (λ is. may_serve k.cluster event k.near (c.in-Err-Step.ensures.unserved (ap Err (c.in-Err-Step.field-0-is ∙ ap Failed is)) k.handlers k.ruled (record { stands = here.stands; empty = here.empty; ready = here.ready; holds = λ told. here.holds; granted = here.granted })))
+    (λ is. may_serve _ k.cluster event k.near (c.in-Err-Step.ensures.unserved (ap Err (c.in-Err-Step.field-0-is ∙ ap Failed is))) k.handlers k.ruled (record { stands = here.stands; empty = here.empty; ready = here.ready; holds = λ told. here.holds; granted = here.granted }))
     (λ is. is_no_stranger k.cluster event k.near (c.in-Err-Step.ensures.stranger (ap Err (c.in-Err-Step.field-0-is ∙ ap Failed is))))
-    (λ is. is_timely k.cluster event k.is.members k.near (c.in-Err-Step.ensures.late (ap Err (c.in-Err-Step.field-0-is ∙ ap Failed is))) k.handlers k.ruled (record { stands = here.stands; empty = here.empty; ready = here.ready; holds = λ told. here.holds; granted = here.granted }))
+    (λ is. is_timely _ k.cluster event k.is.members k.near (c.in-Err-Step.ensures.late (ap Err (c.in-Err-Step.field-0-is ∙ ap Failed is))) k.handlers k.ruled (record { stands = here.stands; empty = here.empty; ready = here.ready; holds = λ told. here.holds; granted = here.granted }))
 
 pub unreachable-requires : goal.unreachable-requires
 unreachable-requires g c =
