@@ -1,5 +1,5 @@
 -- A line feed stands at the end of a line of a record alone.
-use Rattle.std.proofs.Common.{List, [], ◌∷◌, ◌++◌, refl, codes}
+use Rattle.std.proofs.Common.{ℕ, List, [], ◌∷◌, ◌++◌, refl, codes}
 use Rattle.hex.specs.Hex.{encode_lower}
 use Rattle.mega_schema.specs.declared.schema.Schema.{Schema}
 use Rattle.mega_transcript_reading.proofs.LineEnds.{IsLine, NoEnd, NoEnds, hex, line_told, told, u32, u8}
