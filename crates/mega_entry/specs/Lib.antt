@@ -1,3 +1,4 @@
 pub mod Entries
 pub mod EntryLaws
 pub mod Same
+pub mod Formats

@@ -9,13 +9,16 @@ ghost use Rattle.mega_meanings.specs.Means.{Means};
 ghost use Rattle.mega_handling.specs.Made.{made_by};
 
 use crate::keeping::fitted_writes;
-use crate::lengths::{MOST_BYTES, sends_length, sum, writes_length};
 use crate::sending::fitted_sends;
 use mega_base::{Bytes, Copied, GroupId, Items, NoMemory, OpId, Row};
 use mega_entry::{Content, Enter, Name, Send, Write};
 use mega_meanings::QueueHandlers;
+use mega_outcome::lengths::{sends_length, sum, writes_length};
 use mega_schema::Schema;
 use std::alloc::Global;
+
+/// The most bytes that an entry may have.
+pub const MOST_BYTES: u64 = 32768;
 
 /// The length of the entry of an operation that handles a message with these.
 fn entry_length(name: &Name, writes: &[Write], sends: &[Send]) -> Result<u64, NoMemory>

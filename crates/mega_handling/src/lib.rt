@@ -4,7 +4,6 @@
 
 mod entry;
 mod keeping;
-mod lengths;
 mod listing;
 mod placing;
 mod sending;

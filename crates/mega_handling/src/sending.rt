@@ -2,9 +2,10 @@
 ghost use Rattle.std.specs.Prelude.{◌≡◌, ◌+◌, ◌++◌, ◌&&◌, ◌∷◌, [], length, nat_le, IfOk, OnOk, if◌then◌else◌};
 ghost use Rattle.mega_index.specs.Fitted.{enter_length, fitted_sends, most_bytes, send_fits};
 
-use crate::lengths::{MOST_BYTES, message_length, sum};
+use crate::entry::MOST_BYTES;
 use mega_base::NoMemory;
 use mega_entry::Send;
+use mega_outcome::lengths::{message_length, sum};
 use mega_outcome::send_fits;
 use mega_schema::Schema;
 use std::alloc::Global;

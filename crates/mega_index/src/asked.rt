@@ -5,8 +5,9 @@ ghost use Rattle.mega_index.specs.Fits.{numbered};
 ghost use Rattle.mega_index.specs.Finding.{kind_of, kinds_in, indexed_kinds};
 ghost use Rattle.mega_keys.specs.Fit.{misplaced};
 
-use crate::fits::{has_kind, property_at, table_at};
+use crate::fits::{property_at, table_at};
 use mega_base::{Kind, NoMemory, Value};
+use mega_keys::has_kind;
 use mega_schema::{Index, Property, Schema};
 use std::alloc::Global;
 

@@ -7,6 +7,7 @@ ghost use Rattle.mega_index.specs.Fits.{numbered, is_count, cell_fits, cells_fit
 
 use crate::cells::values_at;
 use mega_base::{Cell, Kind, Row, Value};
+use mega_keys::has_kind;
 use mega_schema::{Need, Property, Schema, Table};
 
 /// The table with this number, from 1.
@@ -27,20 +28,6 @@ pub fn property_at(properties: &[Property], number: u8) -> Option<&Property>
         return None;
     }
     properties.get(usize::from(number) - 1)
-}
-
-/// Whether the value is of the kind.
-pub fn has_kind(kind: Kind, value: &Value) -> bool
-    ensures { result ≡ has_kind kind value.now }
-{
-    matches!(
-        (kind, value),
-        (Kind::Int32, Value::Int32(_))
-            | (Kind::Int64, Value::Int64(_))
-            | (Kind::Bool, Value::Bool(_))
-            | (Kind::Str, Value::Str(_))
-            | (Kind::Raw, Value::Raw(_))
-    )
 }
 
 /// Whether each value is of the kind.

@@ -9,6 +9,7 @@ mod spelling;
 mod write;
 
 pub use fault::KeyFault;
+pub use fit::has_kind;
 pub use laws::{
     keys_are_apart, keys_are_ordered, keys_are_read_back, refusals_are_told_where_they_are,
 };

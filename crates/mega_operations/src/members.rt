@@ -1,11 +1,12 @@
 //! A cluster of which the voters and the full nodes are listed once.
 ghost use Rattle.std.specs.Prelude.{◌≡◌, ◌<◌, IfOk, Err, filter, length};
 ghost use Rattle.std.specs.List.{range_with_len};
-ghost use Rattle.mega_rules.specs.Members.{full_nodes, is_full, is_node, is_voter, kind_of, voters};
+ghost use Rattle.mega_rules.specs.Members.{full_nodes, is_full, is_voter, voters};
 ghost use Rattle.mega_operations.specs.declared.members.MembersFault.TheVariants.{NoMemory as Refused, TooMany};
 
-use mega_base::{Copied, GroupId, Items, NoMemory, NodeKind, OpId};
+use mega_base::{Copied, GroupId, Items, NoMemory, OpId};
 use mega_cluster::Cluster;
+use mega_kinds::{is_full, is_voter};
 use mega_propose::Site;
 use mega_read::Reader;
 use std::alloc::Global;
@@ -46,39 +47,6 @@ impl Model for Members {
     ghost view = { λ m. m.cluster };
 
     ghost invariant = { λ m. (m.voters ≡ voters_of m.cluster) × (m.full ≡ full_nodes m.cluster) };
-}
-
-/// The kind of a node.
-fn kind_of(cluster: &Cluster, node: u8) -> Option<NodeKind>
-    ensures { result ≡ kind_of cluster.now node }
-{
-    let place = usize::from(node).saturating_sub(1);
-    cluster.nodes.as_slice().get(place).copied()
-}
-
-/// Whether a node is one of the cluster.
-fn is_node(cluster: &Cluster, node: u8) -> bool
-    ensures { result ≡ is_node cluster.now node }
-{
-    1 <= node && usize::from(node) <= cluster.nodes.len()
-}
-
-/// Whether a node is a full one.
-fn is_full(cluster: &Cluster, node: u8) -> bool
-    ensures { result ≡ is_full cluster.now node }
-{
-    is_node(cluster, node) && matches!(&kind_of(cluster, node), Some(NodeKind::Full))
-}
-
-/// Whether a node votes: a full node or a witness does.
-fn is_voter(cluster: &Cluster, node: u8) -> bool
-    ensures { result ≡ is_voter cluster.now node }
-{
-    is_node(cluster, node)
-        && matches!(
-            &kind_of(cluster, node),
-            Some(NodeKind::Full | NodeKind::Witness)
-        )
 }
 
 /// The voters among the first nodes, which are so many.

@@ -1,4 +1,4 @@
-//! The lengths of the texts of writes and sends.
+//! The lengths of the texts of writes and sends, which bound what an entry may hold.
 ghost use Rattle.std.specs.Prelude.{◌≡◌, ◌+◌, length, IfOk};
 ghost use Rattle.std.specs.Option.{option_copied};
 ghost use Rattle.mega_base.specs.Codec.{option_text};

@@ -11,7 +11,7 @@ mod copies;
 mod cutting;
 mod extending;
 mod laws;
-mod lengths;
+pub mod lengths;
 mod longest;
 mod looking;
 mod numbers;

@@ -23,7 +23,7 @@ pub use fetching::background;
 pub use hearing::all_hear;
 pub use joining::{add_sends, joined};
 pub use keeping::{as_notes, both, keep_notes, tell_all_sent};
-pub use mega_keeping::{has_rows, is_voter, kind_of, missing_kind};
+pub use mega_kinds::{has_rows, is_voter, kind_of, missing_kind};
 pub use mega_proposing;
 pub use mega_proposing::{mega_leases, mega_operations, mega_voter};
 pub use note::Note;

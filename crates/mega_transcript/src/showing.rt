@@ -17,6 +17,7 @@ ghost use Rattle.mega_transcript.specs.Answers.{result_data};
 use crate::answers::{turn_number, turn_word};
 use crate::words::put_word;
 use mega_base::{Bytes, Cell, Items, Kind, NoMemory, Row, Value};
+use mega_keys::has_kind;
 use mega_outcome::mega_index::Found;
 use mega_outcome::{Mark, Shown, Turn};
 use mega_schema::{Need, Property, Schema, Table};
@@ -116,20 +117,6 @@ fn property_at(properties: &[Property], number: u8) -> Option<&Property>
         return None;
     }
     properties.get(usize::from(number) - 1)
-}
-
-/// Whether the value is of the kind.
-fn has_kind(kind: Kind, value: &Value) -> bool
-    ensures { result ≡ has_kind kind value.now }
-{
-    matches!(
-        (kind, value),
-        (Kind::Int32, Value::Int32(_))
-            | (Kind::Int64, Value::Int64(_))
-            | (Kind::Bool, Value::Bool(_))
-            | (Kind::Str, Value::Str(_))
-            | (Kind::Raw, Value::Raw(_))
-    )
 }
 
 /// Whether a property of this need may have several values.

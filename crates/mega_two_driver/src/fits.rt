@@ -1,19 +1,20 @@
 //! Whether a part fits a schema: its tables are there, and its finish may be done.
-ghost use Rattle.std.specs.Prelude.{◌≡◌, IfOk, map, true, Some};
+ghost use Rattle.std.specs.Prelude.{◌≡◌, [], IfOk, map, true, Some};
 ghost use Rattle.std.specs.List.{list_all};
 ghost use Rattle.serde_json.specs.View.{view};
 ghost use Rattle.mega_index.specs.Rows.{same_key};
+ghost use Rattle.mega_outcome.specs.Outcome.{entry_length};
 ghost use Rattle.mega_two_driver.specs.Texts.{finish_text};
 ghost use Rattle.mega_two_driver.specs.Begins.{group_key};
 ghost use Rattle.mega_two_driver.specs.Fits.{are_apart, is_new, key_of, may_stand, no_transaction, own_of, part_fits, table_of, transaction_asked, transaction_fits, transaction_in, transaction_of};
 ghost use Rattle.mega_two_driver.specs.Tables.{may_write};
 
-use crate::lengths::entry_length;
 use crate::parts::{finish_text, own_text};
 use crate::places::writes_of;
 use crate::tables::{has_tables, may_write};
 use mega_base::{Bytes, GroupId, Items, NoMemory};
 use mega_entry::Write;
+use mega_outcome::lengths::{sum, writes_length};
 use mega_outcome::{Change, Request, Transaction};
 use mega_schedule::{Ask, LineFault, asked};
 use mega_schema::Schema;
@@ -122,6 +123,14 @@ pub(crate) fn are_groups_apart(txns: &[Transaction]) -> bool
         [] => true,
         [txn, txns @ ..] => is_new_group(txn, txns) && are_groups_apart(txns),
     }
+}
+
+/// The length of the entry that has these writes and nothing else.
+#[tactic(auto, using(crate::proofs::Alone::writes_alone))]
+fn entry_length(writes: &[Write]) -> Result<u64, NoMemory>
+    ensures { IfOk result (λ n. n ≡ entry_length writes.now [] []) }
+{
+    sum(28, writes_length(writes)?)
 }
 
 fn may_stand(writes: &[Write]) -> Result<bool, NoMemory>

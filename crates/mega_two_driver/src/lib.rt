@@ -7,7 +7,6 @@ mod fault;
 mod fits;
 mod joins;
 pub mod laws;
-mod lengths;
 mod parts;
 mod pieces;
 mod places;

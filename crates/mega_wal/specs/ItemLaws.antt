@@ -3,7 +3,7 @@ use Rattle.std.proofs.Common.{◌≡◌, ℕ, ◌+◌, ◌≤◌, Bool, true, fa
 use Rattle.std.specs.Prelude.{◌==◌, if◌then◌else◌, ◌≢◌}
 use Rattle.std.proofs.lemmas.Bool.Decides.{nat_tests}
 use Rattle.mega_base.specs.Reading.{Place, place, Read, ◌>>=◌, byte_in}
-use Rattle.mega_base.specs.Pairs.{pair_at, pair_text, IsPair, OpensPair, pair_codec, plain_pair_codec}
+use Rattle.mega_base.specs.Pairs.{IsPair}
 use Rattle.mega_base.specs.Codec.{number_text, Codec, Stands, IsText, IsBetween, one_byte, nested_text, IsNested, OpensNested}
 use Rattle.mega_base.specs.Names.{u32_at, u32_text, IsU32, node_at, node_text, IsNode, position_text, IsPositionIn, epoch_at, epoch_text, IsEpoch, group_at, group_text, IsGroup}
 use Rattle.mega_base.specs.NameLaws.{u32_codec, node_codec, position_codec, epoch_codec, group_codec}
@@ -17,39 +17,12 @@ use Rattle.mega_acceptor.specs.of_ballot.Ballots.{ballot_at, ballot_text, zero_o
 use Rattle.mega_acceptor.specs.of_ballot.BallotLaws.{ballot_codec}
 use Rattle.mega_acceptor.specs.of_ballot.declared.ballot.Ballot.{Ballot}
 use Rattle.mega_acceptor.specs.of_entry.Entries.{entry_at, entry_text, IsEntry}
+use Rattle.mega_acceptor.specs.of_entry.Formats.{Format, Open, both, before}
 use Rattle.mega_acceptor.specs.of_entry.EntryLaws.{entry_codec, some_entry}
 use Rattle.mega_acceptor.specs.of_entry.declared.content.Content.{Content}
 use Rattle.mega_wal.specs.declared.item.JournalItem.{JournalItem}
 use Rattle.mega_wal.specs.declared.item.JournalItem.TheVariants.{Start, Promise, Accept, Decide, Grant, Lapse, Starts}
 use Rattle.mega_wal.specs.Items.{item_position_at, entry_field_at, promise_fields, accept_fields, decide_fields, lock_fields, item_of, item_at, kind_of, fields_with, IsItemWith, fields_text, item_text, IsItem, OpensItem}
-
--- a format with its law, and a value that has a text
-record Format {A : Type 0} (read : Place → Read A) (spell : A → List ℕ) (Fits : A → Type 0) : Type 0 where
-  codec : Codec read spell (IsText spell Fits) Fits
-  some : A
-  fits : Fits some
-
--- the same where the texts that open it are told apart
-record Open {A : Type 0} (read : Place → Read A) (spell : A → List ℕ) (Opens : List ℕ → Type 0) (Fits : A → Type 0) : Type 0 where
-  codec : Codec read spell Opens Fits
-  some : List ℕ
-  shown : Opens some
-
-both : {A B : Type 0} {ra : Place → Read A} {sa : A → List ℕ} {Fa : A → Type 0} {rb : Place → Read B} {sb : B → List ℕ} {Fb : B → Type 0}
-    → Format ra sa Fa → Format rb sb Fb → Format (pair_at ra rb) (pair_text sa sb) (IsPair Fa Fb)
-both {ra = ra} {sa = sa} {Fa = Fa} {rb = rb} {sb = sb} {Fb = Fb} a b = record {
-  codec = plain_pair_codec ra sa Fa rb sb Fb a.codec b.codec b.some b.fits;
-  some = (a.some, b.some);
-  fits = (a.fits, b.fits);
-}
-
-before : {A B : Type 0} {ra : Place → Read A} {sa : A → List ℕ} {Fa : A → Type 0} {rb : Place → Read B} {sb : B → List ℕ} {Ob : List ℕ → Type 0} {Fb : B → Type 0}
-    → Format ra sa Fa → Open rb sb Ob Fb → Open (pair_at ra rb) (pair_text sa sb) (OpensPair sa Fa Ob) (IsPair Fa Fb)
-before {ra = ra} {sa = sa} {Fa = Fa} {rb = rb} {sb = sb} {Ob = Ob} {Fb = Fb} a b = record {
-  codec = pair_codec ra sa Fa rb sb Ob Fb a.codec b.codec b.some b.shown;
-  some = sa a.some ++ b.some;
-  shown = (a.some, b.some, a.fits, b.shown, refl);
-}
 
 -- the formats of the fields
 group_format : Format group_at group_text IsGroup

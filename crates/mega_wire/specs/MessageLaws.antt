@@ -3,7 +3,7 @@ use Rattle.std.proofs.Common.{◌≡◌, ℕ, zero, suc, ◌+◌, ◌<◌, ◌�
 use Rattle.std.specs.Prelude.{◌==◌, if◌then◌else◌, ◌≢◌}
 use Rattle.std.proofs.lemmas.Bool.Decides.{nat_tests}
 use Rattle.mega_base.specs.Reading.{Place, Read, ◌>>=◌, byte_in, number_in, option_at, nested_at}
-use Rattle.mega_base.specs.Pairs.{pair_at, pair_text, IsPair, OpensPair, pair_codec, plain_pair_codec}
+use Rattle.mega_base.specs.Pairs.{pair_at, pair_text, IsPair, OpensPair}
 use Rattle.mega_base.specs.Codec.{number_text, Codec, IsText, IsBetween, one_byte, option_text, IsOption, bytes_text, nested_text, IsNested, OpensNested}
 use Rattle.mega_base.specs.Names.{u64_at, u64_text, IsU64, node_at, node_text, IsNode, position_in, position_text, IsPositionIn, epoch_at, epoch_text, IsEpoch, op_at, op_text, IsOp, string_at, IsString, group_at, group_text, IsGroup}
 use Rattle.mega_base.specs.NameLaws.{u64_codec, node_codec, position_codec, epoch_codec, op_codec, string_codec, group_codec}
@@ -20,40 +20,13 @@ use Rattle.mega_ballot.specs.Ballots.{ballot_at, ballot_text, zero_op, IsBallot}
 use Rattle.mega_ballot.specs.BallotLaws.{ballot_codec}
 use Rattle.mega_ballot.specs.declared.ballot.Ballot.{Ballot}
 use Rattle.mega_entry.specs.Entries.{entry_at, entry_text, IsEntry}
+use Rattle.mega_entry.specs.Formats.{Format, Open, both, before}
 use Rattle.mega_entry.specs.EntryLaws.{entry_codec, some_entry}
 use Rattle.mega_entry.specs.declared.content.Content.{Content}
 use Rattle.mega_wire.specs.declared.message.Message.{Message}
 use Rattle.mega_wire.specs.declared.message.Body.{Body}
 use Rattle.mega_wire.specs.declared.message.Body.TheVariants.{Where, Top, Accept, Accepted, Refused, Prepare, Promise, Invalidate, Invalidated, Dead, Held, Unheld, Decide, Fetch, Have, HaveNot, Acquire, Granted, Past, Request, Reply}
 use Rattle.mega_wire.specs.Messages.{message_position_at, top_position_at, cell_at, clock_at, entry_field_at, accept_fields, acquire_fields, dead_fields, decide_fields, have_fields, invalidate_fields, past_fields, prepare_fields, promise_fields, refused_fields, request_fields, top_fields, where_fields, body_of, kind_of, body_with, IsBodyWith, body_text, IsBody, least_from, greatest_from, least_to, greatest_to, addressed_at, kinded_at, mark_at, message_at, message_with, message_text, IsMessageWith, IsMessage, OpensMessage}
-
--- a format with its law, and a value that has a text
-record Format {A : Type 0} (read : Place → Read A) (spell : A → List ℕ) (Fits : A → Type 0) : Type 0 where
-  codec : Codec read spell (IsText spell Fits) Fits
-  some : A
-  fits : Fits some
-
--- the same where the texts that open it are told apart
-record Open {A : Type 0} (read : Place → Read A) (spell : A → List ℕ) (Opens : List ℕ → Type 0) (Fits : A → Type 0) : Type 0 where
-  codec : Codec read spell Opens Fits
-  some : List ℕ
-  shown : Opens some
-
-both : {A B : Type 0} {ra : Place → Read A} {sa : A → List ℕ} {Fa : A → Type 0} {rb : Place → Read B} {sb : B → List ℕ} {Fb : B → Type 0}
-    → Format ra sa Fa → Format rb sb Fb → Format (pair_at ra rb) (pair_text sa sb) (IsPair Fa Fb)
-both {ra = ra} {sa = sa} {Fa = Fa} {rb = rb} {sb = sb} {Fb = Fb} a b = record {
-  codec = plain_pair_codec ra sa Fa rb sb Fb a.codec b.codec b.some b.fits;
-  some = (a.some, b.some);
-  fits = (a.fits, b.fits);
-}
-
-before : {A B : Type 0} {ra : Place → Read A} {sa : A → List ℕ} {Fa : A → Type 0} {rb : Place → Read B} {sb : B → List ℕ} {Ob : List ℕ → Type 0} {Fb : B → Type 0}
-    → Format ra sa Fa → Open rb sb Ob Fb → Open (pair_at ra rb) (pair_text sa sb) (OpensPair sa Fa Ob) (IsPair Fa Fb)
-before {ra = ra} {sa = sa} {Fa = Fa} {rb = rb} {sb = sb} {Ob = Ob} {Fb = Fb} a b = record {
-  codec = pair_codec ra sa Fa rb sb Ob Fb a.codec b.codec b.some b.shown;
-  some = sa a.some ++ b.some;
-  shown = (a.some, b.some, a.fits, b.shown, refl);
-}
 
 -- the formats of the fields
 op_format : Format op_at op_text IsOp

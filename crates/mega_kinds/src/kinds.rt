@@ -1,7 +1,7 @@
 //! What each kind of node does in its cluster (CIDR 2011, replica types): who votes, who keeps rows, and which requests it serves.
 ghost use Rattle.std.specs.Prelude.{◌≡◌};
-ghost use Rattle.mega_voter.specs.of_rules.Members.{has_rows, is_node, is_voter, keeps_rows, kind_of, votes};
-ghost use Rattle.mega_voter.specs.of_rules.Steps.{is_current, missing_kind, needs_full};
+ghost use Rattle.mega_rules.specs.Members.{has_rows, is_cell, is_full, is_node, is_voter, keeps_rows, kind_of, runs, votes};
+ghost use Rattle.mega_rules.specs.Steps.{is_current, missing_kind, needs_full};
 
 use mega_base::NodeKind;
 use mega_cluster::Cluster;
@@ -16,7 +16,7 @@ pub fn kind_of(cluster: &Cluster, node: u8) -> Option<NodeKind>
 }
 
 /// Whether a node is one of the cluster.
-fn is_node(cluster: &Cluster, node: u8) -> bool
+pub fn is_node(cluster: &Cluster, node: u8) -> bool
     ensures { result ≡ is_node cluster.now node }
 {
     1 <= node && usize::from(node) <= cluster.nodes.len()
@@ -48,6 +48,27 @@ pub fn has_rows(cluster: &Cluster, node: u8) -> bool
     ensures { result ≡ has_rows cluster.now node }
 {
     is_node(cluster, node) && keeps_rows(kind_of(cluster, node))
+}
+
+/// Whether nodes of a kind are full nodes.
+fn runs(kind: Option<NodeKind>) -> bool
+    ensures { result ≡ runs kind }
+{
+    matches!(&kind, Some(NodeKind::Full))
+}
+
+/// Whether a node is a full one.
+pub fn is_full(cluster: &Cluster, node: u8) -> bool
+    ensures { result ≡ is_full cluster.now node }
+{
+    is_node(cluster, node) && runs(kind_of(cluster, node))
+}
+
+/// Whether a lock cell lives in a node.
+pub fn is_cell(cluster: &Cluster, node: u8) -> bool
+    ensures { result ≡ is_cell cluster.now node }
+{
+    1 <= node && node <= cluster.cells
 }
 
 /// Whether a read in this mode is of the newest position.

@@ -1,7 +1,0 @@
-use Rattle.std.proofs.Common.{◌≡◌, length, take}
-use Rattle.std.specs.List.{flat_map}
-use Rattle.mega_entry.specs.Entries.{send_text}
-use Rattle.mega_handling.proofs.lengths.sends_length.Given as goal
-
-abbrev pub invariant-loop-send : goal.invariant-loop-send
-invariant-loop-send l = l.total ≡ length (flat_map send_text (take l.send-index l.sends))

@@ -1,7 +1,0 @@
-use Rattle.std.proofs.Common.{◌≡◌, length, take}
-use Rattle.std.specs.List.{flat_map}
-use Rattle.mega_entry.specs.Entries.{write_text}
-use Rattle.mega_two_driver.proofs.lengths.writes_length.Given as goal
-
-abbrev pub invariant-loop-write : goal.invariant-loop-write
-invariant-loop-write l = l.total ≡ length (flat_map write_text (take l.write-index l.writes))
