@@ -88,7 +88,7 @@ hears_by s now m id request began visited message (Proposes group n asked p prom
     let t = takes_formed (site (reader_of s id group) asked n) p m.from now m.body (site_formed (reader_of s id group) asked n (reader_formed s id group h i.id (i.phase).0) ((i.phase).1).0) ((i.phase).1).1 b.body in
     record { operation = record { id = i.id; request = i.request; message = i.message; phase = ((i.phase).0, (((i.phase).1).0, t.proposal)) }; sends = t.sends }
 
-heard_formed : (s : Setting) (now : ℕ) (m : Message) (o : Operation) → IsSetting s → IsMessage m → IsOperation o → IsHeard (hears_message s now m o)
+pub heard_formed : (s : Setting) (now : ℕ) (m : Message) (o : Operation) → IsSetting s → IsMessage m → IsOperation o → IsHeard (hears_message s now m o)
 heard_formed s now m o h b i = hears_by s now m o.id o.request o.began o.visited o.message o.phase h b (record { id = i.id; request = i.request; message = i.message; phase = i.phase })
 
 due_by : (s : Setting) (now : ℕ) (id : OpId) (request : Request) (began : ℕ) (visited : List GroupId) (message : Option Enter) (phase : Phase) → IsSetting s
@@ -122,7 +122,7 @@ settles_by id request began visited message (Proposes group n asked p promised) 
 settled_is : (o : Operation) → IsOperation o → AreDecided (settled_by o)
 settled_is o i = settles_by o.id o.request o.began o.visited o.message o.phase i.phase
 
-first_is : (ts : List Heard) → Each IsHeard ts → AreDecided (first_settled ts)
+pub first_is : (ts : List Heard) → Each IsHeard ts → AreDecided (first_settled ts)
 first_is [] h = tt
 first_is (t ∷ ts) h = go (settled_by t.operation) (settled_is t.operation (h.0).operation) (first_is ts h.1)
   where
@@ -134,12 +134,12 @@ first_is (t ∷ ts) h = go (settled_by t.operation) (settled_is t.operation (h.0
     go None f k = k
     go (Some d) f k = f
 
-told_is : (body : Body) → IsBody body → AreDecided (told_decision body)
+pub told_is : (body : Body) → IsBody body → AreDecided (told_decision body)
 told_is (Decide group position entry) b = record { group = b.0; position = b.1.0; entry = b.1.1 }
 told_is (Have op group position entry) b = record { group = b.1.0; position = b.1.1.0; entry = b.1.1.1 }
 told_is _ b = tt
 
-new_is : (met : List Met) (found : Option Decision) → AreDecided found → AreDecided (if_new met found)
+pub new_is : (met : List Met) (found : Option Decision) → AreDecided found → AreDecided (if_new met found)
 new_is met None h = tt
 new_is met (Some d) h = either AreDecided (is_none (decided met d.group d.position)) (Some d) None h tt
 

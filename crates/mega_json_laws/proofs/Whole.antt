@@ -76,7 +76,7 @@ below_put l k d (member m e ms) less below = go (slice_cmp nat_cmp k m)
 turned : (k l : List ℕ) → slice_cmp nat_cmp k l ≡ Greater → slice_cmp nat_cmp l k ≡ Less
 turned k l e = nat_list_cmp_total.antisymm l k ∙ ap ordering_reverse e
 
-put_whole : (k : List ℕ) (d : Data) (ms : Members) → IsUtf8 k → IsWhole d → AreWholeMembers ms → AreWholeMembers (put k d ms)
+pub put_whole : (k : List ℕ) (d : Data) (ms : Members) → IsUtf8 k → IsWhole d → AreWholeMembers ms → AreWholeMembers (put k d ms)
 put_whole k d no_members u whole many = (u, (whole, (tt, tt)))
 put_whole k d (member l e ms) u whole many = go (slice_cmp nat_cmp k l) refl (put_whole k d ms u whole many.1.1.1)
   where

@@ -6,6 +6,7 @@ use Rattle.std.proofs.lemmas.Bool.Decides.{nat_tests}
 use Rattle.serde_json.specs.Data.{Num, Data, Items, no_items}
 use Rattle.serde_json.specs.Events.{items_len}
 use Rattle.serde_json.specs.Find.{as_array, as_number, as_str, as_u64, get, is_float}
+use Rattle.serde_json.specs.Written.{compact_text}
 use Rattle.mega_base.specs.declared.names.NodeId.{NodeId}
 use Rattle.mega_schema.specs.declared.schema.Schema.{Schema}
 use Rattle.mega_outcome.specs.declared.request.Request.{Request}
@@ -18,7 +19,8 @@ use Rattle.mega_schedule.specs.declared.verdict.Verdict.{Verdict}
 use Rattle.mega_schedule.specs.declared.verdict.Verdict.TheVariants.{WrongKind, OutOfRange, Fine}
 use Rattle.mega_schedule.specs.declared.world_event.WorldEvent.{WorldEvent}
 use Rattle.mega_schedule.specs.declared.world_event.WorldEvent.TheVariants.{Begin, Crash, Deliver, Drain, Drop, Fuse, Start, Tick}
-use Rattle.mega_schedule.specs.Events.{event_in, event_of, object_of, of_object, request_in}
+use Rattle.mega_schedule.specs.Asking.{is_operation}
+use Rattle.mega_schedule.specs.Events.{event_in, event_of, node_in, object_of, of_object, request_in}
 use Rattle.mega_schedule.specs.Fields.{at_most, between, group_check, number_within, required, within, worst}
 use Rattle.mega_schedule.specs.Forms.{few_check, fields_check, node_check, pump_named, txns_among, txns_check}
 use Rattle.mega_schedule.specs.Parts.{transaction_check}
@@ -87,6 +89,22 @@ asked_in_form schema forms.Drain d node request text whole fine e = absurd (cc)
 asked_in_form schema forms.Crash d node request text whole fine e = absurd (cc)
 asked_in_form schema forms.Start d node request text whole fine e = absurd (cc)
 asked_in_form schema forms.Fuse d node request text whole fine e = absurd (cc)
+
+-- so does a form that begins an operation, whatever line it is of
+pub operation_asked : (schema : Schema) (form : Form) (d : Data) → is_operation form ≡ true → IsWhole d → fields_check form d ≡ Fine → IsRequest (request_in schema form d)
+operation_asked schema forms.Txn d op whole fine = asked_in_form schema forms.Txn d (node_in d) (request_in schema forms.Txn d) (compact_text d) whole fine refl
+operation_asked schema forms.Batch d op whole fine = asked_in_form schema forms.Batch d (node_in d) (request_in schema forms.Batch d) (compact_text d) whole fine refl
+operation_asked schema forms.Read d op whole fine = asked_in_form schema forms.Read d (node_in d) (request_in schema forms.Read d) (compact_text d) whole fine refl
+operation_asked schema forms.Find d op whole fine = asked_in_form schema forms.Find d (node_in d) (request_in schema forms.Find d) (compact_text d) whole fine refl
+operation_asked schema forms.Pump d op whole fine = asked_in_form schema forms.Pump d (node_in d) (request_in schema forms.Pump d) (compact_text d) whole fine refl
+operation_asked schema forms.Refresh d op whole fine = tt
+operation_asked schema forms.Tick d op whole fine = absurd (cc)
+operation_asked schema forms.Deliver d op whole fine = absurd (cc)
+operation_asked schema forms.Drop d op whole fine = absurd (cc)
+operation_asked schema forms.Drain d op whole fine = absurd (cc)
+operation_asked schema forms.Crash d op whole fine = absurd (cc)
+operation_asked schema forms.Start d op whole fine = absurd (cc)
+operation_asked schema forms.Fuse d op whole fine = absurd (cc)
 
 pub request_asked : (schema : Schema) (number : ℕ) (line : List ℕ) (node : NodeId) (request : Request) (text : List ℕ) → event_of schema number line ≡ Ok (Begin node request text) → IsRequest request
 request_asked schema number line node request text e =

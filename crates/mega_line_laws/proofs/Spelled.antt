@@ -73,12 +73,12 @@ judged_fine OutOfRange answer event e = absurd (cc)
 
 -- ---- the line's object
 
-record IsObject (line : List ℕ) (d : Data) : Type 0 where
-  utf8 : is_utf8 line ≡ true
-  reads : read_json line ≡ Some d
-  object : is_some (as_object d) ≡ true
+pub record IsObject (line : List ℕ) (d : Data) : Type 0 where
+  pub utf8 : is_utf8 line ≡ true
+  pub reads : read_json line ≡ Some d
+  pub object : is_some (as_object d) ≡ true
 
-object_is : (line : List ℕ) (d : Data) → object_of line ≡ Ok d → IsObject line d
+pub object_is : (line : List ℕ) (d : Data) → object_of line ≡ Ok d → IsObject line d
 object_is line d e = go (is_utf8 line) refl (read_json line) refl e
   where
     some : (x : Data) → read_json line ≡ Some x → is_utf8 line ≡ true → (t : Bool) → is_some (as_object x) ≡ t → cond {A = Result Data ℕ} t (Ok x) (Err 1) ≡ Ok d → IsObject line d

@@ -1,13 +1,15 @@
 //! Laws, as contracts of functions that do nothing.
 
-ghost use Rattle.std.specs.Prelude.{◌≡◌, ◌≤◌, ℕ, List, Ok, Some};
+ghost use Rattle.std.specs.Prelude.{◌≡◌, ◌<◌, ◌≤◌, ◌^◌, ℕ, List, Ok, Some};
 ghost use Rattle.mega_base.specs.declared.names.NodeId.{NodeId as Node};
 ghost use Rattle.mega_cluster.specs.declared.cluster.Cluster.{Cluster};
 ghost use Rattle.mega_cluster.specs.Header.{read_of};
 ghost use Rattle.mega_format_laws.specs.Histories.{IsClock};
 ghost use Rattle.mega_format_laws.specs.Requests.{IsRequest, IsTypedRequest};
 ghost use Rattle.mega_outcome.specs.declared.request.Request.{Request};
+ghost use Rattle.mega_schedule.specs.Asking.{asked_of};
 ghost use Rattle.mega_schedule.specs.Events.{event_of};
+ghost use Rattle.mega_schedule.specs.declared.asking.Ask.{Ask};
 ghost use Rattle.mega_schedule.specs.declared.world_event.WorldEvent.TheVariants.{Begin, Tick};
 ghost use Rattle.mega_schema.specs.declared.schema.Schema.{Schema as Tables};
 ghost use Rattle.mega_transcript.specs.Requests.{IsRequest as IsText};
@@ -18,6 +20,11 @@ ghost use Rattle.mega_line_laws.specs.Meanings.{meaning_in};
 pub fn lines_ask_for_what_is_of_the_format()
     ensures requests { (schema : Tables) (number : ℕ) (line : List ℕ) (node : Node) (request : Request) (text : List ℕ) → event_of schema number line ≡ Ok (Begin node request text) → IsRequest request }
     ensures ticks { (schema : Tables) (number : ℕ) (line : List ℕ) (node : Node) (clock : ℕ) → event_of schema number line ≡ Ok (Tick node clock) → IsClock clock }
+{}
+
+/// What a client of a node asks for is of the format.
+pub fn clients_ask_for_what_is_of_the_format()
+    ensures { (schema : Tables) (node : ℕ) (json : List ℕ) (ask : Ask) → node < 2 ^ 64 → asked_of schema node json ≡ Ok ask → IsRequest ask.request }
 {}
 
 /// The text with which an operation begins means its request: read again, it asks for the same.

@@ -1,0 +1,5 @@
+pub mod Decided
+pub mod Events
+pub mod Started
+pub mod Steps
+pub mod Turns
