@@ -6,7 +6,6 @@ use Rattle.mega_cluster.specs.declared.cluster.Cluster.{Cluster}
 use Rattle.mega_disk.specs.declared.disk.Disk.{Ghosts as DiskGhosts}
 use Rattle.mega_disk.specs.declared.pair.Pair.{Pair}
 use Rattle.mega_handler.specs.Named.{Meaning}
-use Rattle.mega_serve.specs.declared.steps.Steps.{Ghosts as StepsGhosts}
 use Rattle.mega_node.specs.declared.stop.Stop.{Stop}
 use Rattle.mega_node.specs.declared.stop.Stop.TheVariants.{Device}
 use Rattle.mega_node.specs.Calls.{Halted, HasRun, IsCut, Ran}
@@ -24,21 +23,21 @@ paired : {D : Type 0} (X : D → Type 0) (devices : Option (Pair D)) (left : Opt
     → (both : Pair D) × (devices ≡ Some both) × X both.log
 paired X devices left runs same found = (beside runs found.0, same ∙ ap (option_map (beside runs)) found.1, found.2)
 
-pub has_run : {D S : Type 0} (disks : DiskGhosts D) (steps : StepsGhosts S) (makes : List ℕ → Option Meaning) (m number turns : ℕ) (input : Option (List ℕ)) (log : D) (before bound after : Outside) (c : Cluster)
+pub has_run : {D : Type 0} (disks : DiskGhosts D) (makes : List ℕ → Option Meaning) (m number turns : ℕ) (input : Option (List ℕ)) (log : D) (before bound after : Outside) (c : Cluster)
     (devices : Option (Pair D)) (left : Option D) (runs : D) (ended : Result (Unit {0}) Stop) → devices ≡ option_map (λ log. record { log = log; runs = runs }) left → bound ≡ before → m ≡ number → IsHeaded m input c
-    → OnOk ended ((one : D) × (left ≡ Some one) × Ran disks steps makes c number turns log one bound after)
-    → OnOk ended ((both : Pair D) × (devices ≡ Some both) × HasRun disks steps makes number turns input log both.log before after)
-has_run disks steps makes m number turns input log before bound after c devices left runs ended same unread own headed =
+    → OnOk ended ((one : D) × (left ≡ Some one) × Ran disks makes c number turns log one bound after)
+    → OnOk ended ((both : Pair D) × (devices ≡ Some both) × HasRun disks makes number turns input log both.log before after)
+has_run disks makes m number turns input log before bound after c devices left runs ended same unread own headed =
     ok_then ended
-    (λ found. paired (λ one. HasRun disks steps makes number turns input log one before after) devices left runs same
-    (found.0, found.1, (c, subst (λ (n : ℕ). IsHeaded n input c) own headed, subst (λ (first : Outside). Ran disks steps makes c number turns log found.0 first after) unread found.2)))
+    (λ found. paired (λ one. HasRun disks makes number turns input log one before after) devices left runs same
+    (found.0, found.1, (c, subst (λ (n : ℕ). IsHeaded n input c) own headed, subst (λ (first : Outside). Ran disks makes c number turns log found.0 first after) unread found.2)))
 
-pub is_cut : {D S : Type 0} (disks : DiskGhosts D) (steps : StepsGhosts S) (makes : List ℕ → Option Meaning) (m number : ℕ) (input : Option (List ℕ)) (log : D) (before bound after : Outside) (c : Cluster) (ended : Result (Unit {0}) Stop)
-    → bound ≡ before → m ≡ number → IsHeaded m input c → OnErr ended ((after ≡ bound) ⊎ Halted disks steps makes c number log bound after) → IfErr ended (λ stop. IsNoRule stop → IsCut disks steps makes number input log before after)
-is_cut disks steps makes m number input log before bound after c (Ok made) unread own headed cut = tt
-is_cut disks steps makes m number input log before bound after c (Err stop) unread own headed (inl same) = λ rule. inl (same ∙ unread)
-is_cut disks steps makes m number input log before bound after c (Err stop) unread own headed (inr halted) =
-    λ rule. inr (inr (c, subst (λ (n : ℕ). IsHeaded n input c) own headed, subst (λ (first : Outside). Halted disks steps makes c number log first after) unread halted))
+pub is_cut : {D : Type 0} (disks : DiskGhosts D) (makes : List ℕ → Option Meaning) (m number : ℕ) (input : Option (List ℕ)) (log : D) (before bound after : Outside) (c : Cluster) (ended : Result (Unit {0}) Stop)
+    → bound ≡ before → m ≡ number → IsHeaded m input c → OnErr ended ((after ≡ bound) ⊎ Halted disks makes c number log bound after) → IfErr ended (λ stop. IsNoRule stop → IsCut disks makes number input log before after)
+is_cut disks makes m number input log before bound after c (Ok made) unread own headed cut = tt
+is_cut disks makes m number input log before bound after c (Err stop) unread own headed (inl same) = λ rule. inl (same ∙ unread)
+is_cut disks makes m number input log before bound after c (Err stop) unread own headed (inr halted) =
+    λ rule. inr (inr (c, subst (λ (n : ℕ). IsHeaded n input c) own headed, subst (λ (first : Outside). Halted disks makes c number log first after) unread halted))
 
 pub device_back : {D : Type 0} (faults : D → ℕ) (before : ℕ) (devices : Option (Pair D)) (left : Option D) (runs : D) (ended : Result (Unit {0}) Stop) → devices ≡ option_map (λ log. record { log = log; runs = runs }) left
     → IfErr ended (λ stop. HandsBack faults before stop left) → ended ≡ Err Device → (both : Pair D) × (devices ≡ Some both) × Rose before (faults both.log)

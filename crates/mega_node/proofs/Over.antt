@@ -4,35 +4,52 @@ use Rattle.mega_cluster.specs.declared.cluster.Cluster.{Cluster}
 use Rattle.mega_server.specs.of_core.of_stepping.declared.note.Note.{Note}
 use Rattle.mega_disk.specs.declared.disk.Disk.{Ghosts as DiskGhosts}
 use Rattle.mega_handler.specs.Named.{Meaning, Meanings}
+use Rattle.mega_link.specs.Datagrams.{Datagram}
 use Rattle.mega_serve.specs.declared.steps.Steps.{Ghosts as StepsGhosts}
 use Rattle.mega_serve.specs.declared.waiting.Waiting.{Waiting}
-use Rattle.mega_serve.specs.Turns.{IsServing}
+use Rattle.mega_rules.specs.Operations.{Node, Setting}
+use Rattle.mega_rules.specs.Steps.{Event}
+use Rattle.mega_serve.specs.Turns.{IsServing, MayServe, turns_of}
+use Rattle.mega_server.specs.Serving.{MayStep}
+use Rattle.mega_turn_laws.specs.Sound.{AreSound}
+use Rattle.mega_turn_laws.proofs.Turns.{may_serve}
+use Rattle.mega_promises.specs.Runs.{setting}
 use Rattle.mega_promises.specs.Served.{Served}
-use Rattle.mega_node.specs.Calls.{Halted, KeepsMet, Ran}
+use Rattle.mega_node.specs.Calls.{Halted, KeepsMet, Ran, served_over, started_over}
 use Rattle.mega_node.specs.Logs.{AreFound}
 use Rattle.mega_node.specs.Outside.{Outside}
 use Rattle.mega_node.specs.Serving.{HasTurnedOff, HasTurnedOn}
 use Rattle.mega_node.specs.Starting.{HasStarted}
 
+-- where its turns are sound, they may happen
+sound_may : {D S : Type 0} (disks : DiskGhosts D) (steps : StepsGhosts S) (makes : List ℕ → Option Meaning) (c : Cluster) (me : ℕ) (log : D) (found : List (List ℕ)) (one : S) (start : ℕ) (notes : List Note)
+    → ((s : Setting) (node : Node) (event : Event) → MayStep s node event → steps.may_happen s node event) → AreFound disks log found → HasStarted steps makes c me found one start notes → (given : List (ℕ × Option Datagram)) (h : Meanings)
+    → AreSound (setting c h me) given (served_over (setting c h me) found (turns_of h given)) → MayServe steps (setting c h me) (started_over (setting c h me) found) (turns_of h given)
+sound_may disks steps makes c me log found one start notes may are started given h sound = may_serve steps may c h me found given started.sized started.member are.good started.few sound
+
 pub ran : {D S : Type 0} (disks : DiskGhosts D) (steps : StepsGhosts S) (makes : List ℕ → Option Meaning) (c : Cluster) (me turns : ℕ) (log left : D) (before after : Outside) (found : List (List ℕ)) (one last : S) (start : ℕ) (notes : List Note)
+    → ((s : Setting) (node : Node) (event : Event) → MayStep s node event → steps.may_happen s node event)
     → AreFound disks log found → HasStarted steps makes c me found one start notes → HasTurnedOn steps one last start notes turns before after
     → ((h : Meanings) (waiting : List Waiting) (now : Served) → IsServing steps h last waiting now → KeepsMet disks left now)
-    → Ran disks steps makes c me turns log left before after
-ran disks steps makes c me turns log left before after found one last start notes are started turned keeps = record {
+    → Ran disks makes c me turns log left before after
+ran disks steps makes c me turns log left before after found one last start notes may are started turned keeps = record {
   found = found;
   are_found = are;
   given = turned.given;
   turned = turned.turned;
-  recorded = turned.recorded makes c me found started;
-  kept = λ h means may. let serving = turned.serving makes c me found started h means may in keeps serving.0 serving.1 _ serving.2;
+  recorded = λ h means sound. turned.recorded makes c me found started h means (sound_may disks steps makes c me log found one start notes may are started turned.given h sound);
+  kept = λ h means sound.
+      let serving = turned.serving makes c me found started h means (sound_may disks steps makes c me log found one start notes may are started turned.given h sound) in
+      keeps serving.0 serving.1 _ serving.2;
 }
 
 pub halted : {D S : Type 0} (disks : DiskGhosts D) (steps : StepsGhosts S) (makes : List ℕ → Option Meaning) (c : Cluster) (me : ℕ) (log : D) (before after : Outside) (found : List (List ℕ)) (one : S) (start : ℕ) (notes : List Note)
-    → AreFound disks log found → HasStarted steps makes c me found one start notes → HasTurnedOff steps one start notes before after → Halted disks steps makes c me log before after
-halted disks steps makes c me log before after found one start notes are started turned = record {
+    → ((s : Setting) (node : Node) (event : Event) → MayStep s node event → steps.may_happen s node event)
+    → AreFound disks log found → HasStarted steps makes c me found one start notes → HasTurnedOff steps one start notes before after → Halted disks makes c me log before after
+halted disks steps makes c me log before after found one start notes may are started turned = record {
   found = found;
   are_found = are;
   given = turned.given;
   begun = turned.begun;
-  stops = turned.stops makes c me found started;
+  stops = λ h means sound. turned.stops makes c me found started h means (sound_may disks steps makes c me log found one start notes may are started turned.given h sound);
 }

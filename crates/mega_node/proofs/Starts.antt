@@ -1,14 +1,16 @@
 -- A node that started over what its log held is the served node at its start.
-use Rattle.std.proofs.Common.{◌≡◌, ℕ, ◌+◌, ◌<◌, false, true, List, [], ◌∷◌, None, Option, map, subst, sym, ◌∙◌}
+use Rattle.std.proofs.Common.{◌≡◌, ◌⊎◌, inl, inr, ℕ, ◌+◌, ◌<◌, ◌≤◌, false, true, List, [], ◌∷◌, None, Option, map, subst, sym, ◌∙◌, arith}
 use Rattle.std.specs.Prelude.{flat_map}
 use Rattle.mega_cluster.specs.declared.cluster.Cluster.{Cluster}
 use Rattle.mega_server.specs.of_core.of_stepping.declared.note.Note.{Note}
 use Rattle.mega_server.specs.of_core.of_stepping.Notes.{met_of as notes_met}
 use Rattle.mega_server.specs.of_core.Restarting.{HaveFollowed}
+use Rattle.mega_server.specs.of_core.Served.{IsServed}
 use Rattle.mega_disk.specs.declared.records.Records.{Ghosts}
 use Rattle.mega_disk.specs.VersionMaps.{Versions}
 use Rattle.mega_server.specs.of_durable.declared.down.Down.{Down}
 use Rattle.mega_server.specs.of_durable.Standing.{MayStart}
+use Rattle.mega_format_laws.specs.Histories.{IsCluster}
 use Rattle.mega_handler.specs.Named.{Meaning}
 use Rattle.mega_promises.specs.Items.{number, shown}
 use Rattle.mega_promises.specs.NodeRuns.{met_of}
@@ -44,6 +46,15 @@ may_start store version c me down voter found same good few keeps list ready row
       holds = λ told. subst (λ (records : List (List ℕ)). HoldsMet records (starts_of (history_of found)) met) (sym ((λ i. store.list ((same i).logs.records)) ∙ list told)) holds;
       rows = rows met;
     }
+
+-- a cluster that is served is of the format
+pub of_format : (c : Cluster) → IsServed c → IsCluster c
+of_format c served = record { nodes = served.few; cells = few_cells c.cells served.cells; limit = served.limit }
+  where
+    few_cells : (n : ℕ) → (n ≡ 1) ⊎ (n ≡ 3) ⊎ (n ≡ 5) → n ≤ 5
+    few_cells n (inl is) = omega (arith, is)
+    few_cells n (inr (inl is)) = omega (arith, is)
+    few_cells n (inr (inr is)) = omega (arith, is)
 
 -- it is told of the number that it has
 pub at_number : {S : Type 0} (steps : StepsGhosts S) (makes : List ℕ → Option Meaning) (c : Cluster) (found : List (List ℕ)) (one : S) (start : ℕ) (notes : List Note) (m n : ℕ) → m ≡ n

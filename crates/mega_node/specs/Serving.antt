@@ -5,6 +5,8 @@ use Rattle.mega_cluster.specs.declared.cluster.Cluster.{Cluster}
 use Rattle.mega_server.specs.of_core.of_stepping.declared.note.Note.{Note}
 use Rattle.mega_handler.specs.Named.{Meaning, Meanings}
 use Rattle.mega_link.specs.Datagrams.{Datagram}
+use Rattle.mega_meanings.specs.Means.{Means}
+use Rattle.mega_promises.specs.Runs.{setting}
 use Rattle.mega_promises.specs.Served.{Served}
 use Rattle.mega_serve.specs.of_page.declared.fault.NodeFault.{NodeFault}
 use Rattle.mega_serve.specs.of_page.declared.fault.NodeFault.TheVariants as node
@@ -14,10 +16,10 @@ use Rattle.mega_serve.specs.declared.steps.Steps.{Ghosts as StepsGhosts}
 use Rattle.mega_serve.specs.declared.waiting.Waiting.{Waiting}
 use Rattle.mega_serve.specs.Pages.{GoesOn, Stops}
 use Rattle.mega_serve.specs.Causes.{Devices, HaveFailed}
-use Rattle.mega_serve.specs.Turns.{HasBegun, HasTurned, IsServing}
+use Rattle.mega_serve.specs.Turns.{HasBegun, HasTurned, IsServing, MayServe, turns_of}
 use Rattle.mega_node.specs.declared.stop.Stop.{Stop}
 use Rattle.mega_node.specs.declared.stop.Stop.TheVariants.{Device, Full, NoMemory, Sink, Unformed}
-use Rattle.mega_node.specs.Calls.{AtEachRun}
+use Rattle.mega_node.specs.Calls.{served_over, started_over}
 use Rattle.mega_node.specs.Outside.{Outside}
 use Rattle.mega_node.specs.Starting.{HasStarted}
 
@@ -42,6 +44,11 @@ IsDue Sink before now sink more_sink = Rose sink more_sink
 IsDue Unformed before now sink more_sink = Unit {0}
 IsDue NoMemory before now sink more_sink = Unit {0}
 IsDue _ before now sink more_sink = ⊥
+
+-- of each meaning of the handlers under which the turns may happen
+abbrev pub AtEachRun : {S : Type 0} → StepsGhosts S → (List ℕ → Option Meaning) → Cluster → ℕ → List (List ℕ) → List (ℕ × Option Datagram) → (Served → Type 0) → Type 0
+AtEachRun steps makes c number found given Is =
+    (h : Meanings) → Means makes h → MayServe steps (setting c h number) (started_over (setting c h number) found) (turns_of h given) → Is (served_over (setting c h number) found (turns_of h given))
 
 -- of what a node, which started with these notes, is over records at each of its runs
 abbrev pub FromStart : {S : Type 0} → StepsGhosts S → S → ℕ → List Note → List (ℕ × Option Datagram) → (Cluster → Served → Type 0) → Type 0

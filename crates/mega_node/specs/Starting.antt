@@ -5,6 +5,8 @@ use Rattle.mega_cluster.specs.declared.cluster.Cluster.{Cluster}
 use Rattle.mega_server.specs.of_core.of_stepping.declared.note.Note.{Note}
 use Rattle.mega_server.specs.of_durable.declared.starting.NotStarted.{NotStarted}
 use Rattle.mega_server.specs.of_durable.declared.starting.NotStarted.TheVariants as refused
+use Rattle.mega_format_laws.specs.Histories.{IsCluster}
+use Rattle.mega_format_laws.specs.Rounds.{IsMember}
 use Rattle.mega_handler.specs.Named.{Meaning, Meanings}
 use Rattle.mega_meanings.specs.Means.{Means}
 use Rattle.mega_promises.specs.Items.{number}
@@ -14,6 +16,8 @@ use Rattle.mega_serve.specs.declared.steps.Steps.{Ghosts as StepsGhosts}
 use Rattle.mega_serve.specs.Turns.{IsServing}
 use Rattle.mega_server.specs.Forming.{notes_shown}
 use Rattle.mega_transcript.specs.declared.item.Item.TheVariants.{Start}
+use Rattle.mega_wal.specs.History.{starts_of}
+use Rattle.mega_wal.specs.Records.{history_of}
 use Rattle.mega_wal.specs.declared.answers.LogFault.{LogFault}
 use Rattle.mega_wal.specs.declared.answers.LogFault.TheVariants as log
 use Rattle.mega_node.specs.declared.stop.Stop.{Stop}
@@ -24,10 +28,14 @@ use Rattle.mega_node.specs.Calls.{started_over}
 abbrev pub start_lines : ℕ → ℕ → List Note → List Line
 start_lines me start notes = map Noted (Start (number me) start ∷ notes_shown me notes)
 
--- a node that is served as the node of the rules is at its start over these records, and whose record begins with this start and these notes
+-- a node of a cluster of the format that is served as the node of the rules is at its start over these records, and whose record begins with this start and these
+-- notes
 pub record HasStarted {S : Type 0} (steps : StepsGhosts S) (makes : List ℕ → Option Meaning) (c : Cluster) (me : ℕ) (found : List (List ℕ)) (one : S) (start : ℕ) (notes : List Note) : Type 0 where
   pub members : steps.members one ≡ c
   pub own : steps.me one ≡ me
+  pub sized : IsCluster c
+  pub member : IsMember me
+  pub few : starts_of (history_of found) < 4294967295
   pub serving : (h : Meanings) → Means makes h → IsServing steps h one [] (started_over (setting c h me) found)
   pub lines : (h : Meanings) → (started_over (setting c h me) found).lines ≡ start_lines me start notes
 

@@ -18,15 +18,12 @@ use crate::heading::read_members;
 use crate::running::run_over;
 use crate::stop::{Stop, put_rule};
 use mega_base::{Bytes, NodeId};
-use mega_checkpoint::Checkpoint;
 use mega_cluster::Cluster;
 use mega_disk::{Disk, Pair};
 use mega_io::{Sink, SinkError, Source, put};
 use mega_link::{Clock, Link};
 use mega_meanings::QueueHandlers;
-use mega_rows::VersionedRows;
-use mega_serve::Steps;
-use mega_server::{Number, Server};
+use mega_server::Number;
 use std::alloc::Global;
 
 /// What a call came to, and the devices as it left them, which are lost only where memory was wanting.
@@ -103,14 +100,14 @@ pub fn run_node<I: Source, O: Sink, D: Disk + Drop, L: Link, C: Clock, H: QueueH
     handlers: H,
 ) -> Outcome<D>
     // With all turns made the sink holds the whole record, the link sent what stands in it, and the log holds what the node met.
-    ensures ran { OnOk result.ended ((left : Devices D) × (result.devices ≡ Some left) × HasRun D.Disk ⟦<Server<Checkpoint<D>, VersionedRows, H> as Steps>⟧ (H.meant handlers) number.of turns (I.left input.old) devices.log left.log (told_by L.Link C.Clock O.Sink link.old clock.old out.old) (told_by L.Link C.Clock O.Sink link.new clock.new out.new)) }
+    ensures ran { OnOk result.ended ((left : Devices D) × (result.devices ≡ Some left) × HasRun D.Disk (H.meant handlers) number.of turns (I.left input.old) devices.log left.log (told_by L.Link C.Clock O.Sink link.old clock.old out.old) (told_by L.Link C.Clock O.Sink link.new clock.new out.new)) }
 
     // A header that breaks a rule is told of in the last line, and nothing else is done.
     ensures header { (rule : ℕ) → result.ended ≡ Err (Stop.Header rule) → IsBroken number.of (I.left input.old) rule × OnlyWrites (told_by L.Link C.Clock O.Sink link.old clock.old out.old) (told_by L.Link C.Clock O.Sink link.new clock.new out.new) (λ held more_held. Appends held more_held (header_line rule)) }
     ensures headed { IfErr result.ended (λ stop. IsBehindHeader stop → (c : Members) × IsHeaded number.of (I.left input.old) c) }
 
     // At any other end a front of what there was to write is held.
-    ensures cut { IfErr result.ended (λ stop. IsNoRule stop → IsCut D.Disk ⟦<Server<Checkpoint<D>, VersionedRows, H> as Steps>⟧ (H.meant handlers) number.of (I.left input.old) devices.log (told_by L.Link C.Clock O.Sink link.old clock.old out.old) (told_by L.Link C.Clock O.Sink link.new clock.new out.new)) }
+    ensures cut { IfErr result.ended (λ stop. IsNoRule stop → IsCut D.Disk (H.meant handlers) number.of (I.left input.old) devices.log (told_by L.Link C.Clock O.Sink link.old clock.old out.old) (told_by L.Link C.Clock O.Sink link.new clock.new out.new)) }
 
     // Why it ends.
     ensures source { result.ended ≡ Err Stop.Source → Rose (I.faults input.old) (I.faults input.new) × HeaderFails (I.left input.old) (I.left input.new) }

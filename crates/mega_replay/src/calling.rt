@@ -25,16 +25,12 @@ use crate::saving::back_up;
 use crate::serving::serve_node;
 use mega_backup_words::run_restore;
 use mega_base::{NoMemory, Position, Text};
-use mega_checkpoint::Checkpoint;
 use mega_disk::{Disk, Pair};
 use mega_gen::generate;
 use mega_io::{Sink, SinkError, Source, put};
 use mega_link::{Clock, Link};
-use mega_meanings::BuiltIn;
-use mega_node::mega_server::{Number, Server};
+use mega_node::mega_server::Number;
 use mega_replaying::replay_all;
-use mega_rows::VersionedRows;
-use mega_serve::Steps;
 use mega_two_words::run_two;
 use mega_words::{Command, Report, command_of};
 use std::alloc::Global;
@@ -79,7 +75,7 @@ pub fn run<I: Source, O: Sink, D: Disk + Drop, L: Link, C: Clock>(
     ensures cut { (report : Report) → command_of words.now ≡ Some (Replay report) → IsCutStatus result.status → InputCut report (I.left input.old) (AppendsFront (O.held out.old) (O.held out.new)) }
     ensures source { result.status ≡ 5 → Rose (I.faults input.old) (I.faults input.new) }
     ensures sink { result.status ≡ 6 → Rose (O.faults out.old) (O.faults out.new) }
-    ensures node { (number turns : ℕ) → command_of words.now ≡ Some (Node number turns) → HasRunNode D.Disk ⟦<Server<Checkpoint<D>, VersionedRows, BuiltIn> as Steps>⟧ (meaning built_in) number turns (I.left input.old) (I.left input.new) devices result.devices (told_by L.Link C.Clock O.Sink link.old clock.old out.old) (told_by L.Link C.Clock O.Sink link.new clock.new out.new) result.status }
+    ensures node { (number turns : ℕ) → command_of words.now ≡ Some (Node number turns) → HasRunNode D.Disk (meaning built_in) number turns (I.left input.old) (I.left input.new) devices result.devices (told_by L.Link C.Clock O.Sink link.old clock.old out.old) (told_by L.Link C.Clock O.Sink link.new clock.new out.new) result.status }
     ensures backup { (number at : ℕ) (group : Group) → command_of words.now ≡ Some (Backup number group at) → HasBackedUp D.Disk number group at (I.left input.old) devices result.devices (O.held out.old) (O.held out.new) result.status }
     ensures restore { (at : ℕ) → command_of words.now ≡ Some (Restore at) → HasRestored at (I.left input.old) (O.held out.old) (O.held out.new) result.status }
     ensures two { (number turns : ℕ) (recover : Option (List ℕ)) → command_of words.now ≡ Some (Two number turns recover) → HasDriven number turns recover (I.left input.old) (told_by L.Link C.Clock O.Sink link.old clock.old out.old) (told_by L.Link C.Clock O.Sink link.new clock.new out.new) result.status }

@@ -8,15 +8,12 @@ ghost use Rattle.mega_replay.specs.Nodes.{HasRunNode};
 ghost use Rattle.mega_replay.specs.Statuses.{IsNodeStatus};
 
 use crate::ended::Ended;
-use mega_checkpoint::Checkpoint;
 use mega_disk::{Disk, Pair};
 use mega_io::{Sink, Source};
 use mega_link::{Clock, Link};
 use mega_meanings::{BuiltIn, QueueHandlers};
-use mega_node::mega_server::{Number, Server};
+use mega_node::mega_server::Number;
 use mega_node::run_node;
-use mega_rows::VersionedRows;
-use mega_serve::Steps;
 use std::alloc::Global;
 
 /// Runs a node, and gives the status with which the program then ends.
@@ -31,7 +28,7 @@ fn serve_with<I: Source, O: Sink, D: Disk + Drop, L: Link, C: Clock, H: QueueHan
     clock: &mut C,
     handlers: H,
 ) -> Ended<D>
-    ensures node { HasRunNode D.Disk ⟦<Server<Checkpoint<D>, VersionedRows, H> as Steps>⟧ (H.meant handlers) number.of turns (I.left input.old) (I.left input.new) devices result.devices (told_by L.Link C.Clock O.Sink link.old clock.old out.old) (told_by L.Link C.Clock O.Sink link.new clock.new out.new) result.status }
+    ensures node { HasRunNode D.Disk (H.meant handlers) number.of turns (I.left input.old) (I.left input.new) devices result.devices (told_by L.Link C.Clock O.Sink link.old clock.old out.old) (told_by L.Link C.Clock O.Sink link.new clock.new out.new) result.status }
     ensures source { result.status ≡ 5 → Rose (I.faults input.old) (I.faults input.new) }
     ensures sink { result.status ≡ 6 → Rose (O.faults out.old) (O.faults out.new) }
     ensures link { result.status ≡ 9 → Rose (L.faults link.old) (L.faults link.new) }
@@ -59,7 +56,7 @@ pub fn serve_node<I: Source, O: Sink, D: Disk + Drop, L: Link, C: Clock>(
     link: &mut L,
     clock: &mut C,
 ) -> Ended<D>
-    ensures node { HasRunNode D.Disk ⟦<Server<Checkpoint<D>, VersionedRows, BuiltIn> as Steps>⟧ (meaning built_in) number.of turns (I.left input.old) (I.left input.new) devices result.devices (told_by L.Link C.Clock O.Sink link.old clock.old out.old) (told_by L.Link C.Clock O.Sink link.new clock.new out.new) result.status }
+    ensures node { HasRunNode D.Disk (meaning built_in) number.of turns (I.left input.old) (I.left input.new) devices result.devices (told_by L.Link C.Clock O.Sink link.old clock.old out.old) (told_by L.Link C.Clock O.Sink link.new clock.new out.new) result.status }
     ensures source { result.status ≡ 5 → Rose (I.faults input.old) (I.faults input.new) }
     ensures sink { result.status ≡ 6 → Rose (O.faults out.old) (O.faults out.new) }
     ensures link { result.status ≡ 9 → Rose (L.faults link.old) (L.faults link.new) }

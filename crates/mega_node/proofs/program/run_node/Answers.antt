@@ -26,7 +26,7 @@ returns-clause-ran g c =
     let runs = c.args.devices.runs in
     let same : c.match-left.devices ≡ option_map (λ log. record { log = log; runs = runs }) c.run_over-ended.result.1 =
     elim c.match-left.branch [ in-Some w ↦ w.devices-is ∙ ap (option_map (λ log. record { log = log; runs = runs })) (sym w.in-Some.is) | in-None w ↦ w.devices-is ∙ ap (option_map (λ log. record { log = log; runs = runs })) (sym w.in-None.is) ] in
-    has_run g.D.Disk _ (g.H.QueueHandlers.meant c.args.handlers) c.get.result c.args.number.of c.args.turns (g.I.Source.left c.args.input.now) c.args.devices.log
+    has_run g.D.Disk (g.H.QueueHandlers.meant c.args.handlers) c.get.result c.args.number.of c.args.turns (g.I.Source.left c.args.input.now) c.args.devices.log
     (told_by g.L.Link g.C.Clock g.O.Sink c.args.link.now c.args.clock.now c.args.out.now) (told_by g.L.Link g.C.Clock g.O.Sink c.bind.new.self c.args.clock.now c.args.out.now) _ c.in-Ok.cluster
     c.match-left.devices c.run_over-ended.result.1 runs c.run_over-ended.result.0 same
     (λ i. record { readings = g.C.Clock.readings c.args.clock.now; taken = c.bind.ensures.taken i; sent = c.bind.ensures.sent i; held = g.O.Sink.held c.args.out.now })
@@ -34,7 +34,7 @@ returns-clause-ran g c =
 
 pub returns-clause-cut : goal.returns-clause-cut
 returns-clause-cut g c =
-    is_cut g.D.Disk _ (g.H.QueueHandlers.meant c.args.handlers) c.get.result c.args.number.of (g.I.Source.left c.args.input.now) c.args.devices.log
+    is_cut g.D.Disk (g.H.QueueHandlers.meant c.args.handlers) c.get.result c.args.number.of (g.I.Source.left c.args.input.now) c.args.devices.log
     (told_by g.L.Link g.C.Clock g.O.Sink c.args.link.now c.args.clock.now c.args.out.now) (told_by g.L.Link g.C.Clock g.O.Sink c.bind.new.self c.args.clock.now c.args.out.now) _ c.in-Ok.cluster c.run_over-ended.result.0
     (λ i. record { readings = g.C.Clock.readings c.args.clock.now; taken = c.bind.ensures.taken i; sent = c.bind.ensures.sent i; held = g.O.Sink.held c.args.out.now })
     c.get.ensures.number c.in-Ok.ensures.headed c.run_over-ended.ensures.cut

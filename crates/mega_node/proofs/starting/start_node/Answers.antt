@@ -7,7 +7,7 @@ use Rattle.mega_wal.specs.History.{starts_of}
 use Rattle.mega_wal.specs.Records.{history_of}
 use Rattle.mega_node.specs.Starting.{HandsBack, left_of, start_stop}
 use Rattle.mega_node.proofs.Refusing.{handed, mapped}
-use Rattle.mega_node.proofs.Starts.{at_number, may_start, start_shown}
+use Rattle.mega_node.proofs.Starts.{at_number, may_start, of_format, start_shown}
 use Rattle.mega_node.proofs.starting.start_node.Goals as goal
 
 pub returns-in-Ok-clause-started : goal.returns-in-Ok-clause-started
@@ -21,6 +21,9 @@ returns-in-Ok-clause-started g c = λ log found opened.
     at_number _ _ _ found _ c.counted.result one.notes me _ c.get.ensures.number (record {
       members = c.in-Ok.ensures.members;
       own = sym c.get.ensures.number;
+      sized = of_format c.args.cluster c.requires.served;
+      member = (c.get.ensures.least, c.get.ensures.most);
+      few = few;
       serving = λ h means. record {
         at = record { up = c.in-Ok.ensures.state h (starts_of before) (met_of me before) [] may; means = means; told = refl; whole = λ store. refl; numbered = c.in-Ok.ensures.me ∙ c.get.ensures.number };
         waits = refl;
