@@ -47,7 +47,7 @@ use Rattle.mega_actions.specs.of_pumps.Notes.{HasNoted}
 use Rattle.mega_actions.specs.of_marks.AreMarked.{IsIndexed}
 use Rattle.mega_actions.specs.of_proposing.Settings.{setting}
 use Rattle.mega_actions.specs.Turns.{IsServable}
-use Rattle.mega_core.specs.Represents.{Represents}
+use Rattle.mega_taking.specs.Represents.{Represents}
 use Rattle.mega_actions.specs.of_view.Small.{IsSmall}
 use Rattle.mega_core.specs.Restarting.{HaveFollowed, applied_at_start}
 use Rattle.mega_core.proofs.Alike.{IsApart, all_apart_alike, alike_tells}

@@ -35,10 +35,10 @@ use Rattle.mega_actions.specs.Turns.{IsServable}
 use Rattle.mega_actions.specs.of_proposing.Working.{work_of}
 use Rattle.mega_actions.specs.of_proposing.declared.work.Work.{Work}
 use Rattle.mega_core.specs.Acted.{Acted, HasActed, IsEnd, IsValidate, ended}
-use Rattle.mega_core.specs.Beginning.{at_begin, has_begun, marks_unless}
-use Rattle.mega_core.specs.Kind.{FitsKind}
+use Rattle.mega_taking.specs.Beginning.{at_begin, has_begun, marks_unless}
+use Rattle.mega_taking.specs.Kind.{FitsKind}
 use Rattle.mega_stepping.specs.Behind.{Keeps}
-use Rattle.mega_core.specs.Represents.{Represents}
+use Rattle.mega_taking.specs.Represents.{Represents}
 use Rattle.mega_core.proofs.Fitting.{begin_fits}
 use Rattle.mega_core.proofs.Quiet.{begun_marks, refusal_plain}
 use Rattle.mega_core.proofs.Walked.{begun_acted, begun_served}

@@ -1,28 +1,22 @@
 -- A tick, as far as the operations act, and its step.
-use Rattle.std.proofs.Common.{◌≡◌, ℕ, false, min, List, [], ◌∷◌, ◌++◌, map, fold, refl, sym, ap, subst, ◌∙◌}
+use Rattle.std.proofs.Common.{◌≡◌, ℕ, min, List, ◌∷◌, ◌++◌, fold, refl, sym, ap, subst, ◌∙◌}
 use Rattle.std.specs.List.{All}
 use Rattle.std.proofs.lemmas.List.Elements.{All-nil}
 use Rattle.mega_base.specs.declared.names.GroupId.{GroupId}
 use Rattle.mega_disk.specs.VersionMaps.{Versions}
 use Rattle.mega_wal.specs.declared.kept.Kept.{Kept}
 use Rattle.mega_wire.specs.declared.message.Message.{Message}
-use Rattle.mega_rules.specs.Met.{Met, Ticks}
+use Rattle.mega_rules.specs.Met.{Ticks}
 use Rattle.mega_rules.specs.Clock.{begun_of, last_number}
 use Rattle.mega_rules.specs.Coordinators.{acquires_at}
-use Rattle.mega_rules.specs.Logs.{groups_of, log_of}
 use Rattle.mega_rules.specs.Operations.{Node, Now, Operation, Setting}
 use Rattle.mega_rules.specs.Steps.{Step, Tick, at_first, background, lapse_notes, lease_notes, onto, portion_of, step, ticked}
 use Rattle.mega_stepping.specs.of_voter.Telling.{Tells}
 use Rattle.mega_stepping.specs.of_leases.declared.leases.Leases.{Leases}
-use Rattle.mega_stepping.specs.of_leases.declared.note.Note.{Note}
-use Rattle.mega_stepping.specs.of_leases.declared.note.Note.TheVariants as note
-use Rattle.mega_stepping.specs.of_leases.Notes.{met_of}
 use Rattle.mega_replica.specs.declared.progress.Progress.{Progress}
 use Rattle.mega_actions.specs.of_node_laws.About.{IsAbout}
 use Rattle.mega_actions.specs.of_node_laws.Acted.{acted_on}
-use Rattle.mega_actions.specs.of_node_laws.Deciding.{is_decision}
 use Rattle.mega_actions.specs.of_node_laws.Sending.{MaySend}
-use Rattle.mega_actions.proofs.of_node_laws.Logs.{log_stays}
 use Rattle.mega_actions.proofs.of_node_laws.Sent.{step_may}
 use Rattle.mega_rules.specs.Finding.{refreshed_marks}
 use Rattle.mega_actions.specs.of_marks.declared.indexed.Indexed.{Indexed}
@@ -33,54 +27,13 @@ use Rattle.mega_actions.specs.Turns.{IsServable}
 use Rattle.mega_actions.specs.of_proposing.Working.{work_of}
 use Rattle.mega_actions.specs.of_proposing.declared.work.Work.{Work}
 use Rattle.mega_core.specs.Acted.{HasActed, IsEnd, IsValidate, ended}
-use Rattle.mega_core.specs.Kind.{FitsKind}
-use Rattle.mega_core.specs.Represents.{Represents}
-use Rattle.mega_core.specs.Ticking.{has_ticked}
+use Rattle.mega_taking.specs.Kind.{FitsKind}
+use Rattle.mega_taking.specs.Represents.{Represents}
+use Rattle.mega_taking.specs.Ticking.{has_ticked}
 use Rattle.mega_core.proofs.Fitting.{tick_fits}
 use Rattle.mega_core.proofs.Quiet.{all_ticked_it}
 use Rattle.mega_core.proofs.Unshown.{acted_marked, lapses_unshown, leases_unshown}
 use Rattle.mega_core.proofs.Walked.{all_ticked_acted, all_ticked_served}
-
--- what leases note begins nothing
-note_begun : (one : Note) (met : List Met) → begun_of (met_of one ∷ met) ≡ begun_of met
-note_begun (note.Grants node epoch) met = refl
-note_begun (note.Lapses node epoch) met = refl
-note_begun (note.Counts cell epoch) met = refl
-note_begun (note.Forgets cell epoch) met = refl
-note_begun (note.Serves epoch) met = refl
-note_begun (note.Loses epoch) met = refl
-note_begun (note.Invalidates group position) met = refl
-
-pub leases_begun : (notes : List Note) (met : List Met) → begun_of (onto (map met_of notes) met) ≡ begun_of met
-leases_begun [] met = refl
-leases_begun (one ∷ notes) met = leases_begun notes (met_of one ∷ met) ∙ note_begun one met
-
--- and decides nothing
-note_groups : (one : Note) (met : List Met) → groups_of (met_of one ∷ met) ≡ groups_of met
-note_groups (note.Grants node epoch) met = refl
-note_groups (note.Lapses node epoch) met = refl
-note_groups (note.Counts cell epoch) met = refl
-note_groups (note.Forgets cell epoch) met = refl
-note_groups (note.Serves epoch) met = refl
-note_groups (note.Loses epoch) met = refl
-note_groups (note.Invalidates group position) met = refl
-
-pub leases_groups : (notes : List Note) (met : List Met) → groups_of (onto (map met_of notes) met) ≡ groups_of met
-leases_groups [] met = refl
-leases_groups (one ∷ notes) met = leases_groups notes (met_of one ∷ met) ∙ note_groups one met
-
-note_plain : (one : Note) → is_decision (met_of one) ≡ false
-note_plain (note.Grants node epoch) = refl
-note_plain (note.Lapses node epoch) = refl
-note_plain (note.Counts cell epoch) = refl
-note_plain (note.Forgets cell epoch) = refl
-note_plain (note.Serves epoch) = refl
-note_plain (note.Loses epoch) = refl
-note_plain (note.Invalidates group position) = refl
-
-pub leases_log : (notes : List Note) (met : List Met) (group : GroupId) → log_of (onto (map met_of notes) met) group ≡ log_of met group
-leases_log [] met group = refl
-leases_log (one ∷ notes) met group = leases_log notes (met_of one ∷ met) group ∙ log_stays (met_of one) met group (note_plain one)
 
 module _ (s : Setting) (node : Node) (now : ℕ) where
   abbrev ticking_from : Now

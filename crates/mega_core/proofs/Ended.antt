@@ -31,11 +31,11 @@ use Rattle.mega_actions.proofs.of_node_laws.Logs.{log_after}
 use Rattle.mega_actions.specs.of_proposing.declared.work.Work.{Work}
 use Rattle.mega_core.specs.Acted.{Acted, HasActed, IsEnd, IsValidate, ended}
 use Rattle.mega_stepping.specs.declared.note.Note.{Note}
-use Rattle.mega_core.specs.Kind.{FitsKind}
+use Rattle.mega_taking.specs.Kind.{FitsKind}
 use Rattle.mega_core.specs.Made.{Made}
 use Rattle.mega_stepping.specs.Notes.{met_of}
 use Rattle.mega_stepping.specs.Behind.{Keeps, is_behind}
-use Rattle.mega_core.specs.Represents.{Represents}
+use Rattle.mega_taking.specs.Represents.{Represents}
 use Rattle.mega_stepping.specs.Staging.{Stages}
 use Rattle.mega_core.proofs.Alike.{IsApart, alike_tells, alike_then, all_apart_alike, validates_alike}
 use Rattle.mega_core.proofs.Unshown.{applies_unshown, ended_marked, validates_unshown}

@@ -43,10 +43,10 @@ use Rattle.mega_stepping.specs.Touching.{asked_groups, touched}
 use Rattle.mega_stepping.proofs.Groups.{has, no_log}
 use Rattle.mega_stepping.proofs.of_voter.Grouped.{groups_sorted, sorted_same}
 use Rattle.mega_core.specs.Acted.{Acted}
-use Rattle.mega_core.specs.Beginning.{at_begin, has_begun}
+use Rattle.mega_taking.specs.Beginning.{at_begin, has_begun}
 use Rattle.mega_core.specs.Lagging.{KnowsLagging, KnowsOthers, is_watched, lags}
-use Rattle.mega_core.specs.Taking.{has_taken}
-use Rattle.mega_core.specs.Ticking.{has_ticked}
+use Rattle.mega_taking.specs.Taking.{has_taken}
+use Rattle.mega_taking.specs.Ticking.{has_ticked}
 use Rattle.mega_core.proofs.Anew.{few_stored, logs_beside, notes_quiet, owed_no_start}
 use Rattle.mega_core.proofs.Silent.{IsMute, IsQuiet, mute_undecided}
 use Rattle.mega_core.proofs.Untouched.{decision_stored, heard_by, log_acted, take_apart, take_log}

@@ -1,5 +1,4 @@
 pub mod Roles
-pub mod Replied
 pub mod Fitting
 pub mod Alike
 pub mod Silent
@@ -11,7 +10,6 @@ pub mod Messages
 pub mod Opened
 pub mod Clocks
 pub mod Refused
-pub mod Failing
 pub mod Untouched
 pub mod Watched
 pub mod Lags

@@ -1,155 +1,45 @@
 -- A message that is taken, as far as the operations act.
-use Rattle.std.proofs.Common.{◌≡◌, ℕ, Bool, true, false, cond, is_none, min, List, [], ◌∷◌, ◌++◌, map, append-nil, Option, Some, None, refl, sym, ap, subst, ◌∙◌}
+use Rattle.std.proofs.Common.{◌≡◌, ℕ, min, List, [], ◌∷◌, ◌++◌, map, append-nil, Option, Some, None, refl, sym, ap, subst, ◌∙◌}
 use Rattle.std.specs.List.{All}
-use Rattle.std.proofs.lemmas.List.Elements.{All-append, All-cons, All-head, All-nil, All-tail, All-weaker}
-use Rattle.mega_base.specs.declared.names.Epoch.{Epoch}
+use Rattle.std.proofs.lemmas.List.Elements.{All-nil}
 use Rattle.mega_base.specs.declared.names.GroupId.{GroupId}
-use Rattle.mega_coordinator.specs.declared.answers.Counted.{Counted}
-use Rattle.mega_coordinator.specs.declared.answers.Counted.TheVariants.{No, Yes, Serving}
-use Rattle.mega_locks.specs.declared.asked.Asked.{Asked}
-use Rattle.mega_locks.specs.declared.asked.Asked.TheVariants.{Granted as Grant, Renewed, Taken, Over}
 use Rattle.mega_disk.specs.VersionMaps.{Versions}
-use Rattle.mega_entry.specs.declared.content.Content.{Content}
 use Rattle.mega_wal.specs.declared.kept.Kept.{Kept}
-use Rattle.mega_wire.specs.declared.message.Body.{Body}
-use Rattle.mega_wire.specs.declared.message.Body.TheVariants.{Acquire, Granted, Invalidate}
 use Rattle.mega_wire.specs.declared.message.Message.{Message}
-use Rattle.mega_rules.specs.Met.{Counts, Decides, Grants, Invalidates, Met, Serves, Takes}
-use Rattle.mega_rules.specs.Clock.{begun_of, clock_of, last_number}
-use Rattle.mega_rules.specs.Coordinators.{counts_notes, grant_notes}
-use Rattle.mega_rules.specs.Locks.{asked_for, grant_note}
-use Rattle.mega_rules.specs.Logs.{decided, log_of}
+use Rattle.mega_rules.specs.Met.{Takes}
+use Rattle.mega_rules.specs.Clock.{clock_of, last_number}
 use Rattle.mega_rules.specs.Operations.{Node, Now, Operation, Setting}
 use Rattle.mega_rules.specs.Replies.{reply_to}
 use Rattle.mega_rules.specs.Steps.{Decision, Heard, Step, Take, all_act, at_first, decision_note, first_settled, hears_message, if_new, news, onto, step, stored_after, taken, told_decision, told_notes}
 use Rattle.mega_stepping.specs.of_voter.Telling.{Tells}
 use Rattle.mega_stepping.specs.of_leases.declared.leases.Leases.{Leases}
-use Rattle.mega_stepping.specs.of_leases.Tells.{Tells as TellsLeases}
-use Rattle.mega_stepping.proofs.of_leases.Shown.{apart}
 use Rattle.mega_replica.specs.declared.progress.Progress.{Progress}
-use Rattle.mega_replica.specs.Following.{Follows}
 use Rattle.mega_actions.specs.of_node_laws.Acted.{acted_on, decision_in, or_settled}
-use Rattle.mega_actions.specs.of_node_laws.Deciding.{IsNoDecision}
-use Rattle.mega_actions.specs.of_node_laws.Own.{HasOwnRows}
 use Rattle.mega_actions.specs.of_node_laws.Sending.{MaySend}
-use Rattle.mega_actions.proofs.of_node_laws.Logs.{decided_after}
 use Rattle.mega_actions.proofs.of_node_laws.Sent.{step_may}
 use Rattle.mega_actions.specs.of_node_laws.About.{IsAbout}
 use Rattle.mega_rules.specs.Finding.{refreshed_marks}
 use Rattle.mega_actions.specs.of_marks.declared.indexed.Indexed.{Indexed}
 use Rattle.mega_actions.specs.of_pumps.declared.digest.Digest.{Digest}
 use Rattle.mega_actions.specs.of_marks.AreMarked.{AreMarked}
-use Rattle.mega_actions.specs.of_finishing.Stands.{Stands}
 use Rattle.mega_actions.specs.StandsAt.{StandsAt}
 use Rattle.mega_actions.specs.Turns.{IsServable, IsServableHeard, IsHeardAbout}
 use Rattle.mega_actions.specs.of_proposing.Working.{work_of}
 use Rattle.mega_actions.specs.of_proposing.declared.work.Work.{Work}
 use Rattle.mega_core.specs.Acted.{HasActed, IsEnd, IsValidate, ended}
-use Rattle.mega_core.specs.Kind.{FitsKind}
-use Rattle.mega_core.specs.Represents.{Represents}
-use Rattle.mega_actions.specs.of_view.Small.{IsSmall}
+use Rattle.mega_taking.specs.Kind.{FitsKind}
+use Rattle.mega_taking.specs.Represents.{Represents}
 use Rattle.mega_core.proofs.Fitting.{take_fits}
 use Rattle.mega_core.proofs.Quiet.{all_act_it}
 use Rattle.mega_core.proofs.Unshown.{acted_marked, decision_unshown, told_unshown}
 use Rattle.mega_core.proofs.Walked.{all_acted, all_heard_built, all_served, heard_about}
-use Rattle.mega_core.specs.Taking.{has_taken}
+use Rattle.mega_taking.specs.Taking.{has_taken}
 use Rattle.mega_stepping.specs.News.{news_by}
-
--- ---- what is told decides nothing, and begins nothing
-
-pub record IsPlain (one : Met) : Type 0 where
-  pub undecided : IsNoDecision one
-  pub unbegun : (met : List Met) → begun_of (one ∷ met) ≡ begun_of met
-
-nothing : All IsPlain []
-nothing = All-nil IsPlain
-
-single : (one : Met) → IsPlain one → All IsPlain (one ∷ [])
-single one plain = All-cons IsPlain one [] plain nothing
-
-if_noted : (t : Bool) (notes : List Met) → All IsPlain notes → All IsPlain (cond t notes [])
-if_noted true notes h = h
-if_noted false notes h = nothing
-
-unless_noted : (t : Bool) (notes : List Met) → All IsPlain notes → All IsPlain (cond t [] notes)
-unless_noted true notes h = nothing
-unless_noted false notes h = h
-
-grant_plain : (node : ℕ) (epoch : Epoch) (asked : Asked) → All IsPlain (grant_note node epoch asked)
-grant_plain node epoch Grant = single (Grants node epoch) (record { undecided = refl; unbegun = λ met. refl })
-grant_plain node epoch Renewed = nothing
-grant_plain node epoch (Taken greatest) = nothing
-grant_plain node epoch (Over greatest) = nothing
-
-count_plain : (cell : ℕ) (epoch : Epoch) (was : Bool) → All IsPlain (cond was [] (Counts cell epoch ∷ []))
-count_plain cell epoch was = unless_noted was (Counts cell epoch ∷ []) (single (Counts cell epoch) (record { undecided = refl; unbegun = λ met. refl }))
-
-counts_plain : (cell : ℕ) (epoch : Epoch) (was : Bool) (counted : Counted) → All IsPlain (counts_notes cell epoch was counted)
-counts_plain cell epoch was No = nothing
-counts_plain cell epoch was Yes = count_plain cell epoch was
-counts_plain cell epoch was Serving =
-    All-append IsPlain (cond was [] (Counts cell epoch ∷ [])) (Serves epoch ∷ []) (count_plain cell epoch was) (single (Serves epoch) (record { undecided = refl; unbegun = λ met. refl }))
-
-pub told_plain : (s : Setting) (met : List Met) (from : ℕ) (body : Body) → All IsPlain (told_notes s met from body)
-told_plain s met from (Acquire cell epoch clock) = if_noted _ (grant_note from epoch (asked_for s.cluster s.me met from epoch)) (grant_plain from epoch (asked_for s.cluster s.me met from epoch))
-told_plain s met from (Granted cell epoch clock) = if_noted _ (grant_notes s.cluster met cell epoch clock) (counts_plain cell epoch _ _)
-told_plain s met from (Invalidate op group position) = if_noted _ (Invalidates group position.0 ∷ []) (single (Invalidates group position.0) (record { undecided = refl; unbegun = λ met. refl }))
-told_plain s met from _ = nothing
-
-pub plain_begun : (items met : List Met) → All IsPlain items → begun_of (onto items met) ≡ begun_of met
-plain_begun [] met plain = refl
-plain_begun (one ∷ items) met plain = plain_begun items (one ∷ met) (All-tail IsPlain one items plain) ∙ (All-head IsPlain one items plain).unbegun met
-
-pub plain_undecided : (items : List Met) → All IsPlain items → All IsNoDecision items
-plain_undecided items plain = All-weaker IsPlain IsNoDecision (λ one p. p.undecided) items plain
-
-decision_begun : (d : Option Decision) (met : List Met) → begun_of (onto (decision_note d) met) ≡ begun_of met
-decision_begun None met = refl
-decision_begun (Some d) met = refl
-
--- ---- the decision
-
-if_new_stays : (old new : List Met) → ((group : GroupId) (n : ℕ) → decided new group n ≡ decided old group n) → (d : Option Decision) → if_new new d ≡ if_new old d
-if_new_stays old new same None = refl
-if_new_stays old new same (Some d) = ap (λ (found : Option Content). cond (is_none found) (Some d) None) (same d.group d.position)
-
-decision_leased : (s : Setting) (leases : Leases) (d : Option Decision) (met : List Met) → TellsLeases s.cluster s.me leases met → TellsLeases s.cluster s.me leases (onto (decision_note d) met)
-decision_leased s leases None met tells = tells
-decision_leased s leases (Some d) met tells = apart s.cluster s.me leases (Decides d.group d.position d.entry) met refl tells
+use Rattle.mega_taking.proofs.Deciding.{taken_begun}
 
 module _ (s : Setting) (node : Node) (m : Message) where
-  abbrev pub told_on : List Met
-  told_on = onto (told_notes s node.met m.from m.body) (Takes m ∷ node.met)
-
   abbrev heard_by : List Heard
   heard_by = map (hears_message s (clock_of node.met) m) node.open_operations
-
-  pub taken_begun : begun_of (acted_on s node (Take m)) ≡ begun_of node.met
-  taken_begun = decision_begun (decision_in s node m) told_on ∙ plain_begun (told_notes s node.met m.from m.body) (Takes m ∷ node.met) (told_plain s node.met m.from m.body)
-
-  pub decision_is : (heard : List Heard) (d : Option Decision) → heard ≡ heard_by → d ≡ if_new told_on (or_settled (told_decision m.body) (first_settled heard)) → d ≡ decision_in s node m
-  decision_is heard d heard_is is =
-      is ∙ (ap (λ (ts : List Heard). if_new told_on (or_settled (told_decision m.body) (first_settled ts))) heard_is
-      ∙ if_new_stays node.met told_on (λ group n. decided_after (told_notes s node.met m.from m.body) (Takes m ∷ node.met) group n (plain_undecided (told_notes s node.met m.from m.body) (told_plain s node.met m.from m.body)))
-      (or_settled (told_decision m.body) (first_settled heard_by)))
-
-  pub taken_stands : (t : Setting) (kept : Kept) (leases after : Leases) (version : Versions) (progress : GroupId → Progress) (d : Option Decision)
-      → t ≡ s → after ≡ leases → d ≡ decision_in s node m
-      → Tells kept (onto (decision_note d) told_on) → TellsLeases s.cluster s.me leases told_on
-      → Follows version progress (log_of (onto (decision_note d) told_on)) (stored_after s (onto (decision_note d) told_on) node.stored d)
-      → HasOwnRows s.cluster.schema (log_of (acted_on s node (Take m))) → IsSmall s.cluster.schema
-      → Stands t kept after version progress (acted_on s node (Take m)) (stored_after s (acted_on s node (Take m)) node.stored (decision_in s node m))
-  taken_stands t kept leases after version progress d t_is after_is d_is tells leased follows owned small =
-      coe 0 1 (i. Stands (sym t_is i) kept (sym after_is i) version progress (onto (decision_note (d_is i)) told_on) (stored_after s (onto (decision_note (d_is i)) told_on) node.stored (d_is i))) first
-    where
-      first : Stands s kept leases version progress (onto (decision_note d) told_on) (stored_after s (onto (decision_note d) told_on) node.stored d)
-      first = record {
-        tells = tells;
-        leased = decision_leased s leases d told_on leased;
-        follows = follows;
-        owned = subst (λ (one : Option Decision). HasOwnRows s.cluster.schema (log_of (onto (decision_note one) told_on))) (sym d_is) owned;
-        small = small;
-      }
 
   -- ---- the step
 
@@ -199,7 +89,7 @@ module _ (s : Setting) (node : Node) (m : Message) where
         noted = after.noted;
         acted = all_acted s (acted_on s node (Take m)) (clock_of node.met) m node.open_operations acting_from about (record { met_is = refl; valid = All-nil IsValidate; answers = All-nil IsEnd; about = All-nil IsAbout });
         built = all_served s heard_by acting_from (all_heard_built s (clock_of node.met) m node.open_operations built) (All-nil IsServable);
-        begun_is = h.begun_is ∙ ap (λ (n : ℕ). min n last_number) (sym taken_begun);
+        begun_is = h.begun_is ∙ ap (λ (n : ℕ). min n last_number) (sym (taken_begun s node m));
         work_is = worked ∙ (λ i. work_of (all_act (t1_is i) acting_from (heard_is i)));
       }
 

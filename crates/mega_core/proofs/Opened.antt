@@ -22,7 +22,7 @@ use Rattle.mega_actions.specs.of_pumps.Notes.{HasNoted}
 use Rattle.mega_actions.specs.of_marks.AreMarked.{IsIndexed}
 use Rattle.mega_actions.specs.of_proposing.Settings.{setting}
 use Rattle.mega_actions.specs.Turns.{IsServable}
-use Rattle.mega_core.specs.Represents.{Represents}
+use Rattle.mega_taking.specs.Represents.{Represents}
 use Rattle.mega_actions.specs.of_view.Small.{IsSmall}
 
 pub started : (c : Cluster) (me : ℕ) (h : Meanings) (kept : Kept) (leases : Leases) (indexed : Indexed) (digest : Digest) (version : Versions) (progress : GroupId → Progress)

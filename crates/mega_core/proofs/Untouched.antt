@@ -26,14 +26,15 @@ use Rattle.mega_actions.specs.of_proposing.Servable.{is_served, is_pump}
 use Rattle.mega_actions.specs.Turns.{IsServable}
 use Rattle.mega_stepping.specs.declared.applying.Before.{Before}
 use Rattle.mega_core.specs.Acted.{Acted, IsValidate}
-use Rattle.mega_core.specs.Beginning.{at_begin, has_begun}
+use Rattle.mega_taking.specs.Beginning.{at_begin, has_begun}
 use Rattle.mega_stepping.specs.Positions.{before_at, note_since}
-use Rattle.mega_core.specs.Taking.{has_taken}
-use Rattle.mega_core.specs.Ticking.{has_ticked}
+use Rattle.mega_taking.specs.Taking.{has_taken}
+use Rattle.mega_taking.specs.Ticking.{has_ticked}
 use Rattle.mega_stepping.specs.Behind.{is_behind}
 use Rattle.mega_stepping.specs.Touching.{asked_groups, begun_by, begun_groups, behind, named, reaches, roams, told_groups, touched, with_reach}
 use Rattle.mega_stepping.proofs.Groups.{all_noted, has, has_with, no_log, none_applied, since_is}
-use Rattle.mega_core.proofs.Messages.{plain_undecided, told_on, told_plain}
+use Rattle.mega_taking.proofs.Deciding.{told_on}
+use Rattle.mega_taking.proofs.Plain.{plain_undecided, told_plain}
 use Rattle.mega_core.proofs.Silent.{IsMute, mute_undecided, validate_mute}
 use Rattle.mega_core.proofs.Walked.{all_heard_built}
 use Rattle.mega_core.proofs.Walking.{IsHeardIn, Walks, all_walked, begun_walked}

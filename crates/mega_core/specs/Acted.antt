@@ -24,7 +24,7 @@ use Rattle.mega_actions.specs.of_marks.AreMarked.{AreMarked}
 use Rattle.mega_actions.specs.Turns.{IsServable}
 use Rattle.mega_actions.specs.of_proposing.Working.{work_of}
 use Rattle.mega_actions.specs.of_proposing.declared.work.Work.{Work}
-use Rattle.mega_core.specs.Kind.{FitsKind}
+use Rattle.mega_taking.specs.Kind.{FitsKind}
 use Rattle.mega_handler.specs.Named.{Meanings}
 use Rattle.mega_replica.specs.Following.{progress_at}
 use Rattle.mega_actions.specs.declared.replica.Replica.{Replica}

@@ -11,7 +11,7 @@ use Rattle.mega_actions.specs.of_marks.declared.indexed.Indexed.{Indexed}
 use Rattle.mega_actions.specs.of_pumps.declared.digest.Digest.{Digest}
 use Rattle.mega_stepping.specs.declared.step.Step.{Step}
 use Rattle.mega_stepping.specs.Notes.{met_of}
-use Rattle.mega_core.specs.Represents.{Represents}
+use Rattle.mega_taking.specs.Represents.{Represents}
 use Rattle.mega_handler.specs.Named.{Meanings}
 use Rattle.mega_replica.specs.Following.{progress_at}
 use Rattle.mega_actions.specs.IsAt.{setting_of}

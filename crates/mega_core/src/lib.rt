@@ -4,20 +4,14 @@
 
 mod beginning;
 mod ending;
-mod fault;
 mod lagging;
 mod node;
 mod restarting;
 mod starting;
-mod taking;
-mod telling;
-mod ticking;
 mod watching;
 
-pub use fault::StepFault;
 pub use mega_actions;
 pub use mega_stepping;
+pub use mega_taking::StepFault;
 pub use node::Node;
 pub use restarting::{RestartFault, Restarted};
-pub use taking::Taken;
-pub use ticking::Ticked;

@@ -4,16 +4,16 @@ ghost use Rattle.mega_stepping.specs.of_leases.Tells.{Tells as TellsLeases};
 ghost use Rattle.mega_rules.specs.Met.{Starts};
 ghost use Rattle.mega_stepping.specs.of_voter.Telling.{Tells};
 ghost use Rattle.mega_wal.specs.Kept.{Represents as Holds};
-ghost use Rattle.mega_core.specs.declared.fault.StepFault.TheVariants.{NoMemory, Unserved};
+ghost use Rattle.mega_taking.specs.declared.fault.StepFault.TheVariants.{NoMemory, Unserved};
 ghost use Rattle.mega_core.specs.Served.{IsServed};
 
-use crate::fault::StepFault;
 use mega_base::NodeId;
 use mega_cluster::Cluster;
 use mega_disk::Records;
 use mega_stepping::mega_leases::Leases;
 use mega_stepping::mega_operations::Members;
 use mega_stepping::mega_voter::Voter;
+use mega_taking::StepFault;
 use mega_wal::Logs;
 use std::alloc::Global;
 

@@ -8,7 +8,7 @@ ghost use Rattle.mega_rules.specs.Steps.{step};
 ghost use Rattle.mega_replica.specs.Used.{StoreUsed};
 ghost use Rattle.mega_core.specs.Stepping.{IsStrange, IsTooLate, IsUnserved};
 ghost use Rattle.mega_core.specs.of_stepping.Events.{event_of};
-ghost use Rattle.mega_core.specs.declared.fault.StepFault.TheVariants.{Late, Stranger, Unserved};
+ghost use Rattle.mega_core.specs.of_taking.declared.fault.StepFault.TheVariants.{Late, Stranger, Unserved};
 ghost use Rattle.mega_core.specs.of_stepping.Notes.{met_of};
 ghost use Rattle.mega_promises.specs.Runs.{appends};
 ghost use Rattle.mega_durable.specs.declared.fault.UpFault.TheVariants.{Step as Failed, Unformed};

@@ -13,8 +13,8 @@ use Rattle.mega_rules.specs.Operations.{Node as RuleNode, Setting}
 use Rattle.mega_rules.specs.Steps.{Event}
 use Rattle.mega_replica.specs.Used.{StoreUsed}
 use Rattle.mega_durable.specs.of_actions.of_proposing.Settings.{setting}
-use Rattle.mega_durable.specs.of_core.declared.fault.StepFault.{StepFault}
-use Rattle.mega_durable.specs.of_core.declared.fault.StepFault.TheVariants as step
+use Rattle.mega_durable.specs.of_core.of_taking.declared.fault.StepFault.{StepFault}
+use Rattle.mega_durable.specs.of_core.of_taking.declared.fault.StepFault.TheVariants as step
 use Rattle.mega_durable.specs.of_core.declared.node.Node.{Node}
 use Rattle.mega_durable.specs.of_core.of_stepping.declared.step.Step.{Step}
 use Rattle.mega_durable.specs.declared.fault.UpFault.{UpFault}

@@ -7,11 +7,11 @@ use Rattle.mega_rules.specs.Steps.{Step as RuleStep, op_of}
 use Rattle.mega_replica.specs.Following.{progress_at}
 use Rattle.mega_actions.specs.of_proposing.Settings.{setting}
 use Rattle.mega_stepping.specs.declared.note.Note.{Note}
-use Rattle.mega_core.specs.Beginning.{has_begun}
+use Rattle.mega_taking.specs.Beginning.{has_begun}
 use Rattle.mega_stepping.specs.Notes.{met_of}
 use Rattle.mega_stepping.specs.Positions.{before_at}
 use Rattle.mega_core.specs.Lagging.{KnowsLagging}
-use Rattle.mega_core.specs.Represents.{Represents}
+use Rattle.mega_taking.specs.Represents.{Represents}
 use Rattle.mega_stepping.specs.Staging.{Stages}
 use Rattle.mega_stepping.specs.Touching.{begun_groups}
 use Rattle.mega_core.proofs.Begun.{begin_is, begin_may, represents_keeps}

@@ -11,9 +11,9 @@ use Rattle.mega_actions.specs.of_proposing.Settings.{setting}
 use Rattle.mega_actions.specs.Turns.{IsServable}
 use Rattle.mega_stepping.specs.Positions.{before_at}
 use Rattle.mega_core.specs.Lagging.{KnowsLagging}
-use Rattle.mega_core.specs.Represents.{Represents}
+use Rattle.mega_taking.specs.Represents.{Represents}
 use Rattle.mega_stepping.specs.Staging.{Stages}
-use Rattle.mega_core.specs.Taking.{has_taken}
+use Rattle.mega_taking.specs.Taking.{has_taken}
 use Rattle.mega_stepping.specs.Touching.{touched}
 use Rattle.mega_core.proofs.Begun.{represents_keeps}
 use Rattle.mega_core.proofs.Messages.{heard_are_about, heard_are_built, take_acts, take_is, take_may}

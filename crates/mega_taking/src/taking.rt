@@ -21,14 +21,14 @@ ghost use Rattle.mega_actions.specs.of_finishing.Faults.{failed_by as failed_to_
 ghost use Rattle.mega_actions.specs.IsAt.{IsAt, setting_of};
 ghost use Rattle.mega_actions.specs.Turns.{IsServableHeard, IsHeardAbout};
 ghost use Rattle.mega_actions.specs.of_proposing.Working.{work_of};
-ghost use Rattle.mega_core.specs.declared.fault.StepFault.TheVariants.{Late, Stranger, Unserved};
-ghost use Rattle.mega_core.specs.Faults.{failed_by};
+ghost use Rattle.mega_taking.specs.declared.fault.StepFault.TheVariants.{Late, Stranger, Unserved};
+ghost use Rattle.mega_taking.specs.Faults.{failed_by};
 ghost use Rattle.mega_stepping.specs.Notes.{met_of};
 ghost use Rattle.mega_stepping.specs.Placed.{IsPlaced};
 ghost use Rattle.mega_stepping.specs.Staging.{Stages};
-ghost use Rattle.mega_core.specs.Taking.{TakenAt};
+ghost use Rattle.mega_taking.specs.Taking.{TakenAt};
 ghost use Rattle.mega_stepping.specs.News.{news_by};
-ghost use Rattle.mega_core.specs.Standing.{StandsWith};
+ghost use Rattle.mega_taking.specs.Standing.{StandsWith};
 
 use crate::fault::StepFault;
 use crate::telling::{Reaction, is_told};
@@ -119,7 +119,7 @@ fn assemble(
 
 /// The node takes a message that its operations heard, as far as they act.
 #[tactic(auto, using(mega_replica::proofs::Using::used_here, crate::proofs::Failing::used_from))]
-pub(crate) fn takes<R: Records, V: Versions>(
+pub fn takes<R: Records, V: Versions>(
     alloc: Global,
     replica: &mut Replica<R, V>,
     heard: Items<Heard>,
@@ -161,7 +161,7 @@ pub(crate) fn takes<R: Records, V: Versions>(
 }
 
 /// The operations act on what they heard.
-pub(crate) fn acts<R: Records, V: Versions, H: QueueHandlers>(
+pub fn acts<R: Records, V: Versions, H: QueueHandlers>(
     alloc: Global,
     handlers: &mut H,
     replica: &mut Replica<R, V>,

@@ -10,8 +10,8 @@ use Rattle.mega_actions.specs.of_proposing.Settings.{setting}
 use Rattle.mega_stepping.specs.Staging.{Stages}
 use Rattle.mega_stepping.specs.Replying.{or_reply, vote_reply}
 use Rattle.mega_stepping.proofs.Staged.{silent_staged}
-use Rattle.mega_core.proofs.Replied.{replied}
-use Rattle.mega_core.proofs.telling.is_told.Goals as goal
+use Rattle.mega_taking.proofs.Replied.{replied}
+use Rattle.mega_taking.proofs.telling.is_told.Goals as goal
 
 pub returns-in_ok-made-in-Ok-keep_notes-clause-sends : goal.returns-in_ok-made-in-Ok-keep_notes-clause-sends
 returns-in_ok-made-in-Ok-keep_notes-clause-sends g c = λ met tells leased.

@@ -19,9 +19,9 @@ ghost use Rattle.mega_actions.specs.IsAt.{IsAt, setting_of};
 ghost use Rattle.mega_actions.specs.Turns.{IsServable};
 ghost use Rattle.mega_actions.specs.of_proposing.Working.{work_of};
 ghost use Rattle.mega_stepping.specs.Staging.{Stages};
-ghost use Rattle.mega_core.specs.Ticking.{TickedAt};
+ghost use Rattle.mega_taking.specs.Ticking.{TickedAt};
 ghost use Rattle.mega_stepping.specs.Touching.{behind};
-ghost use Rattle.mega_core.specs.Standing.{StandsWith};
+ghost use Rattle.mega_taking.specs.Standing.{StandsWith};
 
 use mega_actions::Replica;
 use mega_actions::mega_finishing::ActFault;
@@ -43,7 +43,7 @@ pub struct Ticked {
 }
 
 /// The operations act at a tick.
-pub(crate) fn acts_ticked<R: Records, V: Versions, H: QueueHandlers>(
+pub fn acts_ticked<R: Records, V: Versions, H: QueueHandlers>(
     alloc: Global,
     handlers: &mut H,
     replica: &mut Replica<R, V>,
@@ -72,7 +72,7 @@ pub(crate) fn acts_ticked<R: Records, V: Versions, H: QueueHandlers>(
 
 /// The node ticks, as far as its operations act; these are the groups of which not all is applied that is decided.
 #[tactic(auto, using(mega_replica::proofs::Using::used_here))]
-pub(crate) fn ticks<R: Records, V: Versions>(
+pub fn ticks<R: Records, V: Versions>(
     alloc: Global,
     replica: &mut Replica<R, V>,
     now: u64,

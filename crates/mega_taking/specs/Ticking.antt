@@ -13,7 +13,7 @@ use Rattle.mega_replica.specs.declared.progress.Progress.{Progress}
 use Rattle.mega_actions.specs.of_node_laws.Acted.{acted_on}
 use Rattle.mega_actions.specs.of_pumps.declared.digest.Digest.{Digest}
 use Rattle.mega_actions.specs.StandsAt.{StandsAt}
-use Rattle.mega_core.specs.declared.ticking.Ticked.{Ticked}
+use Rattle.mega_taking.specs.declared.ticking.Ticked.{Ticked}
 use Rattle.mega_stepping.specs.Notes.{met_of}
 use Rattle.mega_handler.specs.Named.{Meanings}
 use Rattle.mega_replica.specs.Following.{progress_at}

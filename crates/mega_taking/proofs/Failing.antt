@@ -10,7 +10,7 @@ use Rattle.mega_actions.specs.of_finishing.declared.fault.ActFault.TheVariants a
 use Rattle.mega_actions.specs.of_finishing.Faults.{of_store as act_store}
 use Rattle.mega_replica.specs.Used.{StoreUsed}
 use Rattle.mega_replica.proofs.Using.{used_here}
-use Rattle.mega_core.specs.Faults.{fault_of, of_store, taking_fault_of}
+use Rattle.mega_taking.specs.Faults.{fault_of, of_store, taking_fault_of}
 
 -- none for which a message is not taken
 pub taking_is_apart : (f : TakeFault) → of_store (taking_fault_of f) ≡ None

@@ -6,8 +6,8 @@ use Rattle.mega_actions.specs.of_finishing.declared.fault.ActFault.{ActFault}
 use Rattle.mega_actions.specs.of_finishing.declared.fault.ActFault.TheVariants as act
 use Rattle.mega_stepping.specs.of_leases.declared.fault.TakeFault.{TakeFault}
 use Rattle.mega_stepping.specs.of_leases.declared.fault.TakeFault.TheVariants as take
-use Rattle.mega_core.specs.declared.fault.StepFault.{StepFault}
-use Rattle.mega_core.specs.declared.fault.StepFault.TheVariants as step
+use Rattle.mega_taking.specs.declared.fault.StepFault.{StepFault}
+use Rattle.mega_taking.specs.declared.fault.StepFault.TheVariants as step
 
 abbrev pub fault_of : ActFault → StepFault
 fault_of act.DiskFault = step.DiskFault

@@ -1,6 +1,6 @@
 //! Why a node does not step.
 ghost use Rattle.std.specs.Prelude.{◌≡◌};
-ghost use Rattle.mega_core.specs.Faults.{fault_of, taking_fault_of};
+ghost use Rattle.mega_taking.specs.Faults.{fault_of, taking_fault_of};
 
 use mega_actions::mega_finishing::ActFault;
 use mega_base::NoMemory;
@@ -26,7 +26,7 @@ pub enum StepFault {
 }
 
 impl From<NoMemory> for StepFault {
-    ghost use Rattle.mega_core.specs.declared.fault.StepFault.TheVariants.{NoMemory as OutOfMemory};
+    ghost use Rattle.mega_taking.specs.declared.fault.StepFault.TheVariants.{NoMemory as OutOfMemory};
 
     ghost from_gives = { λ _ fault. fault ≡ OutOfMemory };
 

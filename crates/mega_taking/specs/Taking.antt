@@ -14,7 +14,7 @@ use Rattle.mega_actions.specs.of_node_laws.Acted.{acted_on, decision_in}
 use Rattle.mega_actions.specs.of_pumps.declared.digest.Digest.{Digest}
 use Rattle.mega_actions.specs.StandsAt.{StandsAt}
 use Rattle.mega_stepping.specs.News.{news_by}
-use Rattle.mega_core.specs.declared.taking.Taken.{Taken}
+use Rattle.mega_taking.specs.declared.taking.Taken.{Taken}
 use Rattle.mega_stepping.specs.Notes.{met_of}
 use Rattle.mega_handler.specs.Named.{Meanings}
 use Rattle.mega_replica.specs.Following.{progress_at}

@@ -18,7 +18,7 @@ use Rattle.mega_actions.specs.of_pumps.declared.digest.Digest.{Digest}
 use Rattle.mega_actions.specs.of_pumps.Notes.{HasNoted}
 use Rattle.mega_actions.specs.of_marks.AreMarked.{IsIndexed}
 use Rattle.mega_actions.specs.Turns.{IsServable}
-use Rattle.mega_core.specs.Kind.{FitsKind}
+use Rattle.mega_taking.specs.Kind.{FitsKind}
 
 -- its logs and leases tell what it met, its rows follow its logs, its global indexes are at the marks of the last refresh of this start, its
 -- digest has noted of its logs, and its open operations, which are served and each about the group of its request, are those of the rules; it has what its kind has, and counts

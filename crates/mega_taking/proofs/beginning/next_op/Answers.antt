@@ -1,6 +1,6 @@
 use Rattle.std.proofs.Common.{◌≡◌, ◌+◌, ℕ, min, arith}
 use Rattle.mega_rules.specs.Clock.{begun_of, next_number}
-use Rattle.mega_core.proofs.beginning.next_op.Goals as goal
+use Rattle.mega_taking.proofs.beginning.next_op.Goals as goal
 
 next : (begun n number : ℕ) → number ≡ min (begun + 1) 4294967295 → begun ≡ min n 4294967295 → number ≡ min (n + 1) 4294967295
 next begun n number is counted = omega (arith, is, counted)

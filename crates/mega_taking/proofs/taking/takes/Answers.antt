@@ -14,8 +14,8 @@ use Rattle.mega_stepping.specs.Staging.{Stages}
 use Rattle.mega_stepping.specs.News.{news_by}
 use Rattle.mega_actions.specs.of_pumps.Notes.{HasNoted}
 use Rattle.mega_actions.proofs.of_pumps.Lasting.{noted_step}
-use Rattle.mega_core.proofs.Messages.{decision_is, taken_stands, told_on}
-use Rattle.mega_core.proofs.taking.takes.Goals as goal
+use Rattle.mega_taking.proofs.Deciding.{decision_is, taken_stands, told_on}
+use Rattle.mega_taking.proofs.taking.takes.Goals as goal
 
 pub returns-clause-taken : goal.returns-clause-taken
 returns-clause-taken g c = λ h node open_ones begun represents heard_is owned placed.

@@ -5,7 +5,7 @@ use Rattle.mega_rules.specs.Steps.{decision_note, onto}
 use Rattle.mega_replica.specs.Following.{progress_at}
 use Rattle.mega_actions.proofs.of_node_laws.Followed.{follows_after}
 use Rattle.mega_actions.specs.of_proposing.Settings.{setting}
-use Rattle.mega_core.proofs.taking.decides_by.Goals as goal
+use Rattle.mega_taking.proofs.taking.decides_by.Goals as goal
 
 pub returns-clause-follows : goal.returns-clause-follows
 returns-clause-follows g c = λ h met stored bare placed tells follows.

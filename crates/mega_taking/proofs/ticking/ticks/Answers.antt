@@ -16,9 +16,9 @@ use Rattle.mega_actions.specs.of_proposing.Settings.{setting}
 use Rattle.mega_stepping.specs.Staging.{Stages}
 use Rattle.mega_stepping.specs.Touching.{behind}
 use Rattle.mega_actions.proofs.of_pumps.Lasting.{noted_step}
-use Rattle.mega_core.proofs.Clocks.{leases_begun, leases_groups, leases_log}
+use Rattle.mega_taking.proofs.Leasing.{leases_begun, leases_groups, leases_log}
 use Rattle.mega_stepping.proofs.Staged.{silent_staged}
-use Rattle.mega_core.proofs.ticking.ticks.Goals as goal
+use Rattle.mega_taking.proofs.ticking.ticks.Goals as goal
 
 pub returns-clause-ticked : goal.returns-clause-ticked
 returns-clause-ticked g c = λ h node open_ones begun represents groups_are owned.

@@ -5,9 +5,9 @@ use Rattle.mega_rules.specs.Operations.{Now}
 use Rattle.mega_actions.specs.of_marks.AreMarked.{AreMarked, IsIndexed}
 use Rattle.mega_actions.specs.of_finishing.Faults.{failed_by}
 use Rattle.mega_actions.specs.IsAt.{IsAt}
-use Rattle.mega_core.specs.Beginning.{marks_unless}
-use Rattle.mega_core.proofs.Failing.{used_apart}
-use Rattle.mega_core.proofs.beginning.unless_refused.Goals as goal
+use Rattle.mega_taking.specs.Beginning.{marks_unless}
+use Rattle.mega_taking.proofs.Failing.{used_apart}
+use Rattle.mega_taking.proofs.beginning.unless_refused.Goals as goal
 
 pub returns-in_err-does-in-Some-clause-used : goal.returns-in_err-does-in-Some-clause-used
 returns-in_err-does-in-Some-clause-used g c = used_apart g.V.Versions (failed_by c.from_residual.result) c.args.replica.now.rows.rows (search rules)

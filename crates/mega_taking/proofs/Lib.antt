@@ -1,0 +1,5 @@
+pub mod Failing
+pub mod Replied
+pub mod Leasing
+pub mod Plain
+pub mod Deciding
