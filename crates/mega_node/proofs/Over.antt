@@ -3,6 +3,7 @@ use Rattle.std.proofs.Common.{ℕ, List, Option}
 use Rattle.mega_cluster.specs.declared.cluster.Cluster.{Cluster}
 use Rattle.mega_server.specs.of_core.of_stepping.declared.note.Note.{Note}
 use Rattle.mega_disk.specs.declared.disk.Disk.{Ghosts as DiskGhosts}
+use Rattle.mega_format_laws.specs.Requests.{AreHandlers}
 use Rattle.mega_handler.specs.Named.{Meaning, Meanings}
 use Rattle.mega_link.specs.Datagrams.{Datagram}
 use Rattle.mega_serve.specs.declared.steps.Steps.{Ghosts as StepsGhosts}
@@ -15,7 +16,7 @@ use Rattle.mega_turn_laws.specs.Sound.{AreSound}
 use Rattle.mega_turn_laws.proofs.Turns.{may_serve}
 use Rattle.mega_promises.specs.Runs.{setting}
 use Rattle.mega_promises.specs.Served.{Served}
-use Rattle.mega_node.specs.Calls.{Halted, KeepsMet, Ran, served_over, started_over}
+use Rattle.mega_node.specs.Calls.{AtHandlers, Halted, KeepsMet, Ran, served_over, started_over}
 use Rattle.mega_node.specs.Logs.{AreFound}
 use Rattle.mega_node.specs.Outside.{Outside}
 use Rattle.mega_node.specs.Serving.{HasTurnedOff, HasTurnedOn}
@@ -23,33 +24,33 @@ use Rattle.mega_node.specs.Starting.{HasStarted}
 
 -- where its turns are sound, they may happen
 sound_may : {D S : Type 0} (disks : DiskGhosts D) (steps : StepsGhosts S) (makes : List ℕ → Option Meaning) (c : Cluster) (me : ℕ) (log : D) (found : List (List ℕ)) (one : S) (start : ℕ) (notes : List Note)
-    → ((s : Setting) (node : Node) (event : Event) → MayStep s node event → steps.may_happen s node event) → AreFound disks log found → HasStarted steps makes c me found one start notes → (given : List (ℕ × Option Datagram)) (h : Meanings)
-    → AreSound (setting c h me) given (served_over (setting c h me) found (turns_of h given)) → MayServe steps (setting c h me) (started_over (setting c h me) found) (turns_of h given)
-sound_may disks steps makes c me log found one start notes may are started given h sound = may_serve steps may c h me found given started.sized started.member are.good started.few sound
+    → ((s : Setting) (node : Node) (event : Event) → MayStep s node event → steps.may_happen s node event) → AreFound disks log found → HasStarted steps makes c me found one start notes → (given : List (ℕ × Option Datagram)) (h : Meanings) → AreHandlers h
+    → AreSound c.schema given (served_over (setting c h me) found (turns_of h given)) → MayServe steps (setting c h me) (started_over (setting c h me) found) (turns_of h given)
+sound_may disks steps makes c me log found one start notes may are started given h handlers sound = may_serve steps may c h me found given started.sized started.member handlers are.good started.few sound
 
 pub ran : {D S : Type 0} (disks : DiskGhosts D) (steps : StepsGhosts S) (makes : List ℕ → Option Meaning) (c : Cluster) (me turns : ℕ) (log left : D) (before after : Outside) (found : List (List ℕ)) (one last : S) (start : ℕ) (notes : List Note)
     → ((s : Setting) (node : Node) (event : Event) → MayStep s node event → steps.may_happen s node event)
     → AreFound disks log found → HasStarted steps makes c me found one start notes → HasTurnedOn steps one last start notes turns before after
     → ((h : Meanings) (waiting : List Waiting) (now : Served) → IsServing steps h last waiting now → KeepsMet disks left now)
-    → Ran disks makes c me turns log left before after
-ran disks steps makes c me turns log left before after found one last start notes may are started turned keeps = record {
+    → AtHandlers makes (λ h. Ran disks h c me turns log left before after)
+ran disks steps makes c me turns log left before after found one last start notes may are started turned keeps h means handlers = record {
   found = found;
   are_found = are;
   given = turned.given;
   turned = turned.turned;
-  recorded = λ h means sound. turned.recorded makes c me found started h means (sound_may disks steps makes c me log found one start notes may are started turned.given h sound);
-  kept = λ h means sound.
-      let serving = turned.serving makes c me found started h means (sound_may disks steps makes c me log found one start notes may are started turned.given h sound) in
+  recorded = λ sound. turned.recorded makes c me found started h means (sound_may disks steps makes c me log found one start notes may are started turned.given h handlers sound);
+  kept = λ sound.
+      let serving = turned.serving makes c me found started h means (sound_may disks steps makes c me log found one start notes may are started turned.given h handlers sound) in
       keeps serving.0 serving.1 _ serving.2;
 }
 
 pub halted : {D S : Type 0} (disks : DiskGhosts D) (steps : StepsGhosts S) (makes : List ℕ → Option Meaning) (c : Cluster) (me : ℕ) (log : D) (before after : Outside) (found : List (List ℕ)) (one : S) (start : ℕ) (notes : List Note)
     → ((s : Setting) (node : Node) (event : Event) → MayStep s node event → steps.may_happen s node event)
-    → AreFound disks log found → HasStarted steps makes c me found one start notes → HasTurnedOff steps one start notes before after → Halted disks makes c me log before after
-halted disks steps makes c me log before after found one start notes may are started turned = record {
+    → AreFound disks log found → HasStarted steps makes c me found one start notes → HasTurnedOff steps one start notes before after → AtHandlers makes (λ h. Halted disks h c me log before after)
+halted disks steps makes c me log before after found one start notes may are started turned h means handlers = record {
   found = found;
   are_found = are;
   given = turned.given;
   begun = turned.begun;
-  stops = λ h means sound. turned.stops makes c me found started h means (sound_may disks steps makes c me log found one start notes may are started turned.given h sound);
+  stops = λ sound. turned.stops makes c me found started h means (sound_may disks steps makes c me log found one start notes may are started turned.given h handlers sound);
 }

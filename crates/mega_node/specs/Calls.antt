@@ -2,6 +2,7 @@
 use Rattle.std.specs.Prelude.{◌≡◌, ◌⊎◌, ℕ, true, List, Option}
 use Rattle.mega_cluster.specs.declared.cluster.Cluster.{Cluster}
 use Rattle.mega_disk.specs.declared.disk.Disk.{Ghosts as DiskGhosts}
+use Rattle.mega_format_laws.specs.Requests.{AreHandlers}
 use Rattle.mega_handler.specs.Named.{Meaning, Meanings}
 use Rattle.mega_io.specs.Pieces.{AppendsFront}
 use Rattle.mega_checkpoint.specs.Format.{list_of}
@@ -28,10 +29,14 @@ started_over s found = served_start s.cluster s.me s.handlers (history_of found)
 abbrev pub served_over : Setting → List (List ℕ) → List Turn → Served
 served_over s found turns = served s.cluster s.me (wish_of s.cluster.schema s.me) s.handlers (history_of found) turns
 
--- of each meaning of the handlers under which the turns are sound
-abbrev pub AtEachSound : (List ℕ → Option Meaning) → Cluster → ℕ → List (List ℕ) → List (ℕ × Option Datagram) → (Served → Type 0) → Type 0
-AtEachSound makes c number found given Is =
-    (h : Meanings) → Means makes h → AreSound (setting c h number) given (served_over (setting c h number) found (turns_of h given)) → Is (served_over (setting c h number) found (turns_of h given))
+-- of handlers that make this of messages, which is what an entry can hold
+abbrev pub AtHandlers : (List ℕ → Option Meaning) → (Meanings → Type 0) → Type 0
+AtHandlers makes Is = (h : Meanings) → Means makes h → AreHandlers h → Is h
+
+-- what is so of the node behind its turns, where these are sound
+abbrev pub IfSound : Meanings → Cluster → ℕ → List (List ℕ) → List (ℕ × Option Datagram) → (Served → Type 0) → Type 0
+IfSound h c number found given Is =
+    AreSound c.schema given (served_over (setting c h number) found (turns_of h given)) → Is (served_over (setting c h number) found (turns_of h given))
 
 -- the log holds what the node met
 abbrev pub KeepsMet : {D : Type 0} → DiskGhosts D → D → Served → Type 0
@@ -39,34 +44,34 @@ KeepsMet disks log now = disks.is_told ≡ true → HoldsMet (list_of (disks.see
 
 -- the node of this number started over what its log held and made so many turns, those that clock and link tell: its record is held, what stands
 -- there was sent, and its log holds what it met
-pub record Ran {D : Type 0} (disks : DiskGhosts D) (makes : List ℕ → Option Meaning) (c : Cluster) (number turns : ℕ) (log left : D) (before after : Outside) : Type 0 where
+pub record Ran {D : Type 0} (disks : DiskGhosts D) (h : Meanings) (c : Cluster) (number turns : ℕ) (log left : D) (before after : Outside) : Type 0 where
   pub found : List (List ℕ)
   pub are_found : AreFound disks log found
   pub given : List (ℕ × Option Datagram)
   pub turned : HasTurned turns before.readings after.readings before.taken after.taken given
-  pub recorded : AtEachSound makes c number found given (λ now. GoesOn c.schema before.held after.held before.sent after.sent now.lines)
-  pub kept : AtEachSound makes c number found given (KeepsMet disks left)
+  pub recorded : IfSound h c number found given (λ now. GoesOn c.schema before.held after.held before.sent after.sent now.lines)
+  pub kept : IfSound h c number found given (KeepsMet disks left)
 
 -- it started, began turns, and ended on its way: a front of its record is held, and what was sent stands in it
-pub record Halted {D : Type 0} (disks : DiskGhosts D) (makes : List ℕ → Option Meaning) (c : Cluster) (number : ℕ) (log : D) (before after : Outside) : Type 0 where
+pub record Halted {D : Type 0} (disks : DiskGhosts D) (h : Meanings) (c : Cluster) (number : ℕ) (log : D) (before after : Outside) : Type 0 where
   pub found : List (List ℕ)
   pub are_found : AreFound disks log found
   pub given : List (ℕ × Option Datagram)
   pub begun : HasBegun before.readings after.readings before.taken after.taken given
-  pub stops : AtEachSound makes c number found given (λ now. Stops c.schema before.held after.held before.sent after.sent now.lines)
+  pub stops : IfSound h c number found given (λ now. Stops c.schema before.held after.held before.sent after.sent now.lines)
 
 -- the same, in the cluster of the header
-abbrev pub HasRun : {D : Type 0} → DiskGhosts D → (List ℕ → Option Meaning) → ℕ → ℕ → Option (List ℕ) → D → D → Outside → Outside → Type 0
-HasRun disks makes number turns input log left before after = (c : Cluster) × IsHeaded number input c × Ran disks makes c number turns log left before after
+abbrev pub HasRun : {D : Type 0} → DiskGhosts D → Meanings → ℕ → ℕ → Option (List ℕ) → D → D → Outside → Outside → Type 0
+HasRun disks h number turns input log left before after = (c : Cluster) × IsHeaded number input c × Ran disks h c number turns log left before after
 
-abbrev pub HasHalted : {D : Type 0} → DiskGhosts D → (List ℕ → Option Meaning) → ℕ → Option (List ℕ) → D → Outside → Outside → Type 0
-HasHalted disks makes number input log before after = (c : Cluster) × IsHeaded number input c × Halted disks makes c number log before after
+abbrev pub HasHalted : {D : Type 0} → DiskGhosts D → Meanings → ℕ → Option (List ℕ) → D → Outside → Outside → Type 0
+HasHalted disks h number input log before after = (c : Cluster) × IsHeaded number input c × Halted disks h c number log before after
 
 -- a front of the header's last line is held
 abbrev pub IsHeaderCut : ℕ → Option (List ℕ) → Outside → Outside → Type 0
 IsHeaderCut number input before after = (rule : ℕ) × IsBroken number input rule × OnlyWrites before after (λ held more_held. AppendsFront held more_held (header_line rule))
 
 -- what is held is a front of what there was to write: nothing of it, of the header's last line, or of the record
-abbrev pub IsCut : {D : Type 0} → DiskGhosts D → (List ℕ → Option Meaning) → ℕ → Option (List ℕ) → D → Outside → Outside → Type 0
-IsCut disks makes number input log before after =
-    (after ≡ before) ⊎ (IsHeaderCut number input before after ⊎ HasHalted disks makes number input log before after)
+abbrev pub IsCut : {D : Type 0} → DiskGhosts D → Meanings → ℕ → Option (List ℕ) → D → Outside → Outside → Type 0
+IsCut disks h number input log before after =
+    (after ≡ before) ⊎ (IsHeaderCut number input before after ⊎ HasHalted disks h number input log before after)

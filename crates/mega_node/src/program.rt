@@ -9,7 +9,7 @@ ghost use Rattle.mega_io.specs.Pieces.{AppendsFront};
 ghost use Rattle.mega_checkpoint.specs.Format.{list_of};
 ghost use Rattle.mega_wal.specs.History.{starts_of};
 ghost use Rattle.mega_wal.specs.Records.{first_bad, history_of};
-ghost use Rattle.mega_node.specs.Calls.{HasRun, IsCut};
+ghost use Rattle.mega_node.specs.Calls.{AtHandlers, HasRun, IsCut};
 ghost use Rattle.mega_node.specs.Headers.{IsBroken, IsHeaded, header_line};
 ghost use Rattle.mega_node.specs.Outside.{OnlyWrites, told_by};
 ghost use Rattle.mega_node.specs.Stops.{IsBeforeOpening, IsBehindHeader, IsHeaderStop, IsNoRule, IsTellingStop};
@@ -100,14 +100,14 @@ pub fn run_node<I: Source, O: Sink, D: Disk + Drop, L: Link, C: Clock, H: QueueH
     handlers: H,
 ) -> Outcome<D>
     // With all turns made the sink holds the whole record, the link sent what stands in it, and the log holds what the node met.
-    ensures ran { OnOk result.ended ((left : Devices D) × (result.devices ≡ Some left) × HasRun D.Disk (H.meant handlers) number.of turns (I.left input.old) devices.log left.log (told_by L.Link C.Clock O.Sink link.old clock.old out.old) (told_by L.Link C.Clock O.Sink link.new clock.new out.new)) }
+    ensures ran { OnOk result.ended ((left : Devices D) × (result.devices ≡ Some left) × AtHandlers (H.meant handlers) (λ h. HasRun D.Disk h number.of turns (I.left input.old) devices.log left.log (told_by L.Link C.Clock O.Sink link.old clock.old out.old) (told_by L.Link C.Clock O.Sink link.new clock.new out.new))) }
 
     // A header that breaks a rule is told of in the last line, and nothing else is done.
     ensures header { (rule : ℕ) → result.ended ≡ Err (Stop.Header rule) → IsBroken number.of (I.left input.old) rule × OnlyWrites (told_by L.Link C.Clock O.Sink link.old clock.old out.old) (told_by L.Link C.Clock O.Sink link.new clock.new out.new) (λ held more_held. Appends held more_held (header_line rule)) }
     ensures headed { IfErr result.ended (λ stop. IsBehindHeader stop → (c : Members) × IsHeaded number.of (I.left input.old) c) }
 
     // At any other end a front of what there was to write is held.
-    ensures cut { IfErr result.ended (λ stop. IsNoRule stop → IsCut D.Disk (H.meant handlers) number.of (I.left input.old) devices.log (told_by L.Link C.Clock O.Sink link.old clock.old out.old) (told_by L.Link C.Clock O.Sink link.new clock.new out.new)) }
+    ensures cut { IfErr result.ended (λ stop. IsNoRule stop → AtHandlers (H.meant handlers) (λ h. IsCut D.Disk h number.of (I.left input.old) devices.log (told_by L.Link C.Clock O.Sink link.old clock.old out.old) (told_by L.Link C.Clock O.Sink link.new clock.new out.new))) }
 
     // Why it ends.
     ensures source { result.ended ≡ Err Stop.Source → Rose (I.faults input.old) (I.faults input.new) × HeaderFails (I.left input.old) (I.left input.new) }

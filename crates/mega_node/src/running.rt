@@ -9,7 +9,7 @@ ghost use Rattle.mega_wal.specs.History.{starts_of};
 ghost use Rattle.mega_wal.specs.Records.{first_bad, history_of};
 ghost use Rattle.mega_cluster.specs.declared.cluster.Cluster.{Cluster as Members};
 ghost use Rattle.mega_handler.specs.Named.{Meaning};
-ghost use Rattle.mega_node.specs.Calls.{Halted, Ran};
+ghost use Rattle.mega_node.specs.Calls.{AtHandlers, Halted, Ran};
 ghost use Rattle.mega_node.specs.Logs.{AreFound};
 ghost use Rattle.mega_node.specs.Outside.{told_by};
 ghost use Rattle.mega_node.specs.Serving.{HasTurnedOff, HasTurnedOn, IsDue};
@@ -81,10 +81,10 @@ fn serve_begun<O: Sink, D: Disk + Drop, L: Link, C: Clock, H: QueueHandlers + Dr
 ) -> (Result<(), Stop>, D)
     ensures ran { OnOk result.0 ((makes : List ℕ → Option Meaning) (c : Members) (me : ℕ) (log : D) (found : List (List ℕ)) → AreFound D.Disk log found →
         HasStarted ⟦<Server<Checkpoint<D>, VersionedRows, H> as Steps>⟧ makes c me found begun.server begun.start begun.notes →
-        Ran D.Disk makes c me turns log result.1 (told_by L.Link C.Clock O.Sink link.old clock.old out.old) (told_by L.Link C.Clock O.Sink link.new clock.new out.new)) }
+        AtHandlers makes (λ h. Ran D.Disk h c me turns log result.1 (told_by L.Link C.Clock O.Sink link.old clock.old out.old) (told_by L.Link C.Clock O.Sink link.new clock.new out.new))) }
     ensures halted { OnErr result.0 ((makes : List ℕ → Option Meaning) (c : Members) (me : ℕ) (log : D) (found : List (List ℕ)) → AreFound D.Disk log found →
         HasStarted ⟦<Server<Checkpoint<D>, VersionedRows, H> as Steps>⟧ makes c me found begun.server begun.start begun.notes →
-        Halted D.Disk makes c me log (told_by L.Link C.Clock O.Sink link.old clock.old out.old) (told_by L.Link C.Clock O.Sink link.new clock.new out.new)) }
+        AtHandlers makes (λ h. Halted D.Disk h c me log (told_by L.Link C.Clock O.Sink link.old clock.old out.old) (told_by L.Link C.Clock O.Sink link.new clock.new out.new))) }
     ensures cause { IfErr result.0 (λ stop. IsDue stop (D.faults (disk_of begun.server.up.node.replica.voter.logs.records), 0) (D.faults result.1, 0) (O.faults out.old) (O.faults out.new)) }
     ensures later { D.faults (disk_of begun.server.up.node.replica.voter.logs.records) ≤ D.faults result.1 }
     ensures count { O.faults out.old ≤ O.faults out.new }
@@ -113,9 +113,9 @@ pub(crate) fn run_over<O: Sink, D: Disk + Drop, L: Link, C: Clock, H: QueueHandl
 ) -> (Result<(), Stop>, Option<D>)
     requires served { IsServed cluster }
     requires member { is_node cluster number.of ≡ true }
-    ensures ran { OnOk result.0 ((left : D) × (result.1 ≡ Some left) × Ran D.Disk (H.meant handlers) cluster number.of turns log left (told_by L.Link C.Clock O.Sink link.old clock.old out.old) (told_by L.Link C.Clock O.Sink link.new clock.new out.new)) }
+    ensures ran { OnOk result.0 ((left : D) × (result.1 ≡ Some left) × AtHandlers (H.meant handlers) (λ h. Ran D.Disk h cluster number.of turns log left (told_by L.Link C.Clock O.Sink link.old clock.old out.old) (told_by L.Link C.Clock O.Sink link.new clock.new out.new))) }
     ensures cut { OnErr result.0 ((told_by L.Link C.Clock O.Sink link.new clock.new out.new ≡ told_by L.Link C.Clock O.Sink link.old clock.old out.old)
-        ⊎ Halted D.Disk (H.meant handlers) cluster number.of log (told_by L.Link C.Clock O.Sink link.old clock.old out.old) (told_by L.Link C.Clock O.Sink link.new clock.new out.new)) }
+        ⊎ AtHandlers (H.meant handlers) (λ h. Halted D.Disk h cluster number.of log (told_by L.Link C.Clock O.Sink link.old clock.old out.old) (told_by L.Link C.Clock O.Sink link.new clock.new out.new))) }
     ensures back { IfErr result.0 (λ stop. HandsBack D.faults (D.faults log) stop result.1) }
     ensures later { (left : D) → result.1 ≡ Some left → D.faults log ≤ D.faults left }
     ensures sink { result.0 ≡ Err Stop.Sink → Rose (O.faults out.old) (O.faults out.new) }

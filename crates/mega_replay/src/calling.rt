@@ -3,7 +3,6 @@ ghost use Rattle.std.specs.Prelude.{◌≡◌, ◌≤◌, ◌⊎◌, ◌++◌, �
 ghost use Rattle.mega_node.specs.Outside.{told_by};
 ghost use Rattle.mega_replay.specs.Nodes.{HasRunNode};
 ghost use Rattle.std.specs.Io.KnownBytes.{Appends, IsAtEnd};
-ghost use Rattle.mega_handler.specs.Named.{meaning};
 ghost use Rattle.mega_meanings.specs.BuiltIn.{built_in};
 ghost use Rattle.mega_base.specs.Causes.{Rose};
 ghost use Rattle.mega_io.specs.Pieces.{AppendsFront};
@@ -75,7 +74,7 @@ pub fn run<I: Source, O: Sink, D: Disk + Drop, L: Link, C: Clock>(
     ensures cut { (report : Report) → command_of words.now ≡ Some (Replay report) → IsCutStatus result.status → InputCut report (I.left input.old) (AppendsFront (O.held out.old) (O.held out.new)) }
     ensures source { result.status ≡ 5 → Rose (I.faults input.old) (I.faults input.new) }
     ensures sink { result.status ≡ 6 → Rose (O.faults out.old) (O.faults out.new) }
-    ensures node { (number turns : ℕ) → command_of words.now ≡ Some (Node number turns) → HasRunNode D.Disk (meaning built_in) number turns (I.left input.old) (I.left input.new) devices result.devices (told_by L.Link C.Clock O.Sink link.old clock.old out.old) (told_by L.Link C.Clock O.Sink link.new clock.new out.new) result.status }
+    ensures node { (number turns : ℕ) → command_of words.now ≡ Some (Node number turns) → HasRunNode D.Disk built_in number turns (I.left input.old) (I.left input.new) devices result.devices (told_by L.Link C.Clock O.Sink link.old clock.old out.old) (told_by L.Link C.Clock O.Sink link.new clock.new out.new) result.status }
     ensures backup { (number at : ℕ) (group : Group) → command_of words.now ≡ Some (Backup number group at) → HasBackedUp D.Disk number group at (I.left input.old) devices result.devices (O.held out.old) (O.held out.new) result.status }
     ensures restore { (at : ℕ) → command_of words.now ≡ Some (Restore at) → HasRestored at (I.left input.old) (O.held out.old) (O.held out.new) result.status }
     ensures two { (number turns : ℕ) (recover : Option (List ℕ)) → command_of words.now ≡ Some (Two number turns recover) → HasDriven number turns recover (I.left input.old) (told_by L.Link C.Clock O.Sink link.old clock.old out.old) (told_by L.Link C.Clock O.Sink link.new clock.new out.new) result.status }

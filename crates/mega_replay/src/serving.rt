@@ -1,8 +1,8 @@
 //! The node that the words ask for, over its socket.
 ghost use Rattle.std.specs.Prelude.{◌≡◌, ◌≤◌};
 ghost use Rattle.mega_base.specs.Causes.{Rose};
-ghost use Rattle.mega_handler.specs.Named.{meaning};
 ghost use Rattle.mega_meanings.specs.BuiltIn.{built_in};
+ghost use Rattle.mega_node.specs.Calls.{AtHandlers};
 ghost use Rattle.mega_node.specs.Outside.{told_by};
 ghost use Rattle.mega_replay.specs.Nodes.{HasRunNode};
 ghost use Rattle.mega_replay.specs.Statuses.{IsNodeStatus};
@@ -28,7 +28,7 @@ fn serve_with<I: Source, O: Sink, D: Disk + Drop, L: Link, C: Clock, H: QueueHan
     clock: &mut C,
     handlers: H,
 ) -> Ended<D>
-    ensures node { HasRunNode D.Disk (H.meant handlers) number.of turns (I.left input.old) (I.left input.new) devices result.devices (told_by L.Link C.Clock O.Sink link.old clock.old out.old) (told_by L.Link C.Clock O.Sink link.new clock.new out.new) result.status }
+    ensures node { AtHandlers (H.meant handlers) (λ h. HasRunNode D.Disk h number.of turns (I.left input.old) (I.left input.new) devices result.devices (told_by L.Link C.Clock O.Sink link.old clock.old out.old) (told_by L.Link C.Clock O.Sink link.new clock.new out.new) result.status) }
     ensures source { result.status ≡ 5 → Rose (I.faults input.old) (I.faults input.new) }
     ensures sink { result.status ≡ 6 → Rose (O.faults out.old) (O.faults out.new) }
     ensures link { result.status ≡ 9 → Rose (L.faults link.old) (L.faults link.new) }
@@ -56,7 +56,7 @@ pub fn serve_node<I: Source, O: Sink, D: Disk + Drop, L: Link, C: Clock>(
     link: &mut L,
     clock: &mut C,
 ) -> Ended<D>
-    ensures node { HasRunNode D.Disk (meaning built_in) number.of turns (I.left input.old) (I.left input.new) devices result.devices (told_by L.Link C.Clock O.Sink link.old clock.old out.old) (told_by L.Link C.Clock O.Sink link.new clock.new out.new) result.status }
+    ensures node { HasRunNode D.Disk built_in number.of turns (I.left input.old) (I.left input.new) devices result.devices (told_by L.Link C.Clock O.Sink link.old clock.old out.old) (told_by L.Link C.Clock O.Sink link.new clock.new out.new) result.status }
     ensures source { result.status ≡ 5 → Rose (I.faults input.old) (I.faults input.new) }
     ensures sink { result.status ≡ 6 → Rose (O.faults out.old) (O.faults out.new) }
     ensures link { result.status ≡ 9 → Rose (L.faults link.old) (L.faults link.new) }

@@ -19,6 +19,7 @@ use Rattle.mega_rules.specs.Steps.{Begin, Event, Tick, step}
 use Rattle.mega_node_laws.specs.Own.{HasOwnRows}
 use Rattle.mega_format_laws.specs.Histories.{IsClock, IsCluster}
 use Rattle.mega_format_laws.specs.Nodes.{IsEvent, IsNode, IsSetting}
+use Rattle.mega_format_laws.specs.Requests.{AreHandlers}
 use Rattle.mega_format_laws.specs.Rounds.{Each, IsMember}
 use Rattle.mega_format_laws.proofs.Each.{each_of_all}
 use Rattle.mega_format_laws.proofs.Whole.{whole_step}
@@ -149,8 +150,8 @@ module _ {S : Type 0} (steps : StepsGhosts S) (may : (s : Setting) (node : Node)
 
 -- a node that started over records of the format, where its turns are sound
 pub may_serve : {S : Type 0} (steps : StepsGhosts S) → ((s : Setting) (node : Node) (event : Event) → MayStep s node event → steps.may_happen s node event)
-    → (c : Cluster) (h : Meanings) (me : ℕ) (found : List (List ℕ)) (given : List (ℕ × Option Datagram)) → IsCluster c → IsMember me → first_bad found ≡ None → starts_of (history_of found) < 4294967295
-    → AreSound (setting c h me) given (served c me (wish_of c.schema me) h (history_of found) (turns_of h given)) → MayServe steps (setting c h me) (served_start c me h (history_of found)) (turns_of h given)
-may_serve steps may c h me found given cluster member good few sound =
-    may_go steps may c h me (record { cluster = cluster; me = member; handlers = sound.handlers }) given (served_start c me h (history_of found)) sound.clocks
+    → (c : Cluster) (h : Meanings) (me : ℕ) (found : List (List ℕ)) (given : List (ℕ × Option Datagram)) → IsCluster c → IsMember me → AreHandlers h → first_bad found ≡ None → starts_of (history_of found) < 4294967295
+    → AreSound c.schema given (served c me (wish_of c.schema me) h (history_of found) (turns_of h given)) → MayServe steps (setting c h me) (served_start c me h (history_of found)) (turns_of h given)
+may_serve steps may c h me found given cluster member handlers good few sound =
+    may_go steps may c h me (record { cluster = cluster; me = member; handlers = handlers }) given (served_start c me h (history_of found)) sound.clocks
     (start_formed (setting c h me) (history_of found) member few (each_of_all IsItem (history_of found) (history_fits found 1 good))) sound.own

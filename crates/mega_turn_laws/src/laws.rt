@@ -12,6 +12,7 @@ ghost use Rattle.mega_rules.specs.Steps.{Event, step};
 ghost use Rattle.mega_node_laws.specs.Own.{HasOwnRows};
 ghost use Rattle.mega_format_laws.specs.Histories.{IsCluster};
 ghost use Rattle.mega_format_laws.specs.Nodes.{IsEvent, IsNode, IsSetting};
+ghost use Rattle.mega_format_laws.specs.Requests.{AreHandlers};
 ghost use Rattle.mega_format_laws.specs.Rounds.{IsMember};
 ghost use Rattle.mega_promises.specs.Runs.{setting};
 ghost use Rattle.mega_promises.specs.Served.{served, served_start};
@@ -28,10 +29,10 @@ pub fn steps_may_happen()
     ensures { (s : Setting) (node : Node) (event : Event) → IsSetting s → IsNode node → IsEvent event → HasOwnRows s.cluster.schema (log_of (step s node event).node.met) → MayStep s node event }
 {}
 
-/// Of a node that started over records of the format each turn may happen, whatever datagrams come, where its clock shows times that a tick can
-/// have, and the rows of all that it decided by the end are the groups' own.
+/// Of a node that started over records of the format, with handlers that make what an entry can hold, each turn may happen, whatever datagrams come,
+/// where its clock shows times that a tick can have, and the rows of all that it decided by the end are the groups' own.
 pub fn turns_may_happen<S: Steps>()
     ensures { ((s : Setting) (node : Node) (event : Event) → MayStep s node event → S.may_happen s node event) →
-        (c : Cluster) (h : Meanings) (me : ℕ) (found : List (List ℕ)) (given : List (ℕ × Option Datagram)) → IsCluster c → IsMember me → first_bad found ≡ None → starts_of (history_of found) < 4294967295 →
-        AreSound (setting c h me) given (served c me (wish_of c.schema me) h (history_of found) (turns_of h given)) → MayServe S.Steps (setting c h me) (served_start c me h (history_of found)) (turns_of h given) }
+        (c : Cluster) (h : Meanings) (me : ℕ) (found : List (List ℕ)) (given : List (ℕ × Option Datagram)) → IsCluster c → IsMember me → AreHandlers h → first_bad found ≡ None → starts_of (history_of found) < 4294967295 →
+        AreSound c.schema given (served c me (wish_of c.schema me) h (history_of found) (turns_of h given)) → MayServe S.Steps (setting c h me) (served_start c me h (history_of found)) (turns_of h given) }
 {}

@@ -1,5 +1,7 @@
-use Rattle.mega_replay.proofs.NodeHandlers.{with_meaning}
+use Rattle.mega_happening.proofs.Plain.{built_formed}
+use Rattle.mega_meanings.specs.BuiltIn.{built_in}
+use Rattle.mega_replay.proofs.NodeHandlers.{built_mean}
 use Rattle.mega_replay.proofs.serving.serve_node.Goals as goal
 
 pub returns-clause-node : goal.returns-clause-node
-returns-clause-node g c = with_meaning _ _ c.new-handlers.ensures c.serve_with.ensures.node
+returns-clause-node g c = c.serve_with.ensures.node built_in (built_mean _ c.new-handlers.ensures) built_formed

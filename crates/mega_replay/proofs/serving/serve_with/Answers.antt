@@ -18,17 +18,19 @@ pub returns-clause-only : goal.returns-clause-only
 returns-clause-only g c = subst IsNodeStatus (sym c.status.ensures) (status_known c.run_node-outcome.result.ended)
 
 pub returns-clause-node : goal.returns-clause-node
-returns-clause-node g c =
+returns-clause-node g c = λ h means handlers.
     let ended = c.run_node-outcome.result.ended in
     let status = c.status.ensures in
     record {
-      ran = λ is. ran_by ended _ (sym status ∙ is) c.run_node-outcome.ensures.ran;
+      ran = λ is.
+          let run = ran_by ended _ (sym status ∙ is) c.run_node-outcome.ensures.ran in
+          (run.0, run.1, run.2 h means handlers);
       header = λ is.
           let broken = header_by ended (sym status ∙ is) in
           let said = c.run_node-outcome.ensures.header broken.0 broken.1 in
           (broken.0, said.0, said.1);
       headed = λ is. behind_by ended _ (subst IsBehindHeader status is) c.run_node-outcome.ensures.headed;
-      cut = λ all broken. cut_by ended _ (λ is. all (status ∙ is)) (λ is. broken (status ∙ is)) c.run_node-outcome.ensures.cut;
+      cut = λ all broken. cut_by ended _ (λ is. all (status ∙ is)) (λ is. broken (status ∙ is)) c.run_node-outcome.ensures.cut h means handlers;
       source = λ is. (c.run_node-outcome.ensures.source (source_by ended (sym status ∙ is))).1;
       device = λ is. c.run_node-outcome.ensures.device (device_by ended (sym status ∙ is));
       bad = λ is told.
