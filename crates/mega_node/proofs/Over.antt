@@ -8,12 +8,13 @@ use Rattle.mega_handler.specs.Named.{Meaning, Meanings}
 use Rattle.mega_link.specs.Datagrams.{Datagram}
 use Rattle.mega_serve.specs.declared.steps.Steps.{Ghosts as StepsGhosts}
 use Rattle.mega_serve.specs.declared.waiting.Waiting.{Waiting}
+use Rattle.mega_rules.specs.Logs.{log_of}
 use Rattle.mega_rules.specs.Operations.{Node, Setting}
 use Rattle.mega_rules.specs.Steps.{Event}
-use Rattle.mega_serve.specs.Turns.{IsServing, MayServe, turns_of}
+use Rattle.mega_serve.specs.Turns.{AreTimes, IsServing, MayServe, turns_of}
 use Rattle.mega_server.specs.Serving.{MayStep}
-use Rattle.mega_turn_laws.specs.Sound.{AreSound}
 use Rattle.mega_turn_laws.proofs.Turns.{may_serve}
+use Rattle.mega_node_laws.specs.Own.{HasOwnRows}
 use Rattle.mega_promises.specs.Runs.{setting}
 use Rattle.mega_promises.specs.Served.{Served}
 use Rattle.mega_node.specs.Calls.{AtHandlers, Halted, KeepsMet, Ran, served_over, started_over}
@@ -22,11 +23,11 @@ use Rattle.mega_node.specs.Outside.{Outside}
 use Rattle.mega_node.specs.Serving.{HasTurnedOff, HasTurnedOn}
 use Rattle.mega_node.specs.Starting.{HasStarted}
 
--- where its turns are sound, they may happen
-sound_may : {D S : Type 0} (disks : DiskGhosts D) (steps : StepsGhosts S) (makes : List ℕ → Option Meaning) (c : Cluster) (me : ℕ) (log : D) (found : List (List ℕ)) (one : S) (start : ℕ) (notes : List Note)
-    → ((s : Setting) (node : Node) (event : Event) → MayStep s node event → steps.may_happen s node event) → AreFound disks log found → HasStarted steps makes c me found one start notes → (given : List (ℕ × Option Datagram)) (h : Meanings) → AreHandlers h
-    → AreSound c.schema given (served_over (setting c h me) found (turns_of h given)) → MayServe steps (setting c h me) (started_over (setting c h me) found) (turns_of h given)
-sound_may disks steps makes c me log found one start notes may are started given h handlers sound = may_serve steps may c h me found given started.sized started.member handlers are.good started.few sound
+-- its turns may happen, where what it decided by the end writes its groups' own rows
+may_turn : {D S : Type 0} (disks : DiskGhosts D) (steps : StepsGhosts S) (makes : List ℕ → Option Meaning) (c : Cluster) (me : ℕ) (log : D) (found : List (List ℕ)) (one : S) (start : ℕ) (notes : List Note)
+    → ((s : Setting) (node : Node) (event : Event) → MayStep s node event → steps.may_happen s node event) → AreFound disks log found → HasStarted steps makes c me found one start notes → (given : List (ℕ × Option Datagram)) (h : Meanings) → AreHandlers h → AreTimes given
+    → HasOwnRows c.schema (log_of (served_over (setting c h me) found (turns_of h given)).node.met) → MayServe steps (setting c h me) (started_over (setting c h me) found) (turns_of h given)
+may_turn disks steps makes c me log found one start notes may are started given h handlers times own = may_serve steps may c h me found given started.sized started.member handlers are.good started.few times own
 
 pub ran : {D S : Type 0} (disks : DiskGhosts D) (steps : StepsGhosts S) (makes : List ℕ → Option Meaning) (c : Cluster) (me turns : ℕ) (log left : D) (before after : Outside) (found : List (List ℕ)) (one last : S) (start : ℕ) (notes : List Note)
     → ((s : Setting) (node : Node) (event : Event) → MayStep s node event → steps.may_happen s node event)
@@ -38,9 +39,9 @@ ran disks steps makes c me turns log left before after found one last start note
   are_found = are;
   given = turned.given;
   turned = turned.turned;
-  recorded = λ sound. turned.recorded makes c me found started h means (sound_may disks steps makes c me log found one start notes may are started turned.given h handlers sound);
-  kept = λ sound.
-      let serving = turned.serving makes c me found started h means (sound_may disks steps makes c me log found one start notes may are started turned.given h handlers sound) in
+  recorded = λ own. turned.recorded makes c me found started h means (may_turn disks steps makes c me log found one start notes may are started turned.given h handlers turned.turned.times own);
+  kept = λ own.
+      let serving = turned.serving makes c me found started h means (may_turn disks steps makes c me log found one start notes may are started turned.given h handlers turned.turned.times own) in
       keeps serving.0 serving.1 _ serving.2;
 }
 
@@ -52,5 +53,5 @@ halted disks steps makes c me log before after found one start notes may are sta
   are_found = are;
   given = turned.given;
   begun = turned.begun;
-  stops = λ sound. turned.stops makes c me found started h means (sound_may disks steps makes c me log found one start notes may are started turned.given h handlers sound);
+  stops = λ own. turned.stops makes c me found started h means (may_turn disks steps makes c me log found one start notes may are started turned.given h handlers turned.begun.times own);
 }

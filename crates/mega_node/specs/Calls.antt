@@ -8,14 +8,15 @@ use Rattle.mega_io.specs.Pieces.{AppendsFront}
 use Rattle.mega_checkpoint.specs.Format.{list_of}
 use Rattle.mega_link.specs.Datagrams.{Datagram}
 use Rattle.mega_meanings.specs.Means.{Means}
+use Rattle.mega_node_laws.specs.Own.{HasOwnRows}
 use Rattle.mega_promises.specs.Runs.{setting}
 use Rattle.mega_promises.specs.Served.{Served, Turn, served, served_start}
 use Rattle.mega_rules.specs.Clock.{start_of}
+use Rattle.mega_rules.specs.Logs.{log_of}
 use Rattle.mega_rules.specs.Operations.{Setting}
 use Rattle.mega_serve.specs.Pages.{GoesOn, Stops}
 use Rattle.mega_serve.specs.Turns.{HasBegun, HasTurned, turns_of}
 use Rattle.mega_serve.specs.Wishes.{wish_of}
-use Rattle.mega_turn_laws.specs.Sound.{AreSound}
 use Rattle.mega_voter.specs.Holding.{HoldsMet}
 use Rattle.mega_wal.specs.Records.{history_of}
 use Rattle.mega_node.specs.Headers.{IsBroken, IsHeaded, header_line}
@@ -33,10 +34,11 @@ served_over s found turns = served s.cluster s.me (wish_of s.cluster.schema s.me
 abbrev pub AtHandlers : (List ℕ → Option Meaning) → (Meanings → Type 0) → Type 0
 AtHandlers makes Is = (h : Meanings) → Means makes h → AreHandlers h → Is h
 
--- what is so of the node behind its turns, where these are sound
-abbrev pub IfSound : Meanings → Cluster → ℕ → List (List ℕ) → List (ℕ × Option Datagram) → (Served → Type 0) → Type 0
-IfSound h c number found given Is =
-    AreSound c.schema given (served_over (setting c h number) found (turns_of h given)) → Is (served_over (setting c h number) found (turns_of h given))
+-- what is so of the node behind its turns, where each row that an item of a group can name was written, in what it decided, by that group's own entries
+-- alone
+abbrev pub IfOwn : Meanings → Cluster → ℕ → List (List ℕ) → List (ℕ × Option Datagram) → (Served → Type 0) → Type 0
+IfOwn h c number found given Is =
+    HasOwnRows c.schema (log_of (served_over (setting c h number) found (turns_of h given)).node.met) → Is (served_over (setting c h number) found (turns_of h given))
 
 -- the log holds what the node met
 abbrev pub KeepsMet : {D : Type 0} → DiskGhosts D → D → Served → Type 0
@@ -49,8 +51,8 @@ pub record Ran {D : Type 0} (disks : DiskGhosts D) (h : Meanings) (c : Cluster) 
   pub are_found : AreFound disks log found
   pub given : List (ℕ × Option Datagram)
   pub turned : HasTurned turns before.readings after.readings before.taken after.taken given
-  pub recorded : IfSound h c number found given (λ now. GoesOn c.schema before.held after.held before.sent after.sent now.lines)
-  pub kept : IfSound h c number found given (KeepsMet disks left)
+  pub recorded : IfOwn h c number found given (λ now. GoesOn c.schema before.held after.held before.sent after.sent now.lines)
+  pub kept : IfOwn h c number found given (KeepsMet disks left)
 
 -- it started, began turns, and ended on its way: a front of its record is held, and what was sent stands in it
 pub record Halted {D : Type 0} (disks : DiskGhosts D) (h : Meanings) (c : Cluster) (number : ℕ) (log : D) (before after : Outside) : Type 0 where
@@ -58,7 +60,7 @@ pub record Halted {D : Type 0} (disks : DiskGhosts D) (h : Meanings) (c : Cluste
   pub are_found : AreFound disks log found
   pub given : List (ℕ × Option Datagram)
   pub begun : HasBegun before.readings after.readings before.taken after.taken given
-  pub stops : IfSound h c number found given (λ now. Stops c.schema before.held after.held before.sent after.sent now.lines)
+  pub stops : IfOwn h c number found given (λ now. Stops c.schema before.held after.held before.sent after.sent now.lines)
 
 -- the same, in the cluster of the header
 abbrev pub HasRun : {D : Type 0} → DiskGhosts D → Meanings → ℕ → ℕ → Option (List ℕ) → D → D → Outside → Outside → Type 0

@@ -1,5 +1,5 @@
 -- A served node that ended on its way: of what was to be recorded a front is held.
-use Rattle.std.proofs.Common.{◌≡◌, ◌⊎◌, inl, inr, ℕ, ◌+◌, Bool, true, false, List, [], ◌∷◌, ◌++◌, None, Option, Some, Ok, Err, Result, ap, append-nil, append_assoc, codes, decimal, filter, filter_map, length, map, refl, subst, sym, take, ◌∙◌}
+use Rattle.std.proofs.Common.{◌≡◌, ◌⊎◌, inl, inr, ℕ, ◌+◌, ◌≤◌, Bool, true, false, List, [], ◌∷◌, ◌++◌, None, Option, Some, Ok, Err, Result, ap, append-nil, append_assoc, codes, decimal, filter, filter_map, length, map, refl, subst, sym, take, ◌∙◌}
 use Rattle.std.specs.Prelude.{◌==◌, ◌&&◌, if◌then◌else◌, option_map}
 use Rattle.std.specs.List.{flat_map}
 use Rattle.std.specs.Io.KnownBytes.{Appends}
@@ -34,7 +34,7 @@ use Rattle.mega_serve.specs.Turns.{Ended, EndsIn, EndsOnce, GainsAll, HasBegun, 
 use Rattle.mega_serve.specs.Wishes.{wish_of}
 use Rattle.mega_page.proofs.Giving.{all_nothing}
 use Rattle.mega_serve.proofs.Going.{all_twice}
-use Rattle.mega_serve.proofs.Joining.{gains_more, gains_nothing, gains_one, may_split, served_on}
+use Rattle.mega_serve.proofs.Joining.{gains_more, gains_nothing, gains_one, may_split, served_on, times_more}
 use Rattle.mega_serve.proofs.Stepped.{replies_shown}
 
 -- ---- nothing of it was recorded
@@ -151,21 +151,23 @@ ended_further steps h mid between schema a b c x y z now next last first second 
 -- ---- turns that were begun
 
 pub none_begun : (read : Option (List ℕ)) (taken : Option (List (Option Datagram))) → HasBegun read read taken taken []
-none_begun read taken = record { readings = gains_nothing read; received = inl (gains_nothing taken) }
+none_begun read taken = record { readings = gains_nothing read; times = tt; received = inl (gains_nothing taken) }
 
 pub ends_at_once : {S : Type 0} (steps : Ghosts S) (one : S) (waiting : List Waits) (held : Option (List ℕ)) (sent : Option (List Datagram)) → EndsIn steps one waiting held held sent sent []
 ends_at_once steps one waiting held sent = λ h now serving may. at_once (schema_of steps one) held sent now now [] (sym (append-nil now.lines))
 
 -- the reading alone, or the datagram as well
-pub begun_read : (a b : Option (List ℕ)) (x y : Option (List (Option Datagram))) (clock : ℕ) → Gains a b clock → y ≡ x → HasBegun a b x y ((clock, None) ∷ [])
-begun_read a b x y clock read same = record {
+pub begun_read : (a b : Option (List ℕ)) (x y : Option (List (Option Datagram))) (clock : ℕ) → clock ≤ 1000000000000 → Gains a b clock → y ≡ x → HasBegun a b x y ((clock, None) ∷ [])
+begun_read a b x y clock time read same = record {
   readings = gains_one a b clock read;
+  times = (time, tt);
   received = inr ([], (clock, (refl, subst (λ (told : Option (List (Option Datagram))). GainsAll x told []) (sym same) (gains_nothing x))));
 }
 
-pub begun_received : (a b : Option (List ℕ)) (x y z : Option (List (Option Datagram))) (clock : ℕ) (datagram : Option Datagram) → Gains a b clock → y ≡ x → Gains y z datagram → HasBegun a b x z ((clock, datagram) ∷ [])
-begun_received a b x y z clock datagram read same took = record {
+pub begun_received : (a b : Option (List ℕ)) (x y z : Option (List (Option Datagram))) (clock : ℕ) (datagram : Option Datagram) → clock ≤ 1000000000000 → Gains a b clock → y ≡ x → Gains y z datagram → HasBegun a b x z ((clock, datagram) ∷ [])
+begun_received a b x y z clock datagram time read same took = record {
   readings = gains_one a b clock read;
+  times = (time, tt);
   received = inl (gains_one x z datagram (subst (λ (told : Option (List (Option Datagram))). Gains told z datagram) same took));
 }
 
@@ -203,6 +205,7 @@ pub begun_more : (n : ℕ) (a b c : Option (List ℕ)) (x y z : Option (List (Op
     → HasTurned n a b x y given → HasBegun b c y z (one ∷ []) → HasBegun a c x z (given ++ one ∷ [])
 begun_more n a b c x y z given one first second = record {
   readings = subst (GainsAll a c) (sym (map-append (λ (one : ℕ × Option Datagram). one.0) given (one ∷ []))) (gains_more a b c _ _ first.readings second.readings);
+  times = times_more given one first.times second.times;
   received = received_more x y z given one first.received second.received;
 }
 

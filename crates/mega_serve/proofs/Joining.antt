@@ -1,5 +1,5 @@
 -- Turns are joined: what was read and received, and where the served node is then.
-use Rattle.std.proofs.Common.{◌≡◌, ℕ, ◌+◌, List, [], ◌∷◌, ◌++◌, None, Option, Some, ap, append-nil, append_assoc, length, length-append, map, refl, subst, sym, ◌∙◌}
+use Rattle.std.proofs.Common.{◌≡◌, ℕ, ◌+◌, ◌≤◌, List, [], ◌∷◌, ◌++◌, None, Option, Some, ap, append-nil, append_assoc, length, length-append, map, refl, subst, sym, ◌∙◌}
 use Rattle.std.specs.Prelude.{option_map}
 use Rattle.std.proofs.lemmas.List.{map-append}
 use Rattle.mega_handler.specs.Named.{Meanings}
@@ -11,7 +11,7 @@ use Rattle.mega_promises.specs.Runs.{setting}
 use Rattle.mega_promises.specs.Served.{Served, Turn, received, ticked}
 use Rattle.mega_serve.specs.declared.steps.Steps.{Ghosts}
 use Rattle.mega_serve.specs.declared.waiting.Waiting.{Waiting as Waits}
-use Rattle.mega_serve.specs.Turns.{GainsAll, HasTurned, IsServing, MayReceive, MayServe, MayTurn, Runs, TurnsOnce, Proceeds, schema_of, served_by, setting_of, turn_of, turned_by, turns_of}
+use Rattle.mega_serve.specs.Turns.{AreTimes, GainsAll, HasTurned, IsServing, MayReceive, MayServe, MayTurn, Runs, TurnsOnce, Proceeds, schema_of, served_by, setting_of, turn_of, turned_by, turns_of}
 use Rattle.mega_page.specs.Lines.{datagram_of}
 use Rattle.mega_serve.specs.Wishes.{wish_of}
 use Rattle.mega_serve.proofs.Going.{stays, proceeds_further}
@@ -36,16 +36,21 @@ gains_more None None (Some last) xs ys one two = absurd two
 gains_more (Some all) b None xs ys one two = tt
 gains_more None b None xs ys one two = tt
 
+pub times_more : (given : List (ℕ × Option Datagram)) (one : ℕ × Option Datagram) → AreTimes given → AreTimes (one ∷ []) → AreTimes (given ++ one ∷ [])
+times_more [] one first second = second
+times_more (before ∷ given) one first second = (first.0, times_more given one first.1 second)
+
 -- ---- turns that were made
 
 pub none_turned : (read : Option (List ℕ)) (taken : Option (List (Option Datagram))) → HasTurned 0 read read taken taken []
-none_turned read taken = record { counted = refl; readings = gains_nothing read; received = gains_nothing taken }
+none_turned read taken = record { counted = refl; readings = gains_nothing read; times = tt; received = gains_nothing taken }
 
 pub turned_more : (n : ℕ) (a b c : Option (List ℕ)) (x y z : Option (List (Option Datagram))) (given : List (ℕ × Option Datagram)) (one : ℕ × Option Datagram)
     → HasTurned n a b x y given → HasTurned 1 b c y z (one ∷ []) → HasTurned (n + 1) a c x z (given ++ one ∷ [])
 turned_more n a b c x y z given one first second = record {
   counted = length-append given (one ∷ []) ∙ ap (λ (m : ℕ). m + 1) first.counted;
   readings = subst (GainsAll a c) (sym (map-append (λ (one : ℕ × Option Datagram). one.0) given (one ∷ []))) (gains_more a b c _ _ first.readings second.readings);
+  times = times_more given one first.times second.times;
   received = subst (GainsAll x z) (sym (map-append (λ (one : ℕ × Option Datagram). one.1) given (one ∷ []))) (gains_more x y z _ _ first.received second.received);
 }
 
@@ -95,10 +100,11 @@ turned_once steps first mid last waiting between left a b c x y z clock datagram
     proceeds_further steps h mid last between left (schema_of steps first) a b c x y z now next (received (steps.members first) (steps.me first) (wish_of (schema_of steps first) (steps.me first)) h next (option_map datagram_of datagram)) before
     (coe 0 1 (i. Proceeds steps h last left ((members i).schema) b c y z next (received (members i) (me i) (wish_of ((members i).schema) (me i)) h next (option_map datagram_of datagram))) after)
 
-pub has_turned : (a b : Option (List ℕ)) (x y z : Option (List (Option Datagram))) (clock : ℕ) (datagram : Option Datagram) → Gains a b clock → y ≡ x → Gains y z datagram → HasTurned 1 a b x z ((clock, datagram) ∷ [])
-has_turned a b x y z clock datagram read same took = record {
+pub has_turned : (a b : Option (List ℕ)) (x y z : Option (List (Option Datagram))) (clock : ℕ) (datagram : Option Datagram) → clock ≤ 1000000000000 → Gains a b clock → y ≡ x → Gains y z datagram → HasTurned 1 a b x z ((clock, datagram) ∷ [])
+has_turned a b x y z clock datagram time read same took = record {
   counted = refl;
   readings = gains_one a b clock read;
+  times = (time, tt);
   received = gains_one x z datagram (subst (λ (told : Option (List (Option Datagram))). Gains told z datagram) same took);
 }
 

@@ -1,5 +1,5 @@
 -- The turns of a served node: what it is given in each, when that may happen, and what it is afterwards.
-use Rattle.std.specs.Prelude.{◌≡◌, ◌⊎◌, ℕ, ◌==◌, ◌&&◌, Bool, if◌then◌else◌, List, [], ◌∷◌, ◌++◌, fold, length, map, Option, Some, None, option_map, Result, Ok, Err}
+use Rattle.std.specs.Prelude.{◌≡◌, ◌⊎◌, ℕ, ◌==◌, ◌≤◌, ◌&&◌, Bool, if◌then◌else◌, List, [], ◌∷◌, ◌++◌, fold, length, map, Option, Some, None, option_map, Result, Ok, Err}
 use Rattle.mega_base.specs.Reading.{whole_of}
 use Rattle.mega_cluster.specs.declared.cluster.Cluster.{Cluster}
 use Rattle.mega_handler.specs.Named.{Meanings}
@@ -106,10 +106,16 @@ abbrev pub LacksReceive : Option (List (Option Datagram)) → Option (List (Opti
 LacksReceive taken more_taken given =
     (before : List (ℕ × Option Datagram)) × ((clock : ℕ) × ((given ≡ before ++ (clock, None) ∷ []) × GainsAll taken more_taken (received_in before)))
 
+-- the clock shows times that a tick can have, up to 10^12 milliseconds
+abbrev pub AreTimes : List (ℕ × Option Datagram) → Type 0
+AreTimes [] = Unit {0}
+AreTimes (one ∷ given) = (one.0 ≤ 1000000000000) × AreTimes given
+
 -- turns were made: this many, of the clock's readings and of what was received, none skipped
 pub record HasTurned (count : ℕ) (read more_read : Option (List ℕ)) (taken more_taken : Option (List (Option Datagram))) (given : List (ℕ × Option Datagram)) : Type 0 where
   pub counted : length given ≡ count
   pub readings : GainsAll read more_read (readings_of given)
+  pub times : AreTimes given
   pub received : GainsAll taken more_taken (received_in given)
 
 abbrev pub turns_of : Meanings → List (ℕ × Option Datagram) → List Turn
@@ -121,6 +127,7 @@ served_by s now turns = fold (turned_by s) now turns
 -- turns were begun: each with a reading of the clock and then what was received, but the last one may have ended before its receive
 pub record HasBegun (read more_read : Option (List ℕ)) (taken more_taken : Option (List (Option Datagram))) (given : List (ℕ × Option Datagram)) : Type 0 where
   pub readings : GainsAll read more_read (readings_of given)
+  pub times : AreTimes given
   pub received : GainsAll taken more_taken (received_in given) ⊎ LacksReceive taken more_taken given
 
 -- from one moment to another a node made these turns, as the rules make them

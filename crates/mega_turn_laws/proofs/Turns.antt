@@ -27,10 +27,9 @@ use Rattle.mega_wal.specs.Items.{IsItem}
 use Rattle.mega_promises.specs.Runs.{names_nothing, setting}
 use Rattle.mega_promises.specs.Served.{Asks, Got, Line, OfClient, OfNode, Peer, Refuses, Served, Wish, given, is_from, received, served, served_start, takes_message, ticked, wished, with_lines}
 use Rattle.mega_serve.specs.declared.steps.Steps.{Ghosts as StepsGhosts}
-use Rattle.mega_serve.specs.Turns.{IfSome, MayReceive, MayServe, brought_by, event_in, message_event, requested_event, served_by, turn_of, turned_by, turns_of, wished_event}
+use Rattle.mega_serve.specs.Turns.{AreTimes, IfSome, MayReceive, MayServe, brought_by, event_in, message_event, requested_event, served_by, turn_of, turned_by, turns_of, wished_event}
 use Rattle.mega_serve.specs.Wishes.{wish_of}
 use Rattle.mega_server.specs.Serving.{MayStep}
-use Rattle.mega_turn_laws.specs.Sound.{AreSound}
 use Rattle.mega_turn_laws.proofs.Events.{event_formed}
 use Rattle.mega_turn_laws.proofs.Started.{start_formed}
 use Rattle.mega_turn_laws.proofs.Steps.{may_step, owned_back}
@@ -140,18 +139,19 @@ module _ {S : Type 0} (steps : StepsGhosts S) (may : (s : Setting) (node : Node)
   may_receive now one is clock own =
       may_one (behind_tick now one).node (brought_in one) (tick_formed now one is clock) (event_formed c.schema me small (turn_of h one).datagram) (subst (Owns c.schema) (next_is now one) own)
 
-  may_go : (given : List (ℕ × Option Datagram)) (now : Served) → Each (λ (one : ℕ × Option Datagram). IsClock one.0) given → IsNode now.node → Owns c.schema (served_by s now (turns_of h given)).node → MayServe steps s now (turns_of h given)
+  may_go : (given : List (ℕ × Option Datagram)) (now : Served) → AreTimes given → IsNode now.node → Owns c.schema (served_by s now (turns_of h given)).node → MayServe steps s now (turns_of h given)
   may_go [] now clocks is own = tt
   may_go (one ∷ given) now clocks is own =
       let here = owns_first given (next_of now one) own in (
-        (may s now.node (Tick one.0) (may_step s now.node (Tick one.0) set is clocks.0 (owns_behind_tick now one here)), may_receive now one is clocks.0 here),
-        may_go given (next_of now one) clocks.1 (turn_formed now one is clocks.0) own,
+        (may s now.node (Tick one.0) (may_step s now.node (Tick one.0) set is clock (owns_behind_tick now one here)), may_receive now one is clock here),
+        may_go given (next_of now one) clocks.1 (turn_formed now one is clock) own,
       )
 
--- a node that started over records of the format, where its turns are sound
+-- a node that started over records of the format, where the rows of what it decided by the end are the groups' own
 pub may_serve : {S : Type 0} (steps : StepsGhosts S) → ((s : Setting) (node : Node) (event : Event) → MayStep s node event → steps.may_happen s node event)
     → (c : Cluster) (h : Meanings) (me : ℕ) (found : List (List ℕ)) (given : List (ℕ × Option Datagram)) → IsCluster c → IsMember me → AreHandlers h → first_bad found ≡ None → starts_of (history_of found) < 4294967295
-    → AreSound c.schema given (served c me (wish_of c.schema me) h (history_of found) (turns_of h given)) → MayServe steps (setting c h me) (served_start c me h (history_of found)) (turns_of h given)
-may_serve steps may c h me found given cluster member handlers good few sound =
-    may_go steps may c h me (record { cluster = cluster; me = member; handlers = handlers }) given (served_start c me h (history_of found)) sound.clocks
-    (start_formed (setting c h me) (history_of found) member few (each_of_all IsItem (history_of found) (history_fits found 1 good))) sound.own
+    → AreTimes given
+    → HasOwnRows c.schema (log_of (served c me (wish_of c.schema me) h (history_of found) (turns_of h given)).node.met) → MayServe steps (setting c h me) (served_start c me h (history_of found)) (turns_of h given)
+may_serve steps may c h me found given cluster member handlers good few times own =
+    may_go steps may c h me (record { cluster = cluster; me = member; handlers = handlers }) given (served_start c me h (history_of found)) times
+    (start_formed (setting c h me) (history_of found) member few (each_of_all IsItem (history_of found) (history_fits found 1 good))) own

@@ -16,10 +16,9 @@ ghost use Rattle.mega_format_laws.specs.Requests.{AreHandlers};
 ghost use Rattle.mega_format_laws.specs.Rounds.{IsMember};
 ghost use Rattle.mega_promises.specs.Runs.{setting};
 ghost use Rattle.mega_promises.specs.Served.{served, served_start};
-ghost use Rattle.mega_serve.specs.Turns.{MayServe, turns_of};
+ghost use Rattle.mega_serve.specs.Turns.{AreTimes, MayServe, turns_of};
 ghost use Rattle.mega_serve.specs.Wishes.{wish_of};
 ghost use Rattle.mega_server.specs.Serving.{MayStep};
-ghost use Rattle.mega_turn_laws.specs.Sound.{AreSound};
 
 use mega_serve::Steps;
 
@@ -30,9 +29,9 @@ pub fn steps_may_happen()
 {}
 
 /// Of a node that started over records of the format, with handlers that make what an entry can hold, each turn may happen, whatever datagrams come,
-/// where its clock shows times that a tick can have, and the rows of all that it decided by the end are the groups' own.
+/// where its clock shows times that a tick can have and the rows of all that it decided by the end are the groups' own.
 pub fn turns_may_happen<S: Steps>()
     ensures { ((s : Setting) (node : Node) (event : Event) → MayStep s node event → S.may_happen s node event) →
         (c : Cluster) (h : Meanings) (me : ℕ) (found : List (List ℕ)) (given : List (ℕ × Option Datagram)) → IsCluster c → IsMember me → AreHandlers h → first_bad found ≡ None → starts_of (history_of found) < 4294967295 →
-        AreSound c.schema given (served c me (wish_of c.schema me) h (history_of found) (turns_of h given)) → MayServe S.Steps (setting c h me) (served_start c me h (history_of found)) (turns_of h given) }
+        AreTimes given → HasOwnRows c.schema (log_of (served c me (wish_of c.schema me) h (history_of found) (turns_of h given)).node.met) → MayServe S.Steps (setting c h me) (served_start c me h (history_of found)) (turns_of h given) }
 {}
