@@ -93,10 +93,10 @@ formed_after s node (Some event) set is asked = (whole_step s node event set is 
 -- ---- turns of a node that steps where it may
 
 module _ {S : Type 0} (steps : StepsGhosts S) (may : (s : Setting) (node : Node) (event : Event) → MayStep s node event → steps.may_happen s node event) (c : Cluster) (h : Meanings) (me : ℕ) (set : IsSetting (setting c h me)) where
-  s : Setting
+  abbrev s : Setting
   s = setting c h me
 
-  wish : List ℕ → Wish
+  abbrev wish : List ℕ → Wish
   wish = wish_of c.schema me
 
   small : me < 2 ^ 64
@@ -106,13 +106,13 @@ module _ {S : Type 0} (steps : StepsGhosts S) (may : (s : Setting) (node : Node)
   may_one node None is asked own = tt
   may_one node (Some event) is asked own = may s node event (may_step s node event set is asked own)
 
-  next_of : Served → ℕ × Option Datagram → Served
+  abbrev next_of : Served → ℕ × Option Datagram → Served
   next_of now one = turned_by s now (turn_of h one)
 
-  behind_tick : Served → ℕ × Option Datagram → Served
+  abbrev behind_tick : Served → ℕ × Option Datagram → Served
   behind_tick now one = ticked c me h one.0 now
 
-  brought_in : ℕ × Option Datagram → Option Event
+  abbrev brought_in : ℕ × Option Datagram → Option Event
   brought_in one = event_in me wish (turn_of h one).datagram
 
   next_is : (now : Served) (one : ℕ × Option Datagram) → (next_of now one).node ≡ after s (behind_tick now one).node (brought_in one)
