@@ -3,6 +3,7 @@ use Rattle.std.proofs.Common.{◌≡◌, ℕ, zero, suc, ◌+◌, ◌-◌, ◌==
 use Rattle.std.proofs.lemmas.Bool.Decides.{nat_tests}
 use Rattle.std.proofs.lemmas.List.{length-append}
 use Rattle.std.specs.List.{list_any}
+use Rattle.std.proofs.lemmas.Bool.{or_parts}
 use Rattle.mega_base.specs.declared.names.GroupId.{GroupId}
 use Rattle.mega_entry.specs.declared.content.Content.{Content}
 use Rattle.mega_cause_laws.specs.of_run_laws.of_tape_laws.of_promises.of_rules.of_replica.Applying.{applied, writes_of}
@@ -76,14 +77,10 @@ with_it group other (first ∷ groups) = by (same_group other first) (is_group_b
     by false true e rest = refl
     by false false e rest = ap (λ t. same_group first group || t) rest ∙ or_swap (same_group first group) (same_group other group) (has_it group groups)
 
-neither : (a b : Bool) → (a || b) ≡ false → (a ≡ false) × (b ≡ false)
-neither true b h = cc
-neither false b h = (refl, h)
-
 undecided : (met : List Met) (group : GroupId) → has_it group (groups_of met) ≡ false → (n : ℕ) → decided met group n ≡ None
 undecided [] group h n = refl
 undecided (Decides other position entry ∷ before) group h n =
-    let parts = neither (same_group other group) (has_it group (groups_of before)) (sym (with_it group other (groups_of before)) ∙ h) in
+    let parts = or_parts (same_group other group) (has_it group (groups_of before)) (sym (with_it group other (groups_of before)) ∙ h) in
     ap (λ t. cond (t && position == n) (first_of (decided before group n) entry) (decided before group n)) parts.0 ∙ undecided before group parts.1 n
 undecided (_ ∷ before) group h n = undecided before group h n
 

@@ -64,6 +64,7 @@ use Rattle.mega_cause_laws.proofs.of_run_laws.Standing.{Good}
 use Rattle.mega_cause_laws.proofs.of_run_laws.Stepping.{OtherThan}
 use Rattle.mega_cause_laws.proofs.of_run_laws.Turns.{Held, IsRising, each_on, each_zip, other_number}
 use Rattle.mega_cause_laws.proofs.of_run_laws.Written.{Unproposed}
+use Rattle.mega_cause_laws.proofs.of_run_laws.Whole.{in_left}
 use Rattle.mega_answer_laws.proofs.Acts.{AllActed, AtOnce, Began, Never, Opens, Outs, Spoken as SpokenIn, acted, all_heard, all_ticked, answered, begun_as, found_applied, found_globally, found_stored, read_applied, read_stored, refreshed, refused}
 use Rattle.mega_answer_laws.proofs.Reasons.{IsMet, Within}
 use Rattle.mega_answer_laws.specs.Answered.{is_placing}
@@ -76,7 +77,7 @@ use Rattle.mega_answer_laws.proofs.Since.{Since, since_more, since_none}
 use Rattle.mega_answer_laws.proofs.Steps.{Amid, Caused, Fit, OfOp, OwnTold, Parts, applied_mid, beside_mid, caused_by, each_silent, final, knowing_mid, made, marks_base, mid, mid_view, node_end, others_end, silent, step_since}
 use Rattle.mega_answer_laws.proofs.Told.{NodeTold, NoteMarks, OpenOn, Spoken}
 use Rattle.mega_answer_laws.proofs.Views.{LeavesRest, Rest, View, next, one_told, rest_after, view}
-use Rattle.mega_answer_laws.proofs.Walk.{Acting, Kept, SaidBelow, Spoken as SpokenAt, ends_at, in_behind, in_front}
+use Rattle.mega_answer_laws.proofs.Walk.{Acting, Kept, SaidBelow, Spoken as SpokenAt, ends_at, in_behind}
 
 -- whoever uses a store so that texts mean their requests
 abbrev pub those_of : Usage → Users
@@ -420,7 +421,7 @@ module _ (c : Cluster) (usage : Usage) (h : Meanings) (now : Standing) (me : ℕ
         applied = applies_applied s (now.node me).met (now.node me).stored tick_acc.met tick_acc.stored;
         acting = tick_all.acting;
         more = λ rows group. portion_more s (now.node me).met (now.node me).stored group rows (told.stored group);
-        among = λ m i. in_front m (acquires_at c me (now.node me).met clock ++ tick_acc.sends) (background s (now.node me).met clock) (in_behind m (acquires_at c me (now.node me).met clock) tick_acc.sends i);
+        among = λ m i. in_left m (acquires_at c me (now.node me).met clock ++ tick_acc.sends) (background s (now.node me).met clock) (in_behind m (acquires_at c me (now.node me).met clock) tick_acc.sends i);
         marks = each_on (SaidBelow s tick_base tick_first TickOf TickSpoke Out tick_all.k) (NoteMarks tick_base) (marks_said s tick_base tick_first TickOf TickSpoke Out tick_all.k out_marks) tick_acc.answers tick_all.acting.answers;
         lawful = lawful;
         known = known;

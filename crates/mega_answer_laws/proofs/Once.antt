@@ -3,6 +3,8 @@ use Rattle.std.proofs.Common.{◌≡◌, ℕ, zero, suc, ◌+◌, ◌-◌, ◌�
 use Rattle.std.proofs.lemmas.Bool.Decides.{nat_tests}
 use Rattle.std.proofs.lemmas.List.{length-take, take-append-drop, take-append-le, take_all}
 use Rattle.std.specs.List.{cons_option}
+use Rattle.std.proofs.lemmas.Option.{same_Some}
+use Rattle.std.proofs.lemmas.Bool.{and_parts}
 use Rattle.mega_base.specs.declared.names.GroupId.{GroupId}
 use Rattle.mega_base.specs.declared.names.OpId.{OpId}
 use Rattle.mega_base.specs.declared.values.NodeKind.{NodeKind}
@@ -129,9 +131,6 @@ pub record Moment (c : Cluster) (me : ℕ) (node : Node) (base : List Met) (befo
   pub stored : (group : GroupId) → node.stored group ≤ length (writes_of (log_met node.met group))
   pub marks : Within base (refreshed_marks node.met)
 
-some_kind : {X : Type 0} (a b : X) → Some a ≡ Some b → a ≡ b
-some_kind a b h = cc
-
 at_last : (last b : ℕ) → nat_le (last - 1) b ≡ true → last ≤ b + 1
 at_last last b h = grind (arith, nat_tests)
 
@@ -144,12 +143,8 @@ there (node ∷ nodes) zero le h = cc
 there (node ∷ nodes) (suc k) le h = there nodes k (let more : suc (suc k) ≤ suc (length nodes) = le in omega (arith, more)) h
 
 node_place : (c : Cluster) (me : ℕ) → is_node c me ≡ true → suc (me - 1) ≤ length c.nodes
-node_place c me h = by (both (nat_le 1 me) (nat_le me (length c.nodes)) h)
+node_place c me h = by (and_parts (nat_le 1 me) (nat_le me (length c.nodes)) h)
   where
-    both : (a b : Bool) → (a && b) ≡ true → (a ≡ true) × (b ≡ true)
-    both true b k = (refl, k)
-    both false b k = cc
-
     by : (nat_le 1 me ≡ true) × (nat_le me (length c.nodes) ≡ true) → suc (me - 1) ≤ length c.nodes
     by k = let low = first k.0 in let high = last k.1 in omega (arith, low, high)
       where
@@ -192,19 +187,19 @@ module _ (c : Cluster) (h : Meanings) (me : ℕ) (node : Node) (text : List ℕ)
     busy_cause request answer is = by (nat_le 64 (length node.open_operations)) refl is
       where
         by : (t : Bool) → nat_le 64 (length node.open_operations) ≡ t → cond t (Some (Busy 64)) None ≡ Some answer → IsCause c h before id request answer
-        by true e k = subst (IsCause c h before id request) (some_kind (Busy 64) answer k)
+        by true e k = subst (IsCause c h before id request) (same_Some (Busy 64) answer k)
             (refl, subst (λ n. 64 + 1 ≤ length (open_on before n)) (sym is_mine) (let full = at_busy (length node.open_operations) e in let opens = m.opens in omega (arith, full, opens)))
         by false e k = absurd (let none : None ≡ Some answer = k in cc)
 
     missing_cause : (request : Request) (answer : Answer) (kind : Option NodeKind) → missing_kind request (kind_of c me) ≡ kind → unless_missing node.open_operations kind ≡ Some answer → IsCause c h before id request answer
     missing_cause request answer None e is = busy_cause request answer is
-    missing_cause request answer (Some kind) e is = subst (IsCause c h before id request) (some_kind (NotHere kind) answer is) (ap (λ n. missing_kind request (kind_of c n.0)) is_mine ∙ e)
+    missing_cause request answer (Some kind) e is = subst (IsCause c h before id request) (same_Some (NotHere kind) answer is) (ap (λ n. missing_kind request (kind_of c n.0)) is_mine ∙ e)
 
     refused_cause : (request : Request) (answer : Answer) → refusal s node request ≡ Some answer → IsCause c h before id request answer
     refused_cause request answer is = by (is_worn node.met) refl is
       where
         by : (t : Bool) → is_worn node.met ≡ t → cond t (Some Worn) (unless_missing node.open_operations (missing_kind request (kind_of c me))) ≡ Some answer → IsCause c h before id request answer
-        by true e k = subst (IsCause c h before id request) (some_kind Worn answer k)
+        by true e k = subst (IsCause c h before id request) (same_Some Worn answer k)
             (subst (λ n. last_number ≤ begun_on before n) (sym is_mine) (subst (λ n. last_number ≤ n) (sym m.begun) (at_last last_number (begun_of node.met) e)))
         by false e k = missing_cause request answer (missing_kind request (kind_of c me)) refl k
 

@@ -1,5 +1,6 @@
 -- Every run: each answer has its cause under the handlers of the event in which it is given.
 use Rattle.std.proofs.Common.{◌≡◌, ◌⊎◌, inl, inr, ℕ, zero, suc, ◌+◌, ◌==◌, ◌&&◌, ◌≤◌, Bool, true, false, not, cond, List, [], ◌∷◌, ◌++◌, flat_map, fold, Option, Some, None, refl, sym, ap, ◌∙◌, subst, arith}
+use Rattle.std.proofs.lemmas.Bool.{and_parts, not-false}
 use Rattle.mega_base.specs.declared.names.OpId.{OpId}
 use Rattle.mega_cluster.specs.declared.cluster.Cluster.{Cluster}
 use Rattle.mega_disk.specs.declared.pair.Device.TheVariants.{Log, Data}
@@ -29,7 +30,7 @@ use Rattle.mega_cause_laws.specs.of_run_laws.Usages.{Brought, Fits, IsMeant}
 use Rattle.mega_cause_laws.specs.of_run_laws.Justified.{Each, sent}
 use Rattle.mega_cause_laws.proofs.of_run_laws.Noted.{tape_item, with_append, with_sent}
 use Rattle.mega_cause_laws.proofs.of_run_laws.Owned.{KnowsAll}
-use Rattle.mega_cause_laws.proofs.of_run_laws.Runs.{begin_good, both_true, crashes_good, fated_start_good, found, handed_good, marked_good, not_because, not_false, nothing_good, start_good, tick_good}
+use Rattle.mega_cause_laws.proofs.of_run_laws.Runs.{begin_good, crashes_good, fated_start_good, found, handed_good, marked_good, not_because, nothing_good, start_good, tick_good}
 use Rattle.mega_cause_laws.proofs.of_run_laws.Standing.{Good}
 use Rattle.mega_cause_laws.proofs.of_run_laws.Stepping.{OtherThan}
 use Rattle.mega_answer_laws.specs.Answered.{IsAnswered}
@@ -187,11 +188,11 @@ module _ (c : Cluster) (usage : Usage) where
 
     delivered_proceeds : (now : Standing) (j : ℕ) (o : Option Message) → message_of now.tape j ≡ o → receiver_down now o ≡ false → IsGood now → AllTold c now → Proceeds h now (handed c h cuts now j o)
     delivered_proceeds now j None is down g t = proceeds_none now g t
-    delivered_proceeds now j (Some m) is down g t = handed_proceeds now j (Some m) is (not_false (up now m.to) down) g t
+    delivered_proceeds now j (Some m) is down g t = handed_proceeds now j (Some m) is (not-false (up now m.to) down) g t
 
     deliverable_proceeds : (now : Standing) (j : ℕ) → next_delivery (up now) now.tape ≡ Some j → IsGood now → AllTold c now → Proceeds h now (delivered c h cuts now j)
     deliverable_proceeds now j e g t = handed_proceeds now j (message_of now.tape j) refl
-        (both_true (not (is_taken now.tape j) && not (is_dropped now.tape j)) (receiver_up (up now) (message_of now.tape j)) (found (is_deliverable (up now) now.tape) _ j e)).1 g t
+        (and_parts (not (is_taken now.tape j) && not (is_dropped now.tape j)) (receiver_up (up now) (message_of now.tape j)) (found (is_deliverable (up now) now.tape) _ j e)).1 g t
 
     drained_proceeds : (most : ℕ) (now : Standing) → IsGood now → AllTold c now → Proceeds h now (drained c h cuts now most)
     drained_proceeds zero now g t = by (next_delivery (up now) now.tape)
@@ -221,7 +222,7 @@ module _ (c : Cluster) (usage : Usage) where
         fated_proceeds h now node.0 (TickItem (number node.0) clock) (Tick clock) g t
         (tick_own c usage h now node.0 g (t.nodes node.0) (set_at now.node node.0 (step (setting c h node.0) (now.node node.0) (Tick clock)).node) clock) (λ v x apart same. tt) (λ those. refl)
         (tick_told c usage h now node.0 g (t.nodes node.0) (set_at now.node node.0 (step (setting c h node.0) (now.node node.0) (Tick clock)).node) clock) [] _
-        (tick_good (those_of usage) c h (λ f. b) now node.0 clock (cuts now node.0) (not_false (up now node.0) third) g)
+        (tick_good (those_of usage) c h (λ f. b) now node.0 clock (cuts now node.0) (not-false (up now node.0) third) g)
     event_proceeds now (Deliver j) meant r g t =
         let second = (not_because (not (is_sent now.tape j)) 3 _ r).1 in let third = (not_because (is_dropped now.tape j) 4 _ second).1 in
         delivered_proceeds now j (message_of now.tape j) refl (not_because (receiver_down now (message_of now.tape j)) 1 None third).0 g t
@@ -246,10 +247,10 @@ module _ (c : Cluster) (usage : Usage) where
     event_proceeds now (BeginEvent node request text) meant r g t =
         let first_two = not_because (not (is_node c node.0)) 6 _ r in let third = (not_because (not (up now node.0)) 1 _ first_two.1).0 in
         fated_proceeds h now node.0 (BeginItem (op_of (setting c h node.0) (now.node node.0).met) text) (Begin request text) g t
-        (begin_own c usage h now node.0 g (t.nodes node.0) (set_at now.node node.0 (step (setting c h node.0) (now.node node.0) (Begin request text)).node) request text (not_false (is_node c node.0) first_two.0) meant)
+        (begin_own c usage h now node.0 g (t.nodes node.0) (set_at now.node node.0 (step (setting c h node.0) (now.node node.0) (Begin request text)).node) request text (not-false (is_node c node.0) first_two.0) meant)
         (λ v x apart same. other_node (op_of (setting c h node.0) (now.node node.0).met) x (subst (λ w. (node.0 == w) ≡ false) (sym same) apart)) (λ those. refl)
-        (begin_told c usage h now node.0 g (t.nodes node.0) (set_at now.node node.0 (step (setting c h node.0) (now.node node.0) (Begin request text)).node) request text (not_false (is_node c node.0) first_two.0) meant) [] _
-        (begin_good (those_of usage) c h (λ f. b) now node.0 request text (cuts now node.0) (λ f. meant) (not_false (up now node.0) third) g)
+        (begin_told c usage h now node.0 g (t.nodes node.0) (set_at now.node node.0 (step (setting c h node.0) (now.node node.0) (Begin request text)).node) request text (not-false (is_node c node.0) first_two.0) meant) [] _
+        (begin_good (those_of usage) c h (λ f. b) now node.0 request text (cuts now node.0) (λ f. meant) (not-false (up now node.0) third) g)
 
 -- ---- runs
 

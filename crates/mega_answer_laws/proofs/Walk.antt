@@ -51,6 +51,7 @@ use Rattle.mega_node_laws.proofs.Logs.{same_more}
 use Rattle.mega_cause_laws.specs.of_run_laws.of_tape_laws.Places.{In}
 use Rattle.mega_cause_laws.specs.of_run_laws.Justified.{Each}
 use Rattle.mega_cause_laws.proofs.of_run_laws.Turns.{IsApart, each_on, each_push, other_number}
+use Rattle.mega_cause_laws.proofs.of_run_laws.Whole.{in_left}
 use Rattle.mega_answer_laws.proofs.Reasons.{At, FullAt, IsMet, IsSound, SoundPromise, SoundReads}
 use Rattle.mega_answer_laws.proofs.Nothing.{nothing_to_enter, nothing_to_handle}
 
@@ -59,11 +60,6 @@ use Rattle.mega_answer_laws.proofs.Nothing.{nothing_to_enter, nothing_to_handle}
 pub each_both : {X : Type 0} (P : X → Type 0) (xs ys : List X) → Each P xs → Each P ys → Each P (xs ++ ys)
 each_both P [] ys h k = k
 each_both P (x ∷ xs) ys h k = (h.0, each_both P xs ys h.1 k)
-
-pub in_front : {X : Type 0} (x : X) (xs ys : List X) → In x xs → In x (xs ++ ys)
-in_front x [] ys i = absurd i
-in_front x (y ∷ xs) ys (inl same) = inl same
-in_front x (y ∷ xs) ys (inr i) = inr (in_front x xs ys i)
 
 pub in_behind : {X : Type 0} (x : X) (xs ys : List X) → In x ys → In x (xs ++ ys)
 in_behind x [] ys i = i
@@ -96,7 +92,7 @@ pub record Says (sends : List Message) (op : OpId) : Type 0 where
   pub among : In (record { from = op.node.0; to = to; body = Accept op group n zero_ballot own }) sends
 
 says_more : (sends more : List Message) (op : OpId) → Says sends op → Says (sends ++ more) op
-says_more sends more op h = record { to = h.to; group = h.group; n = h.n; own = h.own; is_own = h.is_own; among = in_front _ sends more h.among }
+says_more sends more op h = record { to = h.to; group = h.group; n = h.n; own = h.own; is_own = h.is_own; among = in_left _ sends more h.among }
 
 handled_id : (s : Setting) (op : OpId) (group : GroupId) (message : Enter) (rows : Listed) → (handling s op group message rows).id ≡ Some op
 handled_id s op group message rows = by (nat_lt most_bytes (length (entry_text (entry_handling op message.name effect))))

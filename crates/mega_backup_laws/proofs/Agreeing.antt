@@ -1,5 +1,5 @@
 -- Rows that are kept and agree under row keys agree everywhere; so what is restored is what was there.
-use Rattle.std.proofs.Common.{◌≡◌, ℕ, ◌≤◌, cond, Bool, true, false, nat_le, List, [], length, take, refl, sym, ap, ◌∙◌, subst, Option, Some, None, Result, Ok, Err}
+use Rattle.std.proofs.Common.{◌≡◌, ℕ, cond, Bool, true, false, nat_le, List, [], length, take, refl, sym, ap, ◌∙◌, subst, Option, Some, None, Result, Ok, Err}
 use Rattle.mega_base.specs.declared.names.GroupId.{GroupId}
 use Rattle.mega_base.specs.declared.values.Row.{Row}
 use Rattle.mega_entry.specs.declared.content.Content.{Content}
@@ -11,7 +11,6 @@ use Rattle.mega_index.specs.Cells.{key_values}
 use Rattle.mega_index.specs.Fits.{numbered}
 use Rattle.mega_index.specs.Fitted.{table_of}
 use Rattle.mega_outcome.specs.declared.transaction.Transaction.{Transaction}
-use Rattle.mega_outcome.specs.Outcome.{first_change}
 use Rattle.mega_transcript.specs.declared.item.Item.{Item}
 use Rattle.mega_promises.specs.Promises.{log_of}
 use Rattle.mega_tape_laws.specs.Writes.{LawfulWrites, Usage}
@@ -19,8 +18,8 @@ use Rattle.mega_tape_laws.specs.Indexed.{AllPutValues, AskValues, IsDeclared, Pu
 use Rattle.mega_tape_laws.proofs.Placed.{Ascends, after-ascends, after_is}
 use Rattle.mega_tape_laws.proofs.RowKeys.{Standing, OfTable, of_table}
 use Rattle.mega_tape_laws.proofs.IndexKept.{Kept, Owner}
-use Rattle.mega_tape_laws.proofs.IndexSteps.{changes_kept, fitted_kept}
-use Rattle.mega_tape_laws.proofs.LogSteps.{Keeps, log_keeps}
+use Rattle.mega_tape_laws.proofs.LogSteps.{log_keeps}
+use Rattle.mega_tape_laws.proofs.IndexLogs.{kept_keeps, none_kept}
 use Rattle.mega_backup.specs.declared.fault.BackupFault.TheVariants.{Short}
 use Rattle.mega_backup.specs.declared.reading.Backup.{Backup}
 use Rattle.mega_backup.specs.Lines.{backup_in}
@@ -28,22 +27,6 @@ use Rattle.mega_backup.specs.Restoring.{from_backup, puts_of, read_of, restored,
 use Rattle.mega_backup_laws.specs.Made.{AreMade}
 use Rattle.mega_backup_laws.proofs.Making.{entries_kept}
 use Rattle.mega_backup_laws.proofs.Chains.{or_old, Chain, chain}
-
-none_kept : (s : Schema) (group : List ℕ) → Kept s group no_rows
-none_kept s group = record {
-  fit = λ at n t row h g none. absurd (cc);
-  have = λ key stored h owner. (let none = owner.stands in absurd (cc));
-  only = λ key stored h none. absurd (cc);
-}
-
-kept_keeps : (s : Schema) → length s.tables ≤ 64 → (group : List ℕ) → Keeps s group (Kept s group) (λ (t : Transaction). PutValues t.writes) AllPutValues
-kept_keeps s most group = record {
-  none = none_kept s group;
-  first = λ t ts held. held.0;
-  others = λ t ts held. held.1;
-  changes = λ rows kept t held writes comes. changes_kept s most group rows kept (first_change t) t.writes writes held comes;
-  fitted = λ rows seen kept writes agree. fitted_kept s most group writes rows seen kept agree;
-}
 
 -- each entry stands where its row stands
 moved_owner : (s : Schema) (group : List ℕ) (one two : Rows) → ((at : List ℕ) (n : ℕ) → table_of s group at ≡ Some n → one at ≡ two at) → (key : List ℕ) (stored : Row) → Owner s group one key stored → Owner s group two key stored

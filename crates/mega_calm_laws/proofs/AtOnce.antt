@@ -33,12 +33,12 @@ use Rattle.mega_calm_laws.specs.Proposed.{Asked, IsProposedAlone, asks_leader}
 use Rattle.mega_calm_laws.specs.Waiting.{IsNumbered}
 use Rattle.mega_leased_laws.specs.of_run_laws.Justified.{Each}
 use Rattle.mega_calm_laws.proofs.Mail.{Among, Mailed, mailed_plain, mailed_step, none_gone, number_is, number_self}
-use Rattle.mega_calm_laws.proofs.Noting.{onto_append}
 use Rattle.mega_calm_laws.proofs.Draining.{IsUnfused, at_node_whole, unfused_after}
 use Rattle.mega_calm_laws.proofs.Prefixes.{behind_prefix}
 use Rattle.mega_calm_laws.proofs.Voting.{IsBland, NodeOn, applies_bland, bland_onto, node_then}
 use Rattle.mega_calm_laws.proofs.Beginning.{full_node, none_waits_yet}
 use Rattle.mega_calm_laws.proofs.Proposed.{proposal_committed, proposal_decided}
+use Rattle.mega_leased_laws.proofs.of_run_laws.Events.{onto_append}
 
 -- ---- a log with one thing more met
 

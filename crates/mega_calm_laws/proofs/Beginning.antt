@@ -2,6 +2,7 @@
 use Rattle.std.proofs.Common.{◌≡◌, inl, inr, ℕ, ◌+◌, ◌&&◌, ◌||◌, ◌≤◌, nat_le, Bool, true, false, cond, option_map, List, [], ◌∷◌, ◌++◌, length, map, Option, Some, None, is_some, Result, Ok, Err, refl, sym, ap, ◌∙◌, subst, arith}
 use Rattle.std.specs.Prelude.{IsSome}
 use Rattle.std.proofs.lemmas.Bool.Decides.{nat_tests}
+use Rattle.std.proofs.lemmas.Bool.{and_parts}
 use Rattle.mega_base.specs.declared.names.Epoch.{Epoch}
 use Rattle.mega_base.specs.declared.names.GroupId.{GroupId}
 use Rattle.mega_base.specs.declared.names.OpId.{OpId}
@@ -50,9 +51,9 @@ use Rattle.mega_calm_laws.specs.Answered.{AllWaited, IsRead, IsReadOrAwaits, all
 use Rattle.mega_calm_laws.specs.Stocked.{IsStocked}
 use Rattle.mega_calm_laws.specs.Waiting.{IsNumbered, Waits}
 use Rattle.mega_leased_laws.specs.of_run_laws.Justified.{Each}
-use Rattle.mega_leased_laws.proofs.of_run_laws.Events.{each_append as each_both}
+use Rattle.mega_leased_laws.proofs.of_run_laws.Events.{each_append as each_both, onto_append}
 use Rattle.mega_calm_laws.proofs.Mail.{Among, Mailed, among_right, answer_stands, mailed_plain, mailed_step, none_gone}
-use Rattle.mega_calm_laws.proofs.Noting.{DecidesMore, IsNoVote, IsStill, SameLogs, applies_still, logs_then, onto_append, same_decides, sends_still, still_onto, still_one}
+use Rattle.mega_calm_laws.proofs.Noting.{DecidesMore, IsNoVote, IsStill, SameLogs, applies_still, logs_then, same_decides, sends_still, still_onto, still_one}
 use Rattle.mega_calm_laws.proofs.Draining.{Ends, IsNext, at_node_whole, delivers, drain_ends, none_waits}
 use Rattle.mega_calm_laws.proofs.Prefixes.{behind_prefix}
 use Rattle.mega_calm_laws.proofs.Polls.{among_voters, voter_of}
@@ -100,18 +101,14 @@ full_kind (Some Witness) h = cc
 full_kind (Some ReadOnly) h = cc
 full_kind None h = cc
 
-both_true : (a b : Bool) → (a && b) ≡ true → (a ≡ true) × (b ≡ true)
-both_true true b h = (refl, h)
-both_true false b h = cc
-
 full_is : (c : Cluster) (me : ℕ) → is_full c me ≡ true → kind_of c me ≡ Some Full
-full_is c me h = full_kind (kind_of c me) (both_true (is_node c me) (runs (kind_of c me)) h).1
+full_is c me h = full_kind (kind_of c me) (and_parts (is_node c me) (runs (kind_of c me)) h).1
 
 pub full_votes : (c : Cluster) (me : ℕ) → is_full c me ≡ true → is_voter c me ≡ true
-full_votes c me h = ap (λ o. is_node c me && votes o) (full_is c me h) ∙ (ap (λ t. t && true) (both_true (is_node c me) (runs (kind_of c me)) h).0)
+full_votes c me h = ap (λ o. is_node c me && votes o) (full_is c me h) ∙ (ap (λ t. t && true) (and_parts (is_node c me) (runs (kind_of c me)) h).0)
 
 pub full_node : (c : Cluster) (me : ℕ) → is_full c me ≡ true → is_node c me ≡ true
-full_node c me h = (both_true (is_node c me) (runs (kind_of c me)) h).0
+full_node c me h = (and_parts (is_node c me) (runs (kind_of c me)) h).0
 
 pub not_refused : (s : Setting) (node : Node) (request : Request) → is_full s.cluster s.me ≡ true → is_worn node.met ≡ false → node.open_operations ≡ [] → refusal s node request ≡ None
 not_refused s node request full worn none =
@@ -251,7 +248,7 @@ module _ (c : Cluster) (h : Meanings) (cuts : Cuts) (now : Standing) (me : ℕ) 
   member = full_votes c me full
 
   is_there : is_node c me ≡ true
-  is_there = (both_true (is_node c me) (runs (kind_of c me)) full).0
+  is_there = (and_parts (is_node c me) (runs (kind_of c me)) full).0
 
   worn : is_worn (now.node me).met ≡ false
   worn = calm.not_worn me is_there

@@ -42,10 +42,10 @@ use Rattle.mega_calm_laws.proofs.Beginning.{full_node, full_votes, none_waits_ye
 use Rattle.mega_calm_laws.proofs.Heard.{among_map, each_map}
 use Rattle.mega_calm_laws.proofs.Draining.{Ends, IsUnfused, at_node_whole, drain_ends, none_waits}
 use Rattle.mega_leased_laws.specs.of_run_laws.Justified.{Each}
-use Rattle.mega_leased_laws.proofs.of_run_laws.Events.{each_append as each_both}
+use Rattle.mega_leased_laws.proofs.of_run_laws.Events.{each_append as each_both, onto_append}
 use Rattle.mega_calm_laws.proofs.Mail.{Among, Mailed, among_left, mailed_plain, mailed_step, none_gone}
 use Rattle.mega_calm_laws.proofs.Majorities.{some_pass}
-use Rattle.mega_calm_laws.proofs.Noting.{IsStill, SameLogs, applies_still, logs_then, onto_append, sends_still, still_onto}
+use Rattle.mega_calm_laws.proofs.Noting.{IsStill, SameLogs, applies_still, logs_then, sends_still, still_onto}
 use Rattle.mega_calm_laws.proofs.Polls.{among_voters, voter_is_node, voter_of}
 use Rattle.mega_calm_laws.proofs.Proposing.{Finished, Fits as ProposalFits, Next as ProposalNext, asks_vote, ends_finished, is_stale, takes_next, tells_vote}
 use Rattle.mega_calm_laws.proofs.Reaching.{Around, Comes, FinishesSo, awaits, helped, me_comes, receives, takes_on}

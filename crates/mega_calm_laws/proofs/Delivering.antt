@@ -2,6 +2,8 @@
 use Rattle.std.proofs.Common.{◌≡◌, ◌⊎◌, inl, inr, ℕ, suc, ◌+◌, ◌==◌, ◌&&◌, ◌||◌, ◌≤◌, ◌<◌, max, nat_le, Bool, true, false, not, cond, List, [], ◌∷◌, ◌++◌, length, Option, Some, None, refl, sym, ap, ◌∙◌, subst, arith}
 use Rattle.std.specs.List.{list_all}
 use Rattle.std.proofs.lemmas.Bool.Decides.{nat_tests}
+use Rattle.std.proofs.lemmas.Bool.{and_parts}
+use Rattle.std.proofs.lemmas.Option.{same_Some}
 use Rattle.mega_base.specs.declared.names.Epoch.{Epoch}
 use Rattle.mega_base.specs.declared.names.GroupId.{GroupId}
 use Rattle.mega_cluster.specs.declared.cluster.Cluster.{Cluster}
@@ -42,8 +44,10 @@ use Rattle.mega_leased_laws.specs.of_run_laws.of_tape_laws.of_promises.Runs.{Sta
 use Rattle.mega_calm_laws.specs.Waiting.{IsAwaited, IsNumbered, Waits}
 use Rattle.mega_leased_laws.specs.of_run_laws.Justified.{Each}
 use Rattle.mega_leased_laws.proofs.of_run_laws.Events.{each_append as each_both}
-use Rattle.mega_calm_laws.proofs.Mail.{Among, Mailed, among_left, among_right, answer_stands, mailed_step, mailed_taken, number_is, number_self, some_is}
-use Rattle.mega_calm_laws.proofs.Heard.{among_map, each_map, from_with, has_both, has_last, is_first}
+use Rattle.mega_leased_laws.proofs.of_run_laws.Counted.{push_has, push_last}
+use Rattle.mega_leased_laws.proofs.of_settled_laws.Rounds.{with_has}
+use Rattle.mega_calm_laws.proofs.Mail.{Among, Mailed, among_left, among_right, answer_stands, mailed_step, mailed_taken, number_is, number_self}
+use Rattle.mega_calm_laws.proofs.Heard.{among_map, each_map, is_first}
 use Rattle.mega_calm_laws.proofs.MessageKinds.{clash, kind_of_message, place_in}
 use Rattle.mega_calm_laws.proofs.Noting.{DecidesMore, HasEntry, SameLogs, below_top, decides_then, decision_has, decision_more, same_decides, same_logs, still_one}
 use Rattle.mega_calm_laws.proofs.Prefixes.{behind_prefix}
@@ -93,7 +97,7 @@ module _ (c : Cluster) (me start nth : ℕ) (g : GroupId) (member : is_voter c m
     awaited_on x a = by (j == a.number) refl
       where
         by : (t : Bool) → (j == a.number) ≡ t → (x ≡ m) ⊎ IsAwaited (after now v j made).tape x
-        by true e = inl (some_is x m (sym (a.waits).sent ∙ (ap (message_of now.tape) (sym (number_is j a.number e)) ∙ w.sent)))
+        by true e = inl (same_Some x m (sym (a.waits).sent ∙ (ap (message_of now.tape) (sym (number_is j a.number e)) ∙ w.sent)))
         by false e = inr (record { number = a.number; waits = mailed.keeps a.number x e a.waits })
 
   -- ---- what the read waits for, on
@@ -313,7 +317,7 @@ module _ (c : Cluster) (me start nth : ℕ) (g : GroupId) (member : is_voter c m
         → (through position at : ℕ) (denials : List ℕ) → n ≡ position → FetchOk c me start nth g now.node now.tape through position denials → IsSought c me start nth g now.node through position
         → FetchOk c me start nth g nodes tape through position (with_node v denials)
     denied_ready v n on apart none through position at denials is ok sought = fetch_on now nodes tape logs (have_not_from c me start nth g v n) on through position denials (with_node v denials)
-        (λ u there. elim (from_with v u denials there) [
+        (λ u there. elim (with_has v u denials there) [
           | inl before ↦ inl before
           | inr same ↦ inr (subst (λ x. ((x == me) ≡ false) × (decided (now.node x).met g position ≡ None)) same (apart, subst (λ k. decided (now.node v).met g k ≡ None) is none))
         ])
@@ -604,7 +608,7 @@ module _ (c : Cluster) (me start nth : ℕ) (g : GroupId) (member : is_voter c m
       polling_case asked heard best at opens ready false false is_heard is_most =
           me_asking now j v body tt w a.around [] refl tt none_fit asked (Polling heard best at) (Polling (heard ++ v ∷ []) (max best p) at) opens
           (hears_top (clock_of (now.node me).met) v p asked heard best at false false (heard_if v heard voter false is_heard) is_most) tt tt
-          (λ made logs on told. heard_ready now (set_at now.node me made.node) (after now me j made).tape logs v p on heard (heard ++ v ∷ []) best (max best p) (λ x there. has_both v x heard there) (has_last v heard) few ready
+          (λ made logs on told. heard_ready now (set_at now.node me made.node) (after now me j made).tape logs v p on heard (heard ++ v ∷ []) best (max best p) (λ x there. push_has v x heard there) (push_last v heard) few ready
           (stocked_on c me start nth g now.node (set_at now.node me made.node) logs (max best p) (most_of now.node best p ready.stock stock)))
         where
           few : is_majority (length (voters c)) (length (heard ++ v ∷ [])) ≡ false
@@ -697,10 +701,6 @@ module _ (c : Cluster) (me start nth : ℕ) (g : GroupId) (member : is_voter c m
 
   -- ---- a denial
 
-  both_tests : (a b : Bool) → (a && b) ≡ true → (a ≡ true) × (b ≡ true)
-  both_tests true b k = (refl, k)
-  both_tests false b k = cc
-
   take_none : (now : Standing) → AloneAt now → (j v n : ℕ) → (v == me) ≡ false → decided (now.node v).met g n ≡ None → Waits now.tape j (have_not_from c me start nth g v n)
       → AloneAt (after now me j (take_step (setting c h me) (now.node me) (have_not_from c me start nth g v n)))
   take_none now a j v n apart none w = by a.at
@@ -727,17 +727,17 @@ module _ (c : Cluster) (me start nth : ℕ) (g : GroupId) (member : is_voter c m
           (λ made logs on told. denied_ready now (set_at now.node me made.node) (after now me j made).tape logs v n on apart none through position at denials place ready sought)
         where
           place : n ≡ position
-          place = number_is n position ((both_tests (same_op (op c me start nth g) (op c me start nth g) && same_group g g) (n == position) ((both_tests (same_op (op c me start nth g) (op c me start nth g) && same_group g g && n == position) (has v (others me (voters c))) is_t).0)).1)
+          place = number_is n position ((and_parts (same_op (op c me start nth g) (op c me start nth g) && same_group g g) (n == position) ((and_parts (same_op (op c me start nth g) (op c me start nth g) && same_group g g && n == position) (has v (others me (voters c))) is_t).0)).1)
       fetching_case asked denials through position at opens ready sought true true is_t is_u = absurd (never (held.voter == me) refl)
         where
           place : n ≡ position
-          place = number_is n position ((both_tests (same_op (op c me start nth g) (op c me start nth g) && same_group g g) (n == position) ((both_tests (same_op (op c me start nth g) (op c me start nth g) && same_group g g && n == position) (has v (others me (voters c))) is_t).0)).1)
+          place = number_is n position ((and_parts (same_op (op c me start nth g) (op c me start nth g) && same_group g g) (n == position) ((and_parts (same_op (op c me start nth g) (op c me start nth g) && same_group g g && n == position) (has v (others me (voters c))) is_t).0)).1)
 
           held : Held c me start nth g now.node position
           held = ready.stock position sought.low sought.high
 
           denies : (u : ℕ) → has u (with_node v denials) ≡ true → decided (now.node u).met g position ≡ None
-          denies u there = elim (from_with v u denials there) [
+          denies u there = elim (with_has v u denials there) [
             | inl before ↦ (ready.denied u before).1
             | inr same ↦ subst (λ x. decided (now.node x).met g position ≡ None) same (subst (λ k. decided (now.node v).met g k ≡ None) place none)
           ]

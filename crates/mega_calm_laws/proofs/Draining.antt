@@ -2,6 +2,8 @@
 use Rattle.std.proofs.Common.{◌≡◌, ℕ, zero, suc, ◌+◌, ◌==◌, ◌&&◌, ◌≤◌, ◌<◌, Bool, true, false, not, cond, List, [], ◌∷◌, find, Option, Some, None, refl, sym, ap, ◌∙◌, subst, arith}
 use Rattle.std.specs.List.{range_with_len}
 use Rattle.std.proofs.lemmas.Bool.Decides.{nat_tests}
+use Rattle.std.proofs.lemmas.Bool.{and_parts, not-true}
+use Rattle.std.proofs.lemmas.Option.{same_Some}
 use Rattle.mega_cluster.specs.declared.cluster.Cluster.{Cluster}
 use Rattle.mega_handler.specs.Named.{Meanings}
 use Rattle.mega_wire.specs.declared.message.Message.{Message}
@@ -13,7 +15,8 @@ use Rattle.mega_leased_laws.specs.of_run_laws.of_tape_laws.of_promises.Calm.{is_
 use Rattle.mega_leased_laws.specs.of_run_laws.of_tape_laws.of_promises.Messages.{is_deliverable, is_dropped, message_of, next_delivery, receiver_up}
 use Rattle.mega_leased_laws.specs.of_run_laws.of_tape_laws.of_promises.Runs.{Calls, Cuts, CutByData, CutByLog, Fate, Fuse, Standing, Whole, AsItWas, Compacted, Recorded, after_append, appends, at_node, calls_of, delivered, drained, fated, handed, is_burning, marked, may_become, met_in, replies_in, setting, unless_none, up, whole_step}
 use Rattle.mega_calm_laws.specs.Waiting.{Waits}
-use Rattle.mega_calm_laws.proofs.Mail.{number_is, some_is}
+use Rattle.mega_calm_laws.proofs.Mail.{number_is}
+use Rattle.mega_leased_laws.proofs.of_run_laws.Runs.{found}
 
 -- ---- a step that no fuse cuts
 
@@ -73,20 +76,12 @@ unfused_after c now me own made other u v = record { no_log = by (me == other); 
 
 -- ---- a drain
 
-pub found : (test : ℕ → Bool) (xs : List ℕ) (j : ℕ) → find test xs ≡ Some j → test j ≡ true
-found test [] j h = cc
-found test (x ∷ xs) j h = go (test x) refl h (found test xs j)
-  where
-    go : (t : Bool) → test x ≡ t → cond t (Some x) (find test xs) ≡ Some j → (find test xs ≡ Some j → test j ≡ true) → test j ≡ true
-    go true e k again = subst (λ y. test y ≡ true) (some_is x j k) e
-    go false e k again = again k
-
 found_within : (test : ℕ → Bool) (base n j : ℕ) → find test (range_with_len base n) ≡ Some j → (base ≤ j) × (j < base + n)
 found_within test base zero j h = cc
 found_within test base (suc n) j h = go (test base) h (found_within test (base + 1) n j)
   where
     go : (t : Bool) → cond t (Some base) (find test (range_with_len (base + 1) n)) ≡ Some j → (find test (range_with_len (base + 1) n) ≡ Some j → (base + 1 ≤ j) × (j < base + 1 + n)) → (base ≤ j) × (j < base + suc n)
-    go true k again = let is = some_is base j k in (omega (arith, is), omega (arith, is))
+    go true k again = let is = same_Some base j k in (omega (arith, is), omega (arith, is))
     go false k again = let r = again k in let low = r.0 in let high = r.1 in (omega (arith, low), omega (arith, high))
 
 pub none_passes : (test : ℕ → Bool) (base n j : ℕ) → find test (range_with_len base n) ≡ None → base ≤ j → j < base + n → test j ≡ false
@@ -106,14 +101,6 @@ none_passes test base (suc n) j h low high = go (test base) refl h (none_passes 
     go true e k again = cc
     go false e k again = at (base == j) refl e k again
 
-both_true : (a b : Bool) → (a && b) ≡ true → (a ≡ true) × (b ≡ true)
-both_true true b h = (refl, h)
-both_true false b h = cc
-
-not_true : (t : Bool) → not t ≡ true → t ≡ false
-not_true true h = cc
-not_true false h = refl
-
 -- what is delivered next waits, at a receiver that is up
 pub record IsNext (now : Standing) (j : ℕ) : Type 0 where
   pub message : Message
@@ -127,10 +114,10 @@ next_waits now j h = go (message_of now.tape j) refl tests.1
     range = found_within (is_deliverable (up now) now.tape) 1 (sent_count now.tape) j h
 
     tests : ((not (is_taken now.tape j) && not (is_dropped now.tape j)) ≡ true) × (receiver_up (up now) (message_of now.tape j) ≡ true)
-    tests = both_true (not (is_taken now.tape j) && not (is_dropped now.tape j)) (receiver_up (up now) (message_of now.tape j)) (found (is_deliverable (up now) now.tape) _ j h)
+    tests = and_parts (not (is_taken now.tape j) && not (is_dropped now.tape j)) (receiver_up (up now) (message_of now.tape j)) (found (is_deliverable (up now) now.tape) _ j h)
 
     open_tests : (not (is_taken now.tape j) ≡ true) × (not (is_dropped now.tape j) ≡ true)
-    open_tests = both_true (not (is_taken now.tape j)) (not (is_dropped now.tape j)) tests.0
+    open_tests = and_parts (not (is_taken now.tape j)) (not (is_dropped now.tape j)) tests.0
 
     go : (o : Option Message) → message_of now.tape j ≡ o → receiver_up (up now) o ≡ true → IsNext now j
     go None is r = cc
@@ -140,8 +127,8 @@ next_waits now j h = go (message_of now.tape j) refl tests.1
         above = range.0;
         within = (let less = range.1 in omega (arith, less));
         sent = is;
-        untaken = not_true (is_taken now.tape j) open_tests.0;
-        undropped = not_true (is_dropped now.tape j) open_tests.1;
+        untaken = not-true (is_taken now.tape j) open_tests.0;
+        undropped = not-true (is_dropped now.tape j) open_tests.1;
       };
       up = r;
     }

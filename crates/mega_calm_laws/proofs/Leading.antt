@@ -2,6 +2,8 @@
 use Rattle.std.proofs.Common.{◌≡◌, inl, inr, ℕ, zero, suc, ◌+◌, ◌-◌, ◌==◌, ◌&&◌, ◌≤◌, ◌<◌, nat_le, nat_lt, Bool, true, false, not, cond, List, [], ◌∷◌, ◌++◌, flat_map, fold, length, map, slice_get, Option, Some, None, refl, sym, ap, ◌∙◌, subst, arith}
 use Rattle.std.specs.List.{cons_option}
 use Rattle.std.proofs.lemmas.Bool.Decides.{nat_tests}
+use Rattle.std.proofs.lemmas.Bool.{and_parts, not-false}
+use Rattle.std.proofs.lemmas.Option.{same_Some}
 use Rattle.mega_base.specs.declared.names.GroupId.{GroupId}
 use Rattle.mega_base.specs.declared.names.NodeId.{NodeId}
 use Rattle.mega_base.specs.declared.names.OpId.{OpId}
@@ -46,19 +48,19 @@ use Rattle.mega_leased_laws.specs.of_run_laws.of_tape_laws.of_promises.of_rules.
 use Rattle.mega_leased_laws.specs.of_run_laws.of_tape_laws.of_promises.of_rules.Met.{Met, Begins, Crashes, Ticks}
 use Rattle.mega_leased_laws.specs.of_run_laws.of_tape_laws.of_promises.of_rules.Operations.{Node, Now, Operation, Setting}
 use Rattle.mega_leased_laws.specs.of_run_laws.of_tape_laws.of_promises.of_rules.Replies.{answer_to, fetched, reply_message, reply_to, where_served}
-use Rattle.mega_leased_laws.specs.of_run_laws.of_tape_laws.of_promises.of_rules.Steps.{Begin, Decision, Event, Heard, Step, Take, Tick, at_first, at_open, background, begin_step, begins, crashed, fetch_to, fetches_for, find_begins, first_settled, hears_message, if_new, is_current, is_worn, lapse_notes, lease_notes, local_find_begins, missing_kind, needs_full, new_operation, news, onto, op_of, portion_of, read_begins, refusal as begin_refusal, start, start_items, step, take_step, taken, tick_step, ticked, told_decision, told_notes, unless_missing, unless_refused}
+use Rattle.mega_leased_laws.specs.of_run_laws.of_tape_laws.of_promises.of_rules.Steps.{Begin, Decision, Event, Heard, Step, Take, Tick, at_first, at_open, background, begin_step, begins, crashed, fetch_to, fetches_for, find_begins, hears_message, if_new, is_current, is_worn, lapse_notes, lease_notes, local_find_begins, missing_kind, needs_full, new_operation, onto, op_of, portion_of, read_begins, refusal as begin_refusal, start, start_items, step, take_step, taken, tick_step, ticked, told_decision, told_notes, unless_missing, unless_refused}
 use Rattle.mega_leased_laws.specs.of_run_laws.of_tape_laws.of_promises.of_rules.Voting.{acts, promise_body, vote_body}
 use Rattle.mega_leased_laws.specs.of_run_laws.of_tape_laws.of_promises.Items.{number, numbered, shown}
 use Rattle.mega_leased_laws.specs.of_run_laws.of_tape_laws.of_promises.Messages.{is_deliverable, is_dropped, is_unsafe, message_of, next_delivery, receiver_up}
-use Rattle.mega_leased_laws.specs.of_run_laws.of_tape_laws.of_promises.Promises.{Stands, first_decided, log_from, log_of, then_more}
+use Rattle.mega_leased_laws.specs.of_run_laws.of_tape_laws.of_promises.Promises.{Stands, log_of}
 use Rattle.mega_leased_laws.specs.of_run_laws.of_tape_laws.of_promises.Runs.{CutByData, CutByLog, Cuts, Fate, Fuse, Happening, Standing, Whole, after_event, breaks, calls_of, delivered, drained, fate_by, fated, fated_start, goes_on, handed, marked, met_in, new_fuse, nothing_yet, opening, receiver_down, refusal, replies_in, set_at, setting, start_calls, unless_none, unless_refused as unless_refused_event, up, whole_step, with_item, with_items}
 use Rattle.mega_leased_laws.specs.of_run_laws.Usages.{Brought, Fits as FitsUsage}
 use Rattle.mega_leased_laws.specs.of_run_laws.Justified.{Each, sent}
-use Rattle.mega_leased_laws.proofs.of_run_laws.Runs.{begin_good, both_true, crashes_good, fated_start_good, found, handed_good, marked_good, not_because, not_false, nothing_good, run_written, tick_good}
+use Rattle.mega_leased_laws.proofs.of_run_laws.Runs.{begin_good, crashes_good, fated_start_good, found, handed_good, marked_good, not_because, nothing_good, run_written, tick_good}
 use Rattle.mega_leased_laws.proofs.of_run_laws.Standing.{Good}
 use Rattle.mega_leased_laws.proofs.of_run_laws.Steps.{begun_next, stands_sent}
 use Rattle.mega_leased_laws.proofs.of_run_laws.Ticking.{ticked_next}
-use Rattle.mega_leased_laws.proofs.of_run_laws.Whole.{take_next}
+use Rattle.mega_leased_laws.proofs.of_run_laws.Whole.{take_next, take_by}
 use Rattle.mega_leased_laws.specs.of_run_laws.of_tape_laws.Lawful.{message}
 use Rattle.mega_leased_laws.specs.of_run_laws.of_tape_laws.Places.{In, Place, Proposes, move_in, moves}
 use Rattle.mega_disk.specs.declared.pair.Device.TheVariants.{Log, Data}
@@ -77,11 +79,12 @@ use Rattle.mega_calm_laws.specs.Ready.{HasLeader, leader_behind}
 use Rattle.mega_calm_laws.proofs.Beginning.{full_votes}
 use Rattle.mega_leased_laws.proofs.of_run_laws.Shown.{IsPlain, notes_plain}
 use Rattle.mega_leased_laws.proofs.of_run_laws.Events.{each_append as each_both}
-use Rattle.mega_calm_laws.proofs.Mail.{Among, number_is, some_is}
+use Rattle.mega_calm_laws.proofs.Mail.{Among, number_is}
 use Rattle.mega_calm_laws.proofs.Polls.{among_voters, voter_of}
 use Rattle.mega_calm_laws.proofs.Standings.{anybody, run_good}
 use Rattle.mega_calm_laws.proofs.Stocking.{majority_voter, place}
 use Rattle.mega_calm_laws.proofs.Within.{run_in}
+use Rattle.mega_calm_laws.proofs.Readying.{log_has}
 
 -- ---- messages that propose nothing
 
@@ -228,10 +231,6 @@ module _ (s : Setting) (node : Node) (none : node.open_operations ≡ []) (other
         (subst (λ ms. AreMoveless ((ms ++ []) ++ background s node.met clock)) (sym (none_acquired clock)) (background_moveless clock));
   }
 
-  abbrev take_by : Message → List Heard → Option Decision → Step
-  take_by m ts (Some d) = taken s node m (told_notes s node.met m.from m.body) ts (if_new node.met (Some d)) (reply_to s.cluster s.me node.met m) []
-  take_by m ts None = taken s node m (told_notes s node.met m.from m.body) ts (if_new node.met (first_settled ts)) (reply_to s.cluster s.me node.met m) (news s (if_new node.met (first_settled ts)))
-
   taken_quiet : (m : Message) (d : Option Decision) → IsQuiet (taken s node m (told_notes s node.met m.from m.body) [] d (reply_to s.cluster s.me node.met m) [])
   taken_quiet m d = record {
     none_open = refl;
@@ -241,9 +240,9 @@ module _ (s : Setting) (node : Node) (none : node.open_operations ≡ []) (other
   take_quiet : (m : Message) → IsQuiet (take_step s node m)
   take_quiet m = by (told_decision m.body) (map (hears_message s (clock_of node.met) m) node.open_operations) (ap (map (hears_message s (clock_of node.met) m)) none)
     where
-      by : (o : Option Decision) (ts : List Heard) → ts ≡ [] → IsQuiet (take_by m ts o)
-      by (Some d) ts is = subst (λ those. IsQuiet (take_by m those (Some d))) (sym is) (taken_quiet m (if_new node.met (Some d)))
-      by None ts is = subst (λ those. IsQuiet (take_by m those None)) (sym is) (taken_quiet m None)
+      by : (o : Option Decision) (ts : List Heard) → ts ≡ [] → IsQuiet (take_by s node m ts o)
+      by (Some d) ts is = subst (λ those. IsQuiet (take_by s node m those (Some d))) (sym is) (taken_quiet m (if_new node.met (Some d)))
+      by None ts is = subst (λ those. IsQuiet (take_by s node m those None)) (sym is) (taken_quiet m None)
 
   -- ---- a request that begins
 
@@ -318,12 +317,8 @@ slice_some [] k less = absurd (omega (arith, less))
 slice_some (x ∷ xs) zero less = (x, refl)
 slice_some (x ∷ xs) (suc k) less = slice_some xs k (omega (arith, less))
 
-both_tests : (a b : Bool) → (a && b) ≡ true → (a ≡ true) × (b ≡ true)
-both_tests true b h = (refl, h)
-both_tests false b h = cc
-
 kind_there : (c : Cluster) (me : ℕ) → is_node c me ≡ true → (k : NodeKind) × (kind_of c me ≡ Some k)
-kind_there c me h = let r = both_tests (nat_le 1 me) (nat_le me (length c.nodes)) h in slice_some c.nodes (me - 1) (within me (length c.nodes) r.0 r.1)
+kind_there c me h = let r = and_parts (nat_le 1 me) (nat_le me (length c.nodes)) h in slice_some c.nodes (me - 1) (within me (length c.nodes) r.0 r.1)
   where
     within : (a b : ℕ) → nat_le 1 a ≡ true → nat_le a b ≡ true → a - 1 < b
     within a b low high = grind (arith, nat_tests)
@@ -451,11 +446,11 @@ module _ (c : Cluster) where
       go : (o : Option ℕ) → next_delivery (up now) now.tape ≡ o → ((j : ℕ) → Is (delivered c h cuts now j) → Is (drained c h cuts (delivered c h cuts now j) most)) → Is (unless_none now (λ j. drained c h cuts (delivered c h cuts now j) most) o)
       go None e more = i
       go (Some j) e more = more j (handed_is h cuts now j (message_of now.tape j) refl
-          (both_true (not (is_taken now.tape j) && not (is_dropped now.tape j)) (receiver_up (up now) (message_of now.tape j)) (found (is_deliverable (up now) now.tape) _ j e)).1 i)
+          (and_parts (not (is_taken now.tape j) && not (is_dropped now.tape j)) (receiver_up (up now) (message_of now.tape j)) (found (is_deliverable (up now) now.tape) _ j e)).1 i)
 
   delivered_is : (h : Meanings) (cuts : Cuts) (now : Standing) (j : ℕ) (o : Option Message) → message_of now.tape j ≡ o → receiver_down now o ≡ false → Is now → Is (handed c h cuts now j o)
   delivered_is h cuts now j None is r i = i
-  delivered_is h cuts now j (Some m) is r i = handed_is h cuts now j (Some m) is (not_false (up now m.to) r) i
+  delivered_is h cuts now j (Some m) is r i = handed_is h cuts now j (Some m) is (not-false (up now m.to) r) i
 
   crash_roled : (now : Standing) (me : ℕ) → Roled c now.tape now.node → Roled c (Crash (number me) ∷ now.tape) (set_at now.node me (crashed (now.node me)))
   crash_roled now me r = record { none_open = set_none now.node me (crashed (now.node me)) r.none_open (λ there other. refl); unmoved = λ x there other q. r.unmoved x there other q }
@@ -482,7 +477,7 @@ module _ (c : Cluster) where
 
   event_is : (h : Meanings) (cuts : Cuts) (now : Standing) (event : WorldEvent) → refusal c now event ≡ None → Is now → Is (after_event c h cuts now event)
   event_is h cuts now (TickEvent node clock) r i =
-      let second = (not_because (not (is_node c node.0)) 6 _ r).1 in let third = (not_because (not (up now node.0)) 1 _ second).0 in let is_up_so = not_false (up now node.0) third in (
+      let second = (not_because (not (is_node c node.0)) 6 _ r).1 in let third = (not_because (not (up now node.0)) 1 _ second).0 in let is_up_so = not-false (up now node.0) third in (
         tick_good anybody c h (none_brought h) now node.0 clock (cuts now node.0) is_up_so i.0,
         fated_roled now h node.0 (TickItem (number node.0) clock) (Tick clock) (fate_by now node.0 (cuts now node.0) (calls_of c h now node.0 (Tick clock) (made_at now h node.0 (Tick clock)))) i.0 i.1 is_up_so refl (λ nodes'. refl),
       )
@@ -496,7 +491,7 @@ module _ (c : Cluster) where
   event_is h cuts now (FuseEvent node calls image Log) r i = (fused_good now (set_at now.log_fuse node.0 (new_fuse calls image)) now.data_fuse i.0, i.1)
   event_is h cuts now (FuseEvent node calls image Data) r i = (fused_good now now.log_fuse (set_at now.data_fuse node.0 (new_fuse calls image)) i.0, i.1)
   event_is h cuts now (BeginEvent node request text) r i =
-      let second = (not_because (not (is_node c node.0)) 6 _ r).1 in let third = (not_because (not (up now node.0)) 1 _ second).0 in let is_up_so = not_false (up now node.0) third in (
+      let second = (not_because (not (is_node c node.0)) 6 _ r).1 in let third = (not_because (not (up now node.0)) 1 _ second).0 in let is_up_so = not-false (up now node.0) third in (
         begin_good anybody c h (none_brought h) now node.0 request text (cuts now node.0) (λ f. absurd f) is_up_so i.0,
         fated_roled now h node.0 (BeginItem (op_of (setting c h node.0) (now.node node.0).met) text) (Begin request text)
             (fate_by now node.0 (cuts now node.0) (calls_of c h now node.0 (Begin request text) (made_at now h node.0 (Begin request text)))) i.0 i.1 is_up_so refl (λ nodes'. refl),
@@ -519,24 +514,6 @@ module _ (c : Cluster) where
 
 -- ---- the leader behind a log
 
--- what stands in the log is decided first
-log_at : (tape : List Item) (g : GroupId) (most n k : ℕ) → k < length (log_from tape g most n) → slice_get (log_from tape g most n) k ≡ first_decided tape g (n + k)
-log_at tape g zero n k less = absurd (omega (arith, less))
-log_at tape g (suc most) n k less = by (first_decided tape g n) refl k less (λ j. log_at tape g most (n + 1) j)
-  where
-    here : n ≡ n + 0
-    here = omega arith
-
-    next : (j : ℕ) → (n + 1) + j ≡ n + suc j
-    next j = omega arith
-
-    by : (o : Option Content) → first_decided tape g n ≡ o → (i : ℕ) → i < length (then_more o (log_from tape g most (n + 1)))
-        → ((j : ℕ) → j < length (log_from tape g most (n + 1)) → slice_get (log_from tape g most (n + 1)) j ≡ first_decided tape g ((n + 1) + j))
-        → slice_get (then_more (first_decided tape g n) (log_from tape g most (n + 1))) i ≡ first_decided tape g (n + i)
-    by None is i below again = absurd (omega (arith, below))
-    by (Some e) is zero below again = ap (λ o. slice_get (then_more o (log_from tape g most (n + 1))) 0) is ∙ (sym is ∙ ap (first_decided tape g) here)
-    by (Some e) is (suc j) below again = ap (λ o. slice_get (then_more o (log_from tape g most (n + 1))) (suc j)) is ∙ (again j (omega (arith, below)) ∙ ap (first_decided tape g) (next j))
-
 either_leads : (t : Bool) (a b : Content) (node : ℕ) → (a.leader).0 ≡ node → (b.leader).0 ≡ node → ((cond t a b).leader).0 ≡ node
 either_leads true a b node one other = one
 either_leads false a b node one other = other
@@ -554,7 +531,7 @@ leader_is {op = op} (handles one moment asked oldest is) = ap (λ (x : Content).
 
 lowest_votes : (c : Cluster) (vs : List ℕ) (v : ℕ) → ((u : ℕ) → Among u vs → is_voter c u ≡ true) → slice_get vs 0 ≡ Some v → is_voter c v ≡ true
 lowest_votes c [] v f h = cc
-lowest_votes c (x ∷ vs) v f h = f v (inl (some_is x v h))
+lowest_votes c (x ∷ vs) v f h = f v (inl (same_Some x v h))
 
 module _ (c : Cluster) (usage : Usage) (cuts : Cuts) (begun : Meanings) (events : List Happening) (fits : FitsUsage usage events) (cells : c.cells ≤ length c.nodes) where
   abbrev now : Standing
@@ -598,7 +575,7 @@ module _ (c : Cluster) (usage : Usage) (cuts : Cuts) (begun : Meanings) (events 
     where
       named : (last : ℕ) (e : Content) → slice_get (log_of now.tape g) last ≡ Some e → last < length (log_of now.tape g) → is_voter c (e.leader).0 ≡ true
       named last e is less =
-          let stood = first_stands now.tape g (record { 0 = 1 + last }) e (sym (log_at now.tape g (length now.tape) 1 last less) ∙ is) in names_voter stood.node g (1 + last) e stood.stands
+          let stood = first_stands now.tape g (record { 0 = 1 + last }) e (sym (log_has now.tape g (length now.tape) 1 last less) ∙ is) in names_voter stood.node g (1 + last) e stood.stands
 
       some_voter : (vs : List ℕ) → Among me vs → (v : ℕ) × (slice_get vs 0 ≡ Some v)
       some_voter [] i = absurd i

@@ -1,6 +1,8 @@
 -- What a step leaves of the messages that wait: the one that it takes waits no more, and those that it sends do.
 use Rattle.std.proofs.Common.{◌≡◌, ◌⊎◌, inl, inr, ℕ, ◌+◌, ◌==◌, ◌&&◌, ◌||◌, ◌≤◌, ◌<◌, Bool, true, false, not, cond, List, [], ◌∷◌, ◌++◌, flat_map, Some, refl, sym, ap, ◌∙◌, subst, arith}
 use Rattle.std.proofs.lemmas.Bool.Decides.{nat_tests}
+use Rattle.std.proofs.lemmas.Option.{same_Some}
+use Rattle.std.proofs.lemmas.Bool.{or_parts}
 use Rattle.mega_base.specs.declared.names.GroupId.{GroupId}
 use Rattle.mega_base.specs.declared.names.OpId.{OpId}
 use Rattle.mega_cluster.specs.declared.cluster.Cluster.{Cluster}
@@ -18,6 +20,7 @@ use Rattle.mega_leased_laws.specs.of_run_laws.of_tape_laws.of_promises.Promises.
 use Rattle.mega_leased_laws.specs.of_run_laws.of_tape_laws.of_promises.Runs.{breaks, with_item, with_items}
 use Rattle.mega_leased_laws.specs.of_run_laws.Justified.{Each}
 use Rattle.mega_leased_laws.proofs.of_run_laws.Shown.{IsPlain, notes_plain, shown_plain}
+use Rattle.mega_leased_laws.proofs.of_run_laws.Noted.{with_append}
 use Rattle.mega_calm_laws.specs.Waiting.{IsAwaited, IsNumbered, Waits}
 
 -- ---- lists
@@ -44,13 +47,6 @@ pub each_of : {X : Type 0} (P : X → Type 0) (x : X) (xs : List X) → Each P x
 each_of P x [] h i = absurd i
 each_of P x (y ∷ xs) h (inl e) = subst P e h.0
 each_of P x (y ∷ xs) h (inr i) = each_of P x xs h.1 i
-
-pub some_is : {X : Type 0} (x y : X) → Some x ≡ Some y → x ≡ y
-some_is x y h = cc
-
-pub either_false : (a b : Bool) → (a || b) ≡ false → (a ≡ false) × (b ≡ false)
-either_false true b h = cc
-either_false false b h = (refl, h)
 
 pub apart_above : (n k : ℕ) → k < n → (n == k) ≡ false
 apart_above n k less = grind (arith, nat_tests)
@@ -185,7 +181,7 @@ mailed_taken tape j one first n = record {
     untaken = ap (λ t. t || is_taken tape k) not_gone ∙ w.untaken;
     undropped = w.undropped;
   };
-  comes = λ k m w. let both = either_false (j == k) (is_taken tape k) w.untaken in inl (both.0, record { above = w.above; within = w.within; sent = w.sent; untaken = both.1; undropped = w.undropped });
+  comes = λ k m w. let both = or_parts (j == k) (is_taken tape k) w.untaken in inl (both.0, record { above = w.above; within = w.within; sent = w.sent; untaken = both.1; undropped = w.undropped });
   sends = λ m i. absurd i;
   numbered = record {
     untaken = λ k more. ap (λ t. t || is_taken tape k) (apart_below j k (let le = first.within in omega (arith, le, more))) ∙ n.untaken k more;
@@ -229,7 +225,7 @@ mailed_one tape n one is num = record {
     }
 
     by : (k : ℕ) (m : Message) → Waits (Sent n one ∷ tape) k m → (t : Bool) → (n == k) ≡ t → cond t (Some one) (message_of tape k) ≡ Some m → ((none_gone k ≡ false) × Waits tape k m) ⊎ Among m (one ∷ [])
-    by k m w true e sent = inr (inl (some_is one m sent))
+    by k m w true e sent = inr (inl (same_Some one m sent))
     by k m w false e sent = inl (refl, record { above = w.above; within = below_next n k (sent_count tape) is w.within e; sent = sent; untaken = w.untaken; undropped = w.undropped })
 
     at : (k : ℕ) → 1 ≤ k → k ≤ sent_count tape + 1 → (t : Bool) → (n == k) ≡ t → (m : Message) × (cond (n == k) (Some one) (message_of tape k) ≡ Some m)
@@ -244,10 +240,6 @@ mailed_sent c nodes (m ∷ ms) tape n is num =
     (mailed_sent c nodes ms (Sent n m ∷ tape) (n + 1) (ap (λ a. a + 1) is) first.numbered)
 
 -- ---- a step
-
-with_append : (c : Cluster) (nodes : ℕ → Node) (xs ys tape : List Item) → with_items c nodes tape (xs ++ ys) ≡ with_items c nodes (with_items c nodes tape xs) ys
-with_append c nodes [] ys tape = refl
-with_append c nodes (x ∷ xs) ys tape = with_append c nodes xs ys (with_item c nodes tape x)
 
 -- the event's own item, then what is noted, then what is sent
 pub mailed_step : (c : Cluster) (nodes : ℕ → Node) (me : ℕ) (tape : List Item) (own : Item) (gone : ℕ → Bool) (notes : List Met) (ms : List Message)
@@ -376,7 +368,7 @@ message_step c nodes me tape own notes ms plain same_own n k m is = elim (sent_f
     ]
       where
         first : (b : Bool) → cond b (Some y) (message_of t j) ≡ Some x → (message_of t j ≡ Some x) ⊎ ((y ≡ x) ⊎ Among x those)
-        first true early = inr (inl (some_is y x early))
+        first true early = inr (inl (same_Some y x early))
         first false early = inl early
 
 -- items that are no message leave the messages

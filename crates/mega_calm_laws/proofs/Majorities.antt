@@ -1,8 +1,9 @@
 -- Two majorities of the voters meet, where the one is a list in which each stands once.
 use Rattle.std.proofs.Common.{◌≡◌, ◌⊎◌, inl, inr, ℕ, suc, ◌+◌, ◌*◌, ◌==◌, ◌||◌, ◌≤◌, ◌<◌, nat_lt, Bool, true, false, not, cond, List, [], ◌∷◌, ◌++◌, filter, length, refl, sym, ap, ◌∙◌, subst, arith}
 use Rattle.std.proofs.lemmas.Bool.Decides.{nat_tests}
+use Rattle.std.proofs.lemmas.Bool.{or_parts}
 use Rattle.mega_leased_laws.specs.of_run_laws.of_tape_laws.of_promises.of_rules.of_read.of_propose.Members.{has, is_majority, others}
-use Rattle.mega_calm_laws.proofs.Mail.{Among, apart_turned, either_false, number_is, number_self}
+use Rattle.mega_calm_laws.proofs.Mail.{Among, apart_turned, number_is, number_self}
 use Rattle.mega_calm_laws.proofs.Polls.{among_filter}
 
 -- each stands in it once
@@ -21,11 +22,11 @@ among_has x (y ∷ ys) (inr i) = by (y == x) (among_has x ys i)
 
 last_has : (x v : ℕ) (xs : List ℕ) → has x xs ≡ false → (v == x) ≡ false → has x (xs ++ v ∷ []) ≡ false
 last_has x v [] h apart = ap (λ t. t || false) apart
-last_has x v (y ∷ ys) h apart = let r = either_false (y == x) (has x ys) h in ap (λ t. t || has x (ys ++ v ∷ [])) r.0 ∙ last_has x v ys r.1 apart
+last_has x v (y ∷ ys) h apart = let r = or_parts (y == x) (has x ys) h in ap (λ t. t || has x (ys ++ v ∷ [])) r.0 ∙ last_has x v ys r.1 apart
 
 pub distinct_last : (v : ℕ) (xs : List ℕ) → IsDistinct xs → has v xs ≡ false → IsDistinct (xs ++ v ∷ [])
 distinct_last v [] h none = (refl, tt)
-distinct_last v (x ∷ xs) h none = let r = either_false (x == v) (has v xs) none in (last_has x v xs h.0 (apart_turned x v r.0), distinct_last v xs h.1 r.1)
+distinct_last v (x ∷ xs) h none = let r = or_parts (x == v) (has v xs) none in (last_has x v xs h.0 (apart_turned x v r.0), distinct_last v xs h.1 r.1)
 
 at_most : (test : ℕ → Bool) (xs : List ℕ) → length (filter test xs) ≤ length xs
 at_most test [] = omega arith

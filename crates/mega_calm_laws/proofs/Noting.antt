@@ -1,5 +1,5 @@
 -- What a node notes and sends leaves what it decided and accepted as it was, but for a decision and an acceptance.
-use Rattle.std.proofs.Common.{◌≡◌, ◌⊎◌, inl, inr, ℕ, ◌==◌, ◌&&◌, ◌≤◌, ◌<◌, max, nat_lt, Bool, true, false, cond, List, [], ◌∷◌, ◌++◌, flat_map, map, Option, Some, None, is_none, refl, ap, ◌∙◌, subst, arith}
+use Rattle.std.proofs.Common.{◌≡◌, ◌⊎◌, inl, inr, ℕ, ◌==◌, ◌&&◌, ◌≤◌, ◌<◌, max, nat_lt, Bool, true, false, cond, List, [], ◌∷◌, flat_map, map, Option, Some, None, is_none, refl, ap, ◌∙◌, subst, arith}
 use Rattle.std.proofs.lemmas.Bool.Decides.{nat_tests}
 use Rattle.mega_base.specs.declared.names.GroupId.{GroupId}
 use Rattle.mega_entry.specs.declared.content.Content.{Content}
@@ -61,10 +61,6 @@ still_one _ met h = record { decided = λ g n. refl; top = λ g. refl; up = refl
 pub still_onto : (notes met : List Met) → Each IsStill notes → SameLogs met (onto notes met)
 still_onto [] met h = same_logs met
 still_onto (one ∷ notes) met h = logs_then met (one ∷ met) (onto notes (one ∷ met)) (still_one one met h.0) (still_onto notes (one ∷ met) h.1)
-
-pub onto_append : (xs ys met : List Met) → onto (xs ++ ys) met ≡ onto ys (onto xs met)
-onto_append [] ys met = refl
-onto_append (x ∷ xs) ys met = onto_append xs ys (x ∷ met)
 
 pub sends_still : (ms : List Message) → Each (λ (m : Message). IsNoVote m.body) ms → Each IsStill (map Sends ms)
 sends_still [] h = tt

@@ -1,6 +1,7 @@
 -- In every run messages have the numbers from 1 on, and only these are taken and dropped.
-use Rattle.std.proofs.Common.{◌≡◌, ℕ, zero, suc, ◌+◌, ◌&&◌, ◌≤◌, nat_le, Bool, true, false, not, List, [], ◌∷◌, flat_map, fold, Option, Some, None, refl, arith}
+use Rattle.std.proofs.Common.{◌≡◌, ℕ, zero, suc, ◌+◌, ◌≤◌, nat_le, true, not, List, [], ◌∷◌, flat_map, fold, Option, Some, None, refl, arith}
 use Rattle.std.proofs.lemmas.Bool.Decides.{nat_tests}
+use Rattle.std.proofs.lemmas.Bool.{not-false, and_parts}
 use Rattle.mega_cluster.specs.declared.cluster.Cluster.{Cluster}
 use Rattle.mega_disk.specs.declared.pair.Device.TheVariants.{Log, Data}
 use Rattle.mega_handler.specs.Named.{Meanings}
@@ -16,29 +17,18 @@ use Rattle.mega_leased_laws.specs.of_run_laws.of_tape_laws.of_promises.of_rules.
 use Rattle.mega_leased_laws.specs.of_run_laws.of_tape_laws.of_promises.of_rules.Steps.{Begin, Event, Step, Take, Tick, crashed, op_of, start, start_items, step}
 use Rattle.mega_leased_laws.specs.of_run_laws.of_tape_laws.of_promises.Items.{number, shown}
 use Rattle.mega_leased_laws.specs.of_run_laws.of_tape_laws.of_promises.Messages.{message_of, next_delivery}
-use Rattle.mega_leased_laws.specs.of_run_laws.of_tape_laws.of_promises.Runs.{Calls, Cuts, CutByData, CutByLog, Fate, Happening, Standing, Whole, after_event, at_node, because, calls_of, delivered, drained, fate_by, fated, fated_start, goes_on, handed, marked, met_in, nothing_yet, opening, refusal, replies_in, set_at, setting, start_calls, unless_none, unless_refused, up, with_item}
+use Rattle.mega_leased_laws.specs.of_run_laws.of_tape_laws.of_promises.Runs.{Calls, Cuts, CutByData, CutByLog, Fate, Happening, Standing, Whole, after_event, at_node, calls_of, delivered, drained, fate_by, fated, fated_start, goes_on, handed, marked, met_in, nothing_yet, opening, refusal, replies_in, set_at, setting, start_calls, unless_none, unless_refused, up, with_item}
 use Rattle.mega_calm_laws.specs.Waiting.{IsNumbered}
 use Rattle.mega_leased_laws.proofs.of_run_laws.Shown.{notes_plain}
+use Rattle.mega_leased_laws.proofs.of_run_laws.Runs.{not_because}
 use Rattle.mega_calm_laws.proofs.Mail.{none_numbered, numbered_cut, numbered_dropped, numbered_items, numbered_plain, numbered_step, numbered_taken}
 use Rattle.mega_calm_laws.proofs.Draining.{next_waits}
 
 abbrev pub IsNumberedAt : Standing → Type 0
 IsNumberedAt now = IsNumbered now.tape
 
-not_because : (t : Bool) (why : ℕ) (other : Option ℕ) → because t why other ≡ None → (t ≡ false) × (other ≡ None)
-not_because true why other h = cc
-not_because false why other h = (refl, h)
-
-not_false : (t : Bool) → not t ≡ false → t ≡ true
-not_false true h = refl
-not_false false h = cc
-
-both_true : (a b : Bool) → (a && b) ≡ true → (a ≡ true) × (b ≡ true)
-both_true true b h = (refl, h)
-both_true false b h = cc
-
 sent_within : (tape : List Item) (j : ℕ) → is_sent tape j ≡ true → j ≤ sent_count tape
-sent_within tape j h = most (both_true (nat_le 1 j) (nat_le j (sent_count tape)) h).1
+sent_within tape j h = most (and_parts (nat_le 1 j) (nat_le j (sent_count tape)) h).1
   where
     most : nat_le j (sent_count tape) ≡ true → j ≤ sent_count tape
     most e = grind (arith, nat_tests)
@@ -86,8 +76,8 @@ module _ (c : Cluster) where
   event_numbered : (h : Meanings) (cuts : Cuts) (now : Standing) (event : WorldEvent) → refusal c now event ≡ None → IsNumberedAt now → IsNumberedAt (after_event c h cuts now event)
   event_numbered h cuts now (TickEvent node clock) r n = at_node_numbered h now node.0 (TickItem (number node.0) clock) (Tick clock) (cuts now node.0) (λ nodes'. refl) refl
       (numbered_plain (TickItem (number node.0) clock) now.tape tt n)
-  event_numbered h cuts now (Deliver j) r n = handed_numbered h cuts now j (message_of now.tape j) (sent_within now.tape j (not_false (is_sent now.tape j) (not_because (not (is_sent now.tape j)) 3 _ r).0)) n
-  event_numbered h cuts now (Drop j) r n = numbered_dropped j now.tape (sent_within now.tape j (not_false (is_sent now.tape j) (not_because (not (is_sent now.tape j)) 3 _ r).0)) n
+  event_numbered h cuts now (Deliver j) r n = handed_numbered h cuts now j (message_of now.tape j) (sent_within now.tape j (not-false (is_sent now.tape j) (not_because (not (is_sent now.tape j)) 3 _ r).0)) n
+  event_numbered h cuts now (Drop j) r n = numbered_dropped j now.tape (sent_within now.tape j (not-false (is_sent now.tape j) (not_because (not (is_sent now.tape j)) 3 _ r).0)) n
   event_numbered h cuts now (Drain most) r n = drained_numbered h cuts most now n
   event_numbered h cuts now (CrashEvent node) r n = numbered_plain (Crash (number node.0)) now.tape tt n
   event_numbered h cuts now (StartEvent node) r n = started_numbered h now node.0 (fate_by now node.0 (cuts now node.0) (start_calls c node.0)) n

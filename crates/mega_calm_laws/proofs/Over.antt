@@ -27,10 +27,10 @@ use Rattle.mega_calm_laws.specs.Waiting.{IsNumbered, Waits}
 use Rattle.mega_leased_laws.specs.of_run_laws.Justified.{Each}
 use Rattle.mega_calm_laws.proofs.Mail.{apart_turned, Mailed, each_of, mailed_step, mailed_taken}
 use Rattle.mega_calm_laws.proofs.Draining.{IsUnfused, unfused_after}
-use Rattle.mega_calm_laws.proofs.Noting.{onto_append}
 use Rattle.mega_calm_laws.proofs.Reading.{append_none}
 use Rattle.mega_calm_laws.proofs.Stepping.{IsAsking, heard_by, message, takes_asking, takes_decide, takes_have}
 use Rattle.mega_calm_laws.proofs.Voting.{IsBland, NodeOn, applies_bland, bland_onto, decides_up, node_then, sends_leave}
+use Rattle.mega_leased_laws.proofs.of_run_laws.Events.{onto_append}
 
 -- ---- messages of which nothing comes but a reply
 

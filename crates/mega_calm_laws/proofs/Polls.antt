@@ -2,6 +2,7 @@
 use Rattle.std.proofs.Common.{◌≡◌, ◌⊎◌, inl, inr, ℕ, zero, suc, ◌+◌, ◌*◌, ◌==◌, ◌&&◌, ◌||◌, ◌≤◌, ◌<◌, nat_le, nat_lt, Bool, true, false, not, cond, List, [], ◌∷◌, filter, length, refl, sym, ap, ◌∙◌, subst, arith}
 use Rattle.std.specs.List.{list_all, list_any, range_with_len}
 use Rattle.std.proofs.lemmas.Bool.Decides.{nat_tests}
+use Rattle.std.proofs.lemmas.Bool.{and_parts, not_from_false, not-true, and_from}
 use Rattle.mega_cluster.specs.declared.cluster.Cluster.{Cluster}
 use Rattle.mega_leased_laws.specs.of_run_laws.of_tape_laws.of_promises.of_rules.of_read.of_propose.Members.{has, is_majority, others}
 use Rattle.mega_leased_laws.specs.of_run_laws.of_tape_laws.of_promises.of_rules.Members.{is_node, is_voter, kind_of, nodes, voters, votes}
@@ -58,18 +59,14 @@ all_among test x (y ∷ ys) h i = go (test y) refl h i (all_among test x ys)
     go true e k (inr later) again = again k later
     go false e k later again = cc
 
-both_true : (a b : Bool) → (a && b) ≡ true → (a ≡ true) × (b ≡ true)
-both_true true b h = (refl, h)
-both_true false b h = cc
-
 pub voter_is_node : (c : Cluster) (v : ℕ) → is_voter c v ≡ true → is_node c v ≡ true
-voter_is_node c v h = (both_true (is_node c v) (votes (kind_of c v)) h).0
+voter_is_node c v h = (and_parts (is_node c v) (votes (kind_of c v)) h).0
 
 pub among_voters : (c : Cluster) (v : ℕ) → is_voter c v ≡ true → Among v (voters c)
 among_voters c v h = among_filter (is_voter c) v (nodes c) h (among_range v 1 (length c.nodes) (low (both.0)) (high both.1))
   where
     both : (nat_le 1 v ≡ true) × (nat_le v (length c.nodes) ≡ true)
-    both = both_true (nat_le 1 v) (nat_le v (length c.nodes)) (voter_is_node c v h)
+    both = and_parts (nat_le 1 v) (nat_le v (length c.nodes)) (voter_is_node c v h)
 
     low : nat_le 1 v ≡ true → 1 ≤ v
     low e = grind (arith, nat_tests)
@@ -83,19 +80,11 @@ voter_of c v i = (from_filter (is_voter c) v (nodes c) i).0
 pub has_voter : (c : Cluster) (v : ℕ) → is_voter c v ≡ true → has v (voters c) ≡ true
 has_voter c v h = any_among (λ other. other == v) v (voters c) (among_voters c v h) (number_self v)
 
-not_false : (t : Bool) → t ≡ false → not t ≡ true
-not_false true h = cc
-not_false false h = refl
-
 pub among_others : (c : Cluster) (me v : ℕ) → is_voter c v ≡ true → (v == me) ≡ false → Among v (others me (voters c))
-among_others c me v h apart = among_filter (λ other. not (other == me)) v (voters c) (not_false (v == me) apart) (among_voters c v h)
-
-not_true : (t : Bool) → not t ≡ true → t ≡ false
-not_true true h = cc
-not_true false h = refl
+among_others c me v h apart = among_filter (λ other. not (other == me)) v (voters c) (not_from_false (v == me) apart) (among_voters c v h)
 
 pub other_voter : (c : Cluster) (me v : ℕ) → Among v (others me (voters c)) → (is_voter c v ≡ true) × ((v == me) ≡ false)
-other_voter c me v i = let r = from_filter (λ other. not (other == me)) v (voters c) i in (voter_of c v r.1, not_true (v == me) r.0)
+other_voter c me v i = let r = from_filter (λ other. not (other == me)) v (voters c) i in (voter_of c v r.1, not-true (v == me) r.0)
 
 -- where each voter was heard, a majority was
 pub all_heard : (c : Cluster) (heard : List ℕ) (me : ℕ) → is_voter c me ≡ true → ((v : ℕ) → is_voter c v ≡ true → has v heard ≡ true) → is_majority (length (voters c)) (length heard) ≡ true
@@ -125,7 +114,7 @@ from_range x base (suc n) (inl same) = (omega (arith, same), omega (arith, same)
 from_range x base (suc n) (inr i) = let r = from_range x (base + 1) n i in let low = r.0 in let high = r.1 in (omega (arith, low), omega (arith, high))
 
 pub node_among : (c : Cluster) (x : ℕ) → Among x (nodes c) → is_node c x ≡ true
-node_among c x i = both (nat_le 1 x) (nat_le x (length c.nodes)) (low range.0) (high range.1)
+node_among c x i = and_from (nat_le 1 x) (nat_le x (length c.nodes)) (low range.0) (high range.1)
   where
     range : (1 ≤ x) × (x < 1 + length c.nodes)
     range = from_range x 1 (length c.nodes) i
@@ -135,6 +124,3 @@ node_among c x i = both (nat_le 1 x) (nat_le x (length c.nodes)) (low range.0) (
 
     high : x < 1 + length c.nodes → nat_le x (length c.nodes) ≡ true
     high less = grind (arith, nat_tests)
-
-    both : (a b : Bool) → a ≡ true → b ≡ true → (a && b) ≡ true
-    both a b is_a is_b = ap (λ t. t && b) is_a ∙ is_b

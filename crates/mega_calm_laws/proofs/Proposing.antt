@@ -1,6 +1,8 @@
 -- One operation proposes its entry alone at a position of which nothing was accepted: each voter accepts it, and it is committed.
 use Rattle.std.proofs.Common.{◌≡◌, ◌⊎◌, inl, inr, ℕ, suc, ◌+◌, ◌==◌, ◌&&◌, ◌||◌, max, Bool, true, false, not, cond, List, [], ◌∷◌, ◌++◌, length, map, Option, Some, None, is_none, refl, sym, ap, ◌∙◌, subst, arith}
 use Rattle.std.specs.List.{list_all}
+use Rattle.std.proofs.lemmas.Bool.{and_parts}
+use Rattle.std.proofs.lemmas.Option.{same_Some}
 use Rattle.mega_base.specs.declared.names.GroupId.{GroupId}
 use Rattle.mega_base.specs.declared.names.OpId.{OpId}
 use Rattle.mega_base.specs.declared.names.Position.{Position}
@@ -43,12 +45,13 @@ use Rattle.mega_leased_laws.specs.of_run_laws.of_tape_laws.of_promises.Runs.{Cut
 use Rattle.mega_calm_laws.specs.Waiting.{IsAwaited, IsNumbered, Waits}
 use Rattle.mega_leased_laws.specs.of_run_laws.Justified.{Each}
 use Rattle.mega_leased_laws.proofs.of_run_laws.Events.{each_append as each_both}
-use Rattle.mega_calm_laws.proofs.Mail.{Among, Mailed, among_left, among_right, answer_stands, apart_turned, decision_stands, each_of, mailed_step, mailed_taken, number_is, number_self, some_is}
+use Rattle.mega_leased_laws.proofs.of_run_laws.Counted.{push_has, push_last}
+use Rattle.mega_calm_laws.proofs.Mail.{Among, Mailed, among_left, among_right, answer_stands, apart_turned, decision_stands, each_of, mailed_step, mailed_taken, number_is, number_self}
 use Rattle.mega_calm_laws.proofs.Draining.{Ends, IsUnfused, drain_ends, none_waits, unfused_after}
 use Rattle.mega_calm_laws.proofs.Polls.{all_heard, among_others, among_voters, from_filter, has_voter, node_among, other_voter, voter_is_node, voter_of}
 use Rattle.mega_calm_laws.proofs.Reading.{append_none}
 use Rattle.mega_calm_laws.proofs.Stepping.{IsAsking, heard_by, message, takes_asking, takes_have, told_asking}
-use Rattle.mega_calm_laws.proofs.Heard.{among_map, each_map, has_both, has_last}
+use Rattle.mega_calm_laws.proofs.Heard.{among_map, each_map}
 use Rattle.mega_calm_laws.proofs.MessageKinds.{clash}
 use Rattle.mega_calm_laws.proofs.Voting.{Clean, IsBland, IsNoAct, NodeOn, bland_onto, bland_sends, clean_accepts, decides_elsewhere, node_same, node_then, sends_leave, vote_made}
 use Rattle.mega_calm_laws.proofs.Over.{IsTame, Over, Tame, acted, base, begins, met_is, noted, noted_on, over_on, over_takes, stepped}
@@ -62,18 +65,14 @@ with_has v xs = by (has v xs) refl
   where
     by : (t : Bool) → has v xs ≡ t → has v (cond t xs (xs ++ v ∷ [])) ≡ true
     by true e = e
-    by false e = has_last v xs
+    by false e = push_last v xs
 
 with_more : (x v : ℕ) (xs : List ℕ) → has v xs ≡ true → has v (with_node x xs) ≡ true
 with_more x v xs h = by (has x xs)
   where
     by : (t : Bool) → has v (cond t xs (xs ++ x ∷ [])) ≡ true
     by true = h
-    by false = has_both x v xs h
-
-both_true : (a b : Bool) → (a && b) ≡ true → (a ≡ true) × (b ≡ true)
-both_true true b h = (refl, h)
-both_true false b h = cc
+    by false = push_has x v xs h
 
 all_true : (test : ℕ → Bool) (xs : List ℕ) → ((x : ℕ) → Among x xs → test x ≡ true) → list_all test xs ≡ true
 all_true test [] h = refl
@@ -231,7 +230,7 @@ module _ (c : Cluster) (me start nth : ℕ) (g : GroupId) (n : ℕ) (own : Conte
         apart : (b : Bool) → (same_group k g && p.0 == n) ≡ b → b ≡ false
         apart false same = refl
         apart true same =
-            let both = both_true (same_group k g) (p.0 == n) same in
+            let both = and_parts (same_group k g) (p.0 == n) same in
             let there_is = coe 0 1 (i. decided met (same_group_equal k g both.0 i) (number_is p.0 n both.1 i) ≡ Some e) is in
             let never = sym there_is ∙ none in cc
 
@@ -349,7 +348,7 @@ module _ (c : Cluster) (me start nth : ℕ) (g : GroupId) (n : ℕ) (own : Conte
     on x waiting = by (j == waiting.number) refl
       where
         by : (t : Bool) → (j == waiting.number) ≡ t → (x ≡ m) ⊎ IsAwaited (after now v j made).tape x
-        by true e = inl (some_is x m (sym (waiting.waits).sent ∙ (ap (message_of now.tape) (sym (number_is j waiting.number e)) ∙ w.sent)))
+        by true e = inl (same_Some x m (sym (waiting.waits).sent ∙ (ap (message_of now.tape) (sym (number_is j waiting.number e)) ∙ w.sent)))
         by false e = inr (record { number = waiting.number; waits = mail_of.keeps waiting.number x e waiting.waits })
 
     alone_on : Left v (now.node v).met (made.node).met → ((v == me) ≡ false → (made.node).open_operations ≡ []) → Each Fits made.sends → At (after now v j made) → Alone (after now v j made)

@@ -1,6 +1,7 @@
 -- A calm cluster falls quiet behind any request: its nodes stay up, and by the end of a drain that is not cut every message was taken or dropped.
-use Rattle.std.proofs.Common.{◌≡◌, ℕ, ◌==◌, ◌&&◌, ◌||◌, ◌≤◌, nat_le, Bool, true, false, cond, List, [], ◌∷◌, ◌++◌, length, map, Option, Some, None, refl, sym, ap, ◌∙◌, subst, arith}
+use Rattle.std.proofs.Common.{◌≡◌, ℕ, ◌==◌, ◌||◌, ◌≤◌, nat_le, Bool, true, false, cond, List, [], ◌∷◌, ◌++◌, length, map, Option, Some, None, refl, sym, ap, ◌∙◌, subst, arith}
 use Rattle.std.proofs.lemmas.Bool.Decides.{nat_tests}
+use Rattle.std.proofs.lemmas.Bool.{and_parts}
 use Rattle.mega_base.specs.declared.names.GroupId.{GroupId}
 use Rattle.mega_base.specs.declared.names.OpId.{OpId}
 use Rattle.mega_cluster.specs.declared.cluster.Cluster.{Cluster}
@@ -191,12 +192,8 @@ quiet_then c now ends k sent = by (is_taken now.tape k) refl (is_dropped now.tap
     high : nat_le k (sent_count now.tape) ≡ true → k ≤ sent_count now.tape
     high e = grind (arith, nat_tests)
 
-    both : (a b : Bool) → (a && b) ≡ true → (a ≡ true) × (b ≡ true)
-    both true b e = (refl, e)
-    both false b e = cc
-
     range : (nat_le 1 k ≡ true) × (nat_le k (sent_count now.tape) ≡ true)
-    range = both (nat_le 1 k) (nat_le k (sent_count now.tape)) sent
+    range = and_parts (nat_le 1 k) (nat_le k (sent_count now.tape)) sent
 
     m : (m : Message) × (message_of now.tape k ≡ Some m)
     m = ((ends.holds).numbered_so).there k (low range.0) (high range.1)

@@ -2,6 +2,8 @@
 use Rattle.std.proofs.Common.{◌≡◌, ◌⊎◌, inl, inr, ℕ, zero, suc, ◌+◌, ◌==◌, ◌&&◌, ◌||◌, ◌≤◌, ◌<◌, max, nat_le, Bool, true, false, not, cond, List, [], ◌∷◌, ◌++◌, filter, length, slice_get, take, Option, Some, None, refl, sym, ap, ◌∙◌, subst, arith}
 use Rattle.std.specs.List.{list_all}
 use Rattle.std.proofs.lemmas.Bool.Decides.{nat_tests}
+use Rattle.std.proofs.lemmas.Bool.{and_parts}
+use Rattle.std.proofs.lemmas.Option.{same_Some}
 use Rattle.mega_base.specs.declared.names.Epoch.{Epoch}
 use Rattle.mega_base.specs.declared.names.GroupId.{GroupId}
 use Rattle.mega_base.specs.declared.names.OpId.{OpId}
@@ -38,11 +40,13 @@ use Rattle.mega_leased_laws.specs.of_run_laws.of_tape_laws.of_promises.Runs.{Sta
 use Rattle.mega_calm_laws.specs.Ready.{leader_behind}
 use Rattle.mega_calm_laws.specs.Waiting.{IsAwaited, IsNumbered, Waits}
 use Rattle.mega_calm_laws.proofs.Alone.{Held, TopAwaited, fetch_at, have_from, have_not_from, op, top_from, where_to}
-use Rattle.mega_calm_laws.proofs.Heard.{among_map, each_map, from_last, from_with, has_both, has_last, is_first}
+use Rattle.mega_calm_laws.proofs.Heard.{among_map, each_map, is_first}
 use Rattle.mega_calm_laws.proofs.MessageKinds.{clash, kind_of_message, place_in}
 use Rattle.mega_leased_laws.specs.of_run_laws.Justified.{Each}
 use Rattle.mega_leased_laws.proofs.of_run_laws.Events.{each_append as each_both}
-use Rattle.mega_calm_laws.proofs.Mail.{Among, Mailed, among_left, among_parts, among_right, apart_below, each_of, mailed_step, mailed_taken, number_is, number_self, some_is}
+use Rattle.mega_leased_laws.proofs.of_run_laws.Counted.{has_push, push_has, push_last}
+use Rattle.mega_leased_laws.proofs.of_settled_laws.Rounds.{with_has}
+use Rattle.mega_calm_laws.proofs.Mail.{Among, Mailed, among_left, among_parts, among_right, apart_below, each_of, mailed_step, mailed_taken, number_is, number_self}
 use Rattle.mega_calm_laws.proofs.Majorities.{IsDistinct, among_has, distinct_last, majorities_meet}
 use Rattle.mega_calm_laws.proofs.Noting.{HasEntry, decision_has, still_one}
 use Rattle.mega_calm_laws.proofs.Draining.{IsUnfused, unfused_after}
@@ -82,10 +86,6 @@ max_right a b c one = omega (arith, one)
 
 both_ways : (a b : ℕ) → a ≤ b → b ≤ a → a ≡ b
 both_ways a b one other = omega (arith, one, other)
-
-both_true : (a b : Bool) → (a && b) ≡ true → (a ≡ true) × (b ≡ true)
-both_true true b h = (refl, h)
-both_true false b h = cc
 
 -- at the end of the log it proposes its entry
 abbrev pub FinishesSo : Cluster → ℕ → ℕ → ℕ → GroupId → List Content → Request → Option Enter → ℕ → Option Epoch → Content → Promised → ℕ → Meanings → (Now → Operation → Now) → Now → Option Search → Type 0
@@ -602,7 +602,7 @@ module _ (c : Cluster) (me start nth : ℕ) (g : GroupId) (log : List Content) (
     keeps x one = by (j == one.number) refl
       where
         by : (t : Bool) → (j == one.number) ≡ t → (x ≡ m) ⊎ IsAwaited (after now v j made).tape x
-        by true e = inl (some_is x m (sym (one.waits).sent ∙ (ap (message_of now.tape) (sym (number_is j one.number e)) ∙ w.sent)))
+        by true e = inl (same_Some x m (sym (one.waits).sent ∙ (ap (message_of now.tape) (sym (number_is j one.number e)) ∙ w.sent)))
         by false e = inr (record { number = one.number; waits = mailed.keeps one.number x e one.waits })
 
     -- another node replies
@@ -747,7 +747,7 @@ module _ (c : Cluster) (me start nth : ℕ) (g : GroupId) (log : List Content) (
 
       -- each that was heard, and this one
       among_both : (heard : List ℕ) (u : ℕ) → has u (heard ++ v ∷ []) ≡ true → (has u heard ≡ true) ⊎ (v ≡ u)
-      among_both heard u there = from_last v u heard there
+      among_both heard u there = has_push v u heard there
 
       polls : (heard : List ℕ) (best at : ℕ) → k.stage ≡ Polling heard best at → Poll now.tape heard best → (t u : Bool) → has v heard ≡ t → is_majority (length (voters c)) (length heard + 1) ≡ u
           → Comes (after now me j (takes now me m))
@@ -777,14 +777,14 @@ module _ (c : Cluster) (me start nth : ℕ) (g : GroupId) (log : List Content) (
       polls heard best at is ok false false is_heard is_most =
           me_asking now k j v body tt w [] refl tt none_fit (Polling (heard ++ v ∷ []) (max best p) at)
           (hears_as (Polling heard best at) is (same_heard (Polling (heard ++ v ∷ []) (max best p) at)) (hears_top (clock_of (now.node me).met) v p heard best at false false (heard_if v heard voter false is_heard) is_most)) tt
-          (λ new tape on keeping told. poll_on now.tape tape m keeping heard (heard ++ v ∷ []) best (max best p) (λ u there. has_both v u heard there) (ap (is_majority (length (voters c))) (last_length v heard) ∙ is_most)
+          (λ new tape on keeping told. poll_on now.tape tape m keeping heard (heard ++ v ∷ []) best (max best p) (λ u there. push_has v u heard there) (ap (is_majority (length (voters c))) (last_length v heard) ∙ is_most)
           (distinct_last v heard ok.distinct is_heard) (λ u there. elim (among_both heard u there) [ inl before ↦ ok.members u before | inr same ↦ subst (λ y. is_voter c y ≡ true) same voter ])
           (max_low best p (length log) ok.low low)
           (λ u there is_fresh. elim (among_both heard u there) [
             | inl before ↦ max_left best p (length log) (ok.high u before is_fresh)
             | inr same ↦ max_right best p (length log) (high (subst (λ y. fresh y ≡ true) (sym same) is_fresh))
           ])
-          (on_where tape) (λ x q xv same. subst (λ y. has y (heard ++ v ∷ []) ≡ true) (from_v x q same) (has_last v heard)) ok)
+          (on_where tape) (λ x q xv same. subst (λ y. has y (heard ++ v ∷ []) ≡ true) (from_v x q same) (push_last v heard)) ok)
 
       by : (stage : Stage) → k.stage ≡ stage → Comes (after now me j (takes now me m))
       by (Polling heard best at) is = polls heard best at is (its_ready (Polling heard best at) is) (has v heard) (is_majority (length (voters c)) (length heard + 1)) refl refl
@@ -835,7 +835,7 @@ module _ (c : Cluster) (me start nth : ℕ) (g : GroupId) (log : List Content) (
           (idle_asking (setting c h v) (now.node v) ((k.around).idle v (voter_is_node c v voter) apart) g place me v body tt (fetch_reply v i (Some entry)) (replies (Some entry) is) (tt, tt))
           (λ new on. (tells_entry v i entry voter (((k.around).ground).agreed v voter i entry is) refl, tt))
           (λ new tape on keeping told. ready_on now.tape tape m keeping now.node new on (hooks_fetch now.tape tape m keeping now.node new on v (i + 1) refl
-          (λ e d. subst (λ x. IsAwaited tape (have_from c me start nth g v (i + 1) x)) (some_is entry e (sym is ∙ d)) (told (have_from c me start nth g v (i + 1) entry) (inl refl)))) k.stage k.ready k.sought)
+          (λ e d. subst (λ x. IsAwaited tape (have_from c me start nth g v (i + 1) x)) (same_Some entry e (sym is ∙ d)) (told (have_from c me start nth g v (i + 1) entry) (inl refl)))) k.stage k.ready k.sought)
 
   -- ---- an entry that is told
 
@@ -915,7 +915,7 @@ module _ (c : Cluster) (me start nth : ℕ) (g : GroupId) (log : List Content) (
           (λ new tape on keeping told. (
             ready.0,
             fetch_on now.tape tape m keeping now.node new on position denials (with_node v denials)
-                (λ u there. elim (from_with v u denials there) [
+                (λ u there. elim (with_has v u denials there) [
                   | inl before ↦ inl before
                   | inr same ↦ inr (subst (λ x. ((x == me) ≡ false) × (decided (now.node x).met g position ≡ None)) same (apart, subst (λ q. decided (now.node v).met g q ≡ None) place_is none))
                 ])
@@ -923,17 +923,17 @@ module _ (c : Cluster) (me start nth : ℕ) (g : GroupId) (log : List Content) (
           ))
         where
           place_is : n ≡ position
-          place_is = number_is n position ((both_true (same_op the_op the_op && same_group g g) (n == position) ((both_true (same_op the_op the_op && same_group g g && n == position) (has v (others me (voters c))) is_t).0)).1)
+          place_is = number_is n position ((and_parts (same_op the_op the_op && same_group g g) (n == position) ((and_parts (same_op the_op the_op && same_group g g && n == position) (has v (others me (voters c))) is_t).0)).1)
       fetches_on through position denials at is ready sought true true is_t is_u = absurd (never (held.voter == me) refl)
         where
           place_is : n ≡ position
-          place_is = number_is n position ((both_true (same_op the_op the_op && same_group g g) (n == position) ((both_true (same_op the_op the_op && same_group g g && n == position) (has v (others me (voters c))) is_t).0)).1)
+          place_is = number_is n position ((and_parts (same_op the_op the_op && same_group g g) (n == position) ((and_parts (same_op the_op the_op && same_group g g && n == position) (has v (others me (voters c))) is_t).0)).1)
 
           held : Held c me start nth g now.node position
           held = subst (Held c me start nth g now.node) (sym sought.place) (((k.around).ground).held sought.index sought.below)
 
           denies : (u : ℕ) → has u (with_node v denials) ≡ true → decided (now.node u).met g position ≡ None
-          denies u there = elim (from_with v u denials there) [
+          denies u there = elim (with_has v u denials there) [
             | inl before ↦ ((ready.1).denied u before).1
             | inr same ↦ subst (λ x. decided (now.node x).met g position ≡ None) same (subst (λ q. decided (now.node v).met g q ≡ None) place_is none)
           ]

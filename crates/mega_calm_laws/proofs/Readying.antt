@@ -1,14 +1,12 @@
 -- A run that stands calm for a group, under the four conditions, is ready at its next position: the log below is known to most voters, and nothing was made behind it.
-use Rattle.std.proofs.Common.{◌≡◌, ◌⊎◌, inl, inr, ℕ, zero, suc, ◌+◌, ◌*◌, ◌==◌, ◌&&◌, ◌≤◌, ◌<◌, max, nat_le, nat_lt, Bool, true, false, cond, List, [], ◌∷◌, filter, fold, length, slice_get, Option, Some, None, refl, sym, ap, ◌∙◌, subst, arith}
+use Rattle.std.proofs.Common.{◌≡◌, ◌⊎◌, inl, inr, ℕ, zero, suc, ◌+◌, ◌*◌, ◌≤◌, ◌<◌, max, nat_le, nat_lt, Bool, true, false, cond, List, [], ◌∷◌, filter, fold, length, slice_get, Option, Some, None, refl, sym, ap, ◌∙◌, subst, arith}
 use Rattle.std.proofs.lemmas.Bool.Decides.{nat_tests}
 use Rattle.mega_base.specs.declared.names.GroupId.{GroupId}
 use Rattle.mega_ballot.specs.declared.ballot.Ballot.{Ballot}
 use Rattle.mega_cluster.specs.declared.cluster.Cluster.{Cluster}
 use Rattle.mega_entry.specs.declared.content.Content.{Content}
 use Rattle.mega_handler.specs.Named.{Meanings}
-use Rattle.mega_wire.specs.declared.message.Body.{Body}
-use Rattle.mega_wire.specs.declared.message.Body.TheVariants.{Accepted, Promise}
-use Rattle.mega_wal.specs.Acceptor.{Promised, Voted}
+use Rattle.mega_wal.specs.Acceptor.{Voted}
 use Rattle.mega_wal.specs.Same.{same_group}
 use Rattle.mega_leased_laws.specs.of_run_laws.of_tape_laws.of_promises.of_transcript.declared.item.Item.{Item}
 use Rattle.mega_leased_laws.specs.of_run_laws.of_tape_laws.of_promises.of_rules.of_read.of_propose.Members.{is_majority}
@@ -16,7 +14,7 @@ use Rattle.mega_leased_laws.specs.of_run_laws.of_tape_laws.of_promises.of_rules.
 use Rattle.mega_leased_laws.specs.of_run_laws.of_tape_laws.of_promises.of_rules.Logs.{accepted_at, decided, top_of}
 use Rattle.mega_leased_laws.specs.of_run_laws.of_tape_laws.of_promises.of_rules.Members.{is_full, is_voter, voters}
 use Rattle.mega_leased_laws.specs.of_run_laws.of_tape_laws.of_promises.of_rules.Met.{Met, Decides, Sends, Unsends}
-use Rattle.mega_leased_laws.specs.of_run_laws.of_tape_laws.of_promises.of_rules.Voting.{act_if, act_in, acts as acts_met}
+use Rattle.mega_leased_laws.specs.of_run_laws.of_tape_laws.of_promises.of_rules.Voting.{act_in, acts as acts_met}
 use Rattle.mega_leased_laws.specs.of_run_laws.of_tape_laws.of_promises.Calm.{IsCalmAt}
 use Rattle.mega_leased_laws.specs.of_run_laws.of_tape_laws.of_promises.Items.{number}
 use Rattle.mega_leased_laws.specs.of_run_laws.of_tape_laws.of_promises.Promises.{first_decided, log_from, log_of, then_more}
@@ -31,11 +29,12 @@ use Rattle.mega_leased_laws.proofs.of_run_laws.of_tape_laws.Complete.{is_decided
 use Rattle.mega_leased_laws.proofs.of_run_laws.of_tape_laws.Lists.{from_cons}
 use Rattle.mega_leased_laws.proofs.of_run_laws.of_tape_laws.Logs.{Decided, first_stands, shown_first}
 use Rattle.mega_leased_laws.proofs.of_run_laws.of_tape_laws.Totals.{all_pass}
-use Rattle.mega_leased_laws.proofs.Tops.{run_fresh}
+use Rattle.mega_leased_laws.proofs.Tops.{run_fresh, max_grows, max_first}
+use Rattle.mega_leased_laws.proofs.of_run_laws.Told.{act_voted}
 use Rattle.mega_calm_laws.specs.Next.{run_of}
 use Rattle.mega_calm_laws.specs.Ready.{IsReady, knows_end, leader_behind}
 use Rattle.mega_calm_laws.specs.Stocked.{IsKnown, IsStocked}
-use Rattle.mega_calm_laws.proofs.Mail.{Among, number_is}
+use Rattle.mega_calm_laws.proofs.Mail.{Among}
 use Rattle.mega_calm_laws.proofs.Beginning.{full_node, full_votes}
 use Rattle.mega_calm_laws.proofs.Freeing.{IsFree, run_free}
 use Rattle.mega_calm_laws.proofs.Noting.{below_top}
@@ -43,6 +42,7 @@ use Rattle.mega_calm_laws.proofs.Polls.{among_voters, voter_of}
 use Rattle.mega_calm_laws.proofs.Standings.{anybody, run_good}
 use Rattle.mega_calm_laws.proofs.Stocking.{majority_voter, place, run_stocked}
 use Rattle.mega_calm_laws.proofs.Wholes.{Shows, log_shows}
+use Rattle.mega_calm_laws.proofs.Committing.{fold_above}
 
 -- ---- a log is as long as its positions are decided
 
@@ -58,7 +58,7 @@ log_reaches tape g (suc most) n (suc t) le shows = by (first_decided tape g n) (
     by (Some e) first rest = omega (arith, rest)
 
 -- an entry of the log is the one first decided there
-log_has : (tape : List Item) (g : GroupId) (most n k : ℕ) → k < length (log_from tape g most n) → slice_get (log_from tape g most n) k ≡ first_decided tape g (n + k)
+pub log_has : (tape : List Item) (g : GroupId) (most n k : ℕ) → k < length (log_from tape g most n) → slice_get (log_from tape g most n) k ≡ first_decided tape g (n + k)
 log_has tape g zero n k less = absurd (omega (arith, less))
 log_has tape g (suc most) n k less = by (first_decided tape g n) refl k less (λ j. log_has tape g most (n + 1) j)
   where
@@ -107,59 +107,20 @@ more_least f (v ∷ vs) least = let rest = more_least f vs (max least (f v)) in 
     step : (a b d : ℕ) → max a b ≤ d → a ≤ d
     step a b d le = omega (arith, le)
 
-no_greater : (f : ℕ → ℕ) (vs : List ℕ) (least v : ℕ) → Among v vs → f v ≤ fold (λ most u. max most (f u)) least vs
-no_greater f [] least v i = absurd i
-no_greater f (x ∷ vs) least v (inl same) = let rest = more_least f vs (max least (f x)) in subst (λ u. f u ≤ fold (λ most w. max most (f w)) (max least (f x)) vs) same (step least (f x) (fold (λ most w. max most (f w)) (max least (f x)) vs) rest)
-  where
-    step : (a b d : ℕ) → max a b ≤ d → b ≤ d
-    step a b d le = omega (arith, le)
-no_greater f (x ∷ vs) least v (inr i) = no_greater f vs (max least (f x)) v i
-
 -- ---- votes
 
 if_grows : (t : Bool) (a b : ℕ) → b ≤ cond t (max a b) b
 if_grows true a b = omega arith
 if_grows false a b = omega arith
 
-max_grows : (a b : ℕ) → b ≤ max a b
-max_grows a b = omega arith
-
-max_first : (a b : ℕ) → a ≤ max a b
-max_first a b = omega arith
-
-top_grows : (one : Met) (met : List Met) (g : GroupId) → top_of met g ≤ top_of (one ∷ met) g
-top_grows (Decides k n e) met g = if_grows (same_group k g) n (top_of met g)
-top_grows (Sends m) met g = max_grows (accepted_at g m.body) (top_of met g)
-top_grows (Unsends m) met g = max_grows (accepted_at g m.body) (top_of met g)
-top_grows _ met g = omega arith
-
-two_true : (a b : Bool) → (a && b) ≡ true → (a ≡ true) × (b ≡ true)
-two_true true b h = (refl, h)
-two_true false b h = cc
-
--- a vote is for a position that it accepts
-vote_at : (g : GroupId) (n : ℕ) (body : Body) (b : Ballot) (e : Content) → act_in g n body ≡ Some (Voted b e) → n ≤ accepted_at g body
-vote_at g n (Accepted op k p d x) b e h = by (same_group k g) (p.0 == n) refl h
-  where
-    by : (s t : Bool) → (p.0 == n) ≡ t → act_if (s && t) (Voted d x) ≡ Some (Voted b e) → n ≤ cond s p.0 0
-    by true true same h = let is = number_is p.0 n same in omega (arith, is)
-    by true false same h = cc
-    by false t same h = cc
-vote_at g n (Promise op k p d report) b e h = by (same_group k g && p.0 == n) h
-  where
-    by : (t : Bool) → act_if t (Promised d report) ≡ Some (Voted b e) → n ≤ 0
-    by true h = cc
-    by false h = cc
-vote_at g n _ b e h = cc
-
 vote_top : (met : List Met) (g : GroupId) (n : ℕ) (b : Ballot) (e : Content) → In (Voted b e) (acts_met met g n) → n ≤ top_of met g
 vote_top [] g n b e i = absurd i
 vote_top (Sends m ∷ before) g n b e i = elim (from_cons (act_in g n m.body) (acts_met before g n) (Voted b e) i) [
-  | inl here ↦ (let le = vote_at g n m.body b e here in let more = max_first (accepted_at g m.body) (top_of before g) in omega (arith, le, more))
+  | inl here ↦ (let le = act_voted g n m.body b e here in let more = max_first (accepted_at g m.body) (top_of before g) in omega (arith, le, more))
   | inr later ↦ (let le = vote_top before g n b e later in let more = max_grows (accepted_at g m.body) (top_of before g) in omega (arith, le, more))
 ]
 vote_top (Unsends m ∷ before) g n b e i = elim (from_cons (act_in g n m.body) (acts_met before g n) (Voted b e) i) [
-  | inl here ↦ (let le = vote_at g n m.body b e here in let more = max_first (accepted_at g m.body) (top_of before g) in omega (arith, le, more))
+  | inl here ↦ (let le = act_voted g n m.body b e here in let more = max_first (accepted_at g m.body) (top_of before g) in omega (arith, le, more))
   | inr later ↦ (let le = vote_top before g n b e later in let more = max_grows (accepted_at g m.body) (top_of before g) in omega (arith, le, more))
 ]
 vote_top (Decides k p x ∷ before) g n b e i = let le = vote_top before g n b e i in let more = if_grows (same_group k g) p (top_of before g) in omega (arith, le, more)
@@ -272,7 +233,7 @@ module _ (c : Cluster) (usage : Usage) (cuts : Cuts) (first : Meanings) (events 
   behind = let a = not_longer in let b = not_shorter in let is = next_is in omega (arith, a, b, is)
 
   within : (v : ℕ) → is_voter c v ≡ true → top_of (now.node v).met g ≤ length log
-  within v voter = let a = no_greater (λ u. top_of (now.node u).met g) (voters c) 0 v (among_voters c v voter) in let b = not_shorter in omega (arith, a, b)
+  within v voter = let a = fold_above (λ u. top_of (now.node u).met g) (voters c) 0 v (among_voters c v voter) in let b = not_shorter in omega (arith, a, b)
 
   agreed : (v i : ℕ) (e : Content) → is_voter c v ≡ true → decided (now.node v).met g (i + 1) ≡ Some e → slice_get log i ≡ Some e
   agreed v i e voter is =

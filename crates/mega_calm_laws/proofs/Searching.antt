@@ -1,6 +1,7 @@
 -- An operation that is to propose reads alone in a calm cluster: what is around it, and what it waits for.
 use Rattle.std.proofs.Common.{◌≡◌, ◌⊎◌, inl, inr, ℕ, zero, suc, ◌+◌, ◌==◌, ◌&&◌, ◌≤◌, ◌<◌, max, nat_le, Bool, true, false, cond, List, [], ◌∷◌, length, slice_get, Option, Some, None, is_none, refl, sym, ap, ◌∙◌, subst, arith}
 use Rattle.std.proofs.lemmas.Bool.Decides.{nat_tests}
+use Rattle.std.proofs.lemmas.Option.{same_Some}
 use Rattle.mega_base.specs.declared.names.GroupId.{GroupId}
 use Rattle.mega_cluster.specs.declared.cluster.Cluster.{Cluster}
 use Rattle.mega_entry.specs.declared.content.Content.{Content}
@@ -21,7 +22,7 @@ use Rattle.mega_leased_laws.specs.of_run_laws.of_tape_laws.of_promises.of_rules.
 use Rattle.mega_leased_laws.specs.of_run_laws.of_tape_laws.of_promises.Runs.{set_at}
 use Rattle.mega_calm_laws.specs.Waiting.{IsAwaited}
 use Rattle.mega_calm_laws.proofs.Alone.{Held, TopAwaited, fetch_at, have_from, have_not_from, top_from, where_to}
-use Rattle.mega_calm_laws.proofs.Mail.{apart_below, number_is, some_is}
+use Rattle.mega_calm_laws.proofs.Mail.{apart_below, number_is}
 use Rattle.mega_calm_laws.proofs.Majorities.{IsDistinct}
 use Rattle.mega_calm_laws.proofs.Turning.{Leaves}
 
@@ -32,7 +33,7 @@ slice_below [] i e h = cc
 slice_below (x ∷ log) zero e h = omega arith
 slice_below (x ∷ log) (suc i) e h = let less = slice_below log i e h in omega (arith, less)
 
-slice_there : (log : List Content) (i : ℕ) → i < length log → (e : Content) × (slice_get log i ≡ Some e)
+pub slice_there : (log : List Content) (i : ℕ) → i < length log → (e : Content) × (slice_get log i ≡ Some e)
 slice_there [] i less = absurd (omega (arith, less))
 slice_there (x ∷ log) zero less = (x, refl)
 slice_there (x ∷ log) (suc i) less = slice_there log i (omega (arith, less))
@@ -113,7 +114,7 @@ module _ (g : GroupId) (log : List Content) where
       kept false k x d = d
 
       first : (o : Option Content) (x : Content) → first_of o e ≡ Some x → (o ≡ Some x) ⊎ (e ≡ x)
-      first None x d = inr (some_is e x d)
+      first None x d = inr (same_Some e x d)
       first (Some y) x d = inl d
 
       same_group_is : (t : Bool) → cond t (max (i + 1) (top_of met g)) (top_of met g) ≤ max (i + 1) (top_of met g)

@@ -1,5 +1,6 @@
 -- Each standing of a run is good: its tape is lawful, and shows what the nodes made and decided.
 use Rattle.std.proofs.Common.{◌≡◌, ℕ, zero, suc, ◌&&◌, false, not, List, [], ◌∷◌, fold, Option, Some, None, refl}
+use Rattle.std.proofs.lemmas.Bool.{and_parts, not-false}
 use Rattle.mega_cluster.specs.declared.cluster.Cluster.{Cluster}
 use Rattle.mega_disk.specs.declared.pair.Device.TheVariants.{Log, Data}
 use Rattle.mega_handler.specs.Named.{Meanings}
@@ -14,7 +15,7 @@ use Rattle.mega_leased_laws.specs.of_run_laws.of_tape_laws.of_promises.Runs.{Cut
 use Rattle.mega_leased_laws.specs.of_run_laws.Usages.{Brought}
 use Rattle.mega_leased_laws.proofs.of_run_laws.Noted.{tape_item}
 use Rattle.mega_leased_laws.proofs.of_run_laws.Owned.{Users}
-use Rattle.mega_leased_laws.proofs.of_run_laws.Runs.{begin_good, both_true, crashes_good, fated_start_good, found, handed_good, marked_good, not_because, not_false, nothing_good, tick_good}
+use Rattle.mega_leased_laws.proofs.of_run_laws.Runs.{begin_good, crashes_good, fated_start_good, found, handed_good, marked_good, not_because, nothing_good, tick_good}
 use Rattle.mega_leased_laws.proofs.of_run_laws.Standing.{Good}
 
 -- of any events, whatever was meant
@@ -39,16 +40,16 @@ module _ (c : Cluster) where
       go : (o : Option ℕ) → next_delivery (up now) now.tape ≡ o → ((j : ℕ) → IsGood (delivered c h cuts now j) → IsGood (drained c h cuts (delivered c h cuts now j) most)) → IsGood (unless_none now (λ j. drained c h cuts (delivered c h cuts now j) most) o)
       go None e more = g
       go (Some j) e more = more j (handed_good anybody c h (none_brought h) cuts now j (message_of now.tape j) refl
-          (both_true (not (is_taken now.tape j) && not (is_dropped now.tape j)) (receiver_up (up now) (message_of now.tape j)) (found (is_deliverable (up now) now.tape) _ j e)).1 g)
+          (and_parts (not (is_taken now.tape j) && not (is_dropped now.tape j)) (receiver_up (up now) (message_of now.tape j)) (found (is_deliverable (up now) now.tape) _ j e)).1 g)
 
   delivered_good : (h : Meanings) (cuts : Cuts) (now : Standing) (j : ℕ) (o : Option Message) → message_of now.tape j ≡ o → receiver_down now o ≡ false → IsGood now → IsGood (handed c h cuts now j o)
   delivered_good h cuts now j None is r g = g
-  delivered_good h cuts now j (Some m) is r g = handed_good anybody c h (none_brought h) cuts now j (Some m) is (not_false (up now m.to) r) g
+  delivered_good h cuts now j (Some m) is r g = handed_good anybody c h (none_brought h) cuts now j (Some m) is (not-false (up now m.to) r) g
 
   event_good : (h : Meanings) (cuts : Cuts) (now : Standing) (event : WorldEvent) → refusal c now event ≡ None → IsGood now → IsGood (after_event c h cuts now event)
   event_good h cuts now (TickEvent node clock) r g =
       let second = (not_because (not (is_node c node.0)) 6 _ r).1 in let third = (not_because (not (up now node.0)) 1 _ second).0 in
-      tick_good anybody c h (none_brought h) now node.0 clock (cuts now node.0) (not_false (up now node.0) third) g
+      tick_good anybody c h (none_brought h) now node.0 clock (cuts now node.0) (not-false (up now node.0) third) g
   event_good h cuts now (Deliver j) r g =
       let second = (not_because (not (is_sent now.tape j)) 3 _ r).1 in let third = (not_because (is_dropped now.tape j) 4 _ second).1 in
       delivered_good h cuts now j (message_of now.tape j) refl (not_because (receiver_down now (message_of now.tape j)) 1 None third).0 g
@@ -60,7 +61,7 @@ module _ (c : Cluster) where
   event_good h cuts now (FuseEvent node calls image Data) r g = record { lawful = g.lawful; node = g.node; starts = g.starts; polls = g.polls; written = g.written; unbegun = g.unbegun; answered = g.answered; unfailed = g.unfailed; fresh = g.fresh; unasked = g.unasked; worn = g.worn; owes = g.owes; owed = g.owed }
   event_good h cuts now (BeginEvent node request text) r g =
       let second = (not_because (not (is_node c node.0)) 6 _ r).1 in let third = (not_because (not (up now node.0)) 1 _ second).0 in
-      begin_good anybody c h (none_brought h) now node.0 request text (cuts now node.0) (λ f. absurd f) (not_false (up now node.0) third) g
+      begin_good anybody c h (none_brought h) now node.0 request text (cuts now node.0) (λ f. absurd f) (not-false (up now node.0) third) g
 
   all_good : (cuts : Cuts) (events : List Happening) (now : Standing) → IsGood now → IsGood (goes_on c cuts now events)
   all_good cuts [] now g = g

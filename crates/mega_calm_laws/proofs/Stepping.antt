@@ -13,8 +13,9 @@ use Rattle.mega_leased_laws.specs.of_run_laws.of_tape_laws.of_promises.of_rules.
 use Rattle.mega_leased_laws.specs.of_run_laws.of_tape_laws.of_promises.of_rules.Steps.{Decision, Heard, Step, all_act, apply_notes, at_first, decision_note, first_settled, hears_message, if_new, news, onto, stored_after, take_step, taken}
 use Rattle.mega_leased_laws.specs.of_run_laws.Justified.{Each}
 use Rattle.mega_calm_laws.proofs.Mail.{Among, among_right}
-use Rattle.mega_calm_laws.proofs.Noting.{IsNoVote, IsStill, SameLogs, applies_still, logs_then, onto_append, sends_still, still_onto, still_one}
+use Rattle.mega_calm_laws.proofs.Noting.{IsNoVote, IsStill, SameLogs, applies_still, logs_then, sends_still, still_onto, still_one}
 use Rattle.mega_calm_laws.proofs.Reading.{append_none}
+use Rattle.mega_leased_laws.proofs.of_run_laws.Events.{onto_append}
 
 abbrev pub message : ℕ → ℕ → Body → Message
 message from to body = record { from = from; to = to; body = body }

@@ -1,5 +1,5 @@
 -- In a run each position up to the greatest that a voter of a calm group accepted or decided is decided at some voter.
-use Rattle.std.proofs.Common.{◌≡◌, ◌⊎◌, inl, inr, ℕ, zero, suc, ◌+◌, ◌*◌, ◌==◌, ◌&&◌, ◌≤◌, ◌<◌, max, nat_le, Bool, true, false, cond, List, [], ◌∷◌, length, slice_get, Option, Some, None, is_some, refl, sym, ap, ◌∙◌, subst, arith}
+use Rattle.std.proofs.Common.{◌≡◌, ◌⊎◌, inl, inr, ℕ, zero, suc, ◌+◌, ◌*◌, ◌==◌, ◌&&◌, ◌≤◌, ◌<◌, max, nat_le, Bool, true, false, cond, List, [], ◌∷◌, length, Option, Some, None, is_some, refl, sym, ap, ◌∙◌, subst, arith}
 use Rattle.std.specs.List.{cons_option}
 use Rattle.std.specs.Prelude.{IsSome}
 use Rattle.std.proofs.lemmas.Bool.Decides.{nat_tests}
@@ -36,6 +36,7 @@ use Rattle.mega_calm_laws.specs.Stocked.{IsKnown, IsStocked}
 use Rattle.mega_calm_laws.proofs.Mail.{Among, number_is, number_self}
 use Rattle.mega_calm_laws.proofs.Polls.{voter_of}
 use Rattle.mega_calm_laws.proofs.Standings.{anybody, run_good}
+use Rattle.mega_calm_laws.proofs.Searching.{slice_there}
 
 -- ---- votes
 
@@ -180,11 +181,6 @@ majority_voter c test most = let r = some_passes test (voters c) (some (length (
 
 abbrev pub place : GroupId → ℕ → Place
 place g n = record { group = g; position = record { 0 = n } }
-
-slice_there : (xs : List Content) (k : ℕ) → k < length xs → (x : Content) × (slice_get xs k ≡ Some x)
-slice_there [] k less = absurd (omega (arith, less))
-slice_there (x ∷ xs) zero less = (x, refl)
-slice_there (x ∷ xs) (suc k) less = slice_there xs k (omega (arith, less))
 
 module _ (users : Users) (c : Cluster) (now : Standing) (good : Good users c now) (usage : Usage) (written : AreWritten c.schema usage now.tape) (group : GroupId) (calm : IsCalm c now group) where
   -- what is decided was chosen, so that some voter accepted it, and some voter decided it

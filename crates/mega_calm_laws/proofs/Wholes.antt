@@ -1,5 +1,5 @@
 -- Where a run stands calm, the log of a node that reaches through the position below the next is the whole log of its group.
-use Rattle.std.proofs.Common.{◌≡◌, ℕ, zero, suc, ◌+◌, ◌≤◌, ◌<◌, nat_le, Bool, true, false, List, [], ◌∷◌, length, take, slice_get, Option, Some, None, refl, ap, ◌∙◌, subst, arith}
+use Rattle.std.proofs.Common.{◌≡◌, ℕ, zero, suc, ◌+◌, ◌≤◌, ◌<◌, nat_le, Bool, true, false, List, [], ◌∷◌, length, take, Option, Some, None, refl, ap, ◌∙◌, subst, arith}
 use Rattle.std.proofs.lemmas.Bool.Decides.{nat_tests}
 use Rattle.mega_base.specs.declared.names.GroupId.{GroupId}
 use Rattle.mega_cluster.specs.declared.cluster.Cluster.{Cluster}
@@ -7,13 +7,12 @@ use Rattle.mega_entry.specs.declared.content.Content.{Content}
 use Rattle.mega_handler.specs.Named.{Meanings}
 use Rattle.mega_wal.specs.Acceptor.{Voted}
 use Rattle.mega_leased_laws.specs.of_run_laws.of_tape_laws.of_promises.of_transcript.declared.item.Item.{Item}
-use Rattle.mega_leased_laws.specs.of_run_laws.of_tape_laws.of_promises.of_rules.Logs.{decided, decided_from, log_of as log_at, prefix_of, then_more}
+use Rattle.mega_leased_laws.specs.of_run_laws.of_tape_laws.of_promises.of_rules.Logs.{decided, log_of as log_at, prefix_of}
 use Rattle.mega_leased_laws.specs.of_run_laws.of_tape_laws.of_promises.of_rules.Members.{is_voter}
-use Rattle.mega_leased_laws.specs.of_run_laws.of_tape_laws.of_promises.of_rules.Met.{Met}
 use Rattle.mega_leased_laws.specs.of_run_laws.of_tape_laws.of_promises.Calm.{IsCalmAt}
 use Rattle.mega_leased_laws.specs.of_run_laws.of_tape_laws.of_promises.Promises.{first_decided, log_from, log_of, then_more as then_shown}
 use Rattle.mega_leased_laws.specs.of_run_laws.of_tape_laws.of_promises.Runs.{Cuts, Happening, Standing, goes_on, opening}
-use Rattle.mega_leased_laws.proofs.of_run_laws.Owned.{Users}
+use Rattle.mega_leased_laws.proofs.of_run_laws.Owned.{Users, entry_at}
 use Rattle.mega_leased_laws.proofs.of_run_laws.Standing.{Good}
 use Rattle.mega_leased_laws.specs.of_run_laws.of_tape_laws.Chosen.{Chosen}
 use Rattle.mega_leased_laws.specs.of_run_laws.of_tape_laws.Places.{In}
@@ -24,17 +23,6 @@ use Rattle.mega_leased_laws.proofs.of_run_laws.of_tape_laws.Logs.{Decided, first
 use Rattle.mega_calm_laws.proofs.Freeing.{Unspoken, acts_none}
 use Rattle.mega_calm_laws.proofs.Standings.{anybody, run_good}
 use Rattle.mega_calm_laws.proofs.Stocking.{majority_voter, place}
-
--- what stands in a log is decided there
-entry_in : (met : List Met) (g : GroupId) (most n k : ℕ) (e : Content) → slice_get (decided_from met g most n) k ≡ Some e → decided met g (n + k) ≡ Some e
-entry_in met g zero n k e h = cc
-entry_in met g (suc most) n k e h = by (decided met g n) refl k h (λ j. entry_in met g most (n + 1) j e)
-  where
-    by : (o : Option Content) → decided met g n ≡ o → (i : ℕ) → slice_get (then_more o (decided_from met g most (n + 1))) i ≡ Some e
-        → ((j : ℕ) → slice_get (decided_from met g most (n + 1)) j ≡ Some e → decided met g ((n + 1) + j) ≡ Some e) → decided met g (n + i) ≡ Some e
-    by None is i k again = cc
-    by (Some entry) is zero k again = ap (decided met g) (let same : n + 0 ≡ n = omega arith in same) ∙ (is ∙ k)
-    by (Some entry) is (suc j) k again = ap (decided met g) (let same : n + suc j ≡ (n + 1) + j = omega arith in same) ∙ again j k
 
 -- each position of the log of a tape is decided on it
 pub record Shows (tape : List Item) (g : GroupId) (n : ℕ) : Type 0 where
@@ -58,7 +46,7 @@ take_more (x ∷ xs) (suc k) le = ap (λ l. x ∷ l) (take_more xs k (omega (ari
 
 module _ (users : Users) (c : Cluster) (now : Standing) (good : Good users c now) (g : GroupId) (me : ℕ) (quiet : Unspoken g (prefix_of (now.node me).met g + 1) now.tape) where
   knows : Knows now.tape me g (log_at (now.node me).met g)
-  knows k d is = (good.node me).known g (suc k) d (ap (decided (now.node me).met g) (let same : suc k ≡ 1 + k = omega arith in same) ∙ entry_in (now.node me).met g (length (now.node me).met) 1 k d is)
+  knows k d is = (good.node me).known g (suc k) d (ap (decided (now.node me).met g) (let same : suc k ≡ 1 + k = omega arith in same) ∙ entry_at (now.node me).met g (length (now.node me).met) 1 k d is)
 
   front : IsFront (log_of now.tape g) (log_at (now.node me).met g)
   front = known_is_front c now.tape good.lawful me g (log_at (now.node me).met g) knows

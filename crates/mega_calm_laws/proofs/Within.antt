@@ -1,5 +1,6 @@
 -- Every run stays within its cluster: its messages are between nodes, and so is all that a node met.
 use Rattle.std.proofs.Common.{◌≡◌, inl, inr, ℕ, zero, suc, ◌+◌, ◌==◌, ◌≤◌, Bool, true, false, not, cond, List, [], ◌∷◌, ◌++◌, filter, flat_map, fold, length, map, Option, Some, None, refl, sym, ap, ◌∙◌, subst}
+use Rattle.std.proofs.lemmas.Bool.{not-false}
 use Rattle.mega_cluster.specs.declared.cluster.Cluster.{Cluster}
 use Rattle.mega_disk.specs.declared.pair.Device.TheVariants.{Log, Data}
 use Rattle.mega_handler.specs.Named.{Meanings}
@@ -19,22 +20,15 @@ use Rattle.mega_leased_laws.specs.of_run_laws.of_tape_laws.of_promises.of_rules.
 use Rattle.mega_leased_laws.specs.of_run_laws.of_tape_laws.of_promises.of_rules.Steps.{Begin, Event, Step, Take, Tick, crashed, op_of, start, start_items, step}
 use Rattle.mega_leased_laws.specs.of_run_laws.of_tape_laws.of_promises.Items.{number, shown}
 use Rattle.mega_leased_laws.specs.of_run_laws.of_tape_laws.of_promises.Messages.{message_of, next_delivery}
-use Rattle.mega_leased_laws.specs.of_run_laws.of_tape_laws.of_promises.Runs.{Calls, Cuts, CutByData, CutByLog, Fate, Happening, Standing, Whole, after_event, at_node, because, calls_of, delivered, drained, fate_by, fated, fated_start, goes_on, handed, is_durable, is_kept, marked, met_in, nothing_yet, opening, owes, refusal, replies_in, set_at, setting, start_calls, unless_none, unless_refused, up, with_item, with_items}
+use Rattle.mega_leased_laws.specs.of_run_laws.of_tape_laws.of_promises.Runs.{Calls, Cuts, CutByData, CutByLog, Fate, Happening, Standing, Whole, after_event, at_node, calls_of, delivered, drained, fate_by, fated, fated_start, goes_on, handed, is_durable, is_kept, marked, met_in, nothing_yet, opening, owes, refusal, replies_in, set_at, setting, start_calls, unless_none, unless_refused, up, with_item, with_items}
 use Rattle.mega_leased_laws.proofs.of_run_laws.Shown.{notes_plain}
+use Rattle.mega_leased_laws.proofs.of_run_laws.Runs.{not_because}
 use Rattle.mega_calm_laws.proofs.Mail.{Among, crash_shown, message_items, message_step}
 
 pub record StaysIn (c : Cluster) (now : Standing) : Type 0 where
   pub nodes : (v : ℕ) → StaysWithin c (now.node v)
   pub owed : (v : ℕ) → MetWithin c (now.owed v)
   pub messages : (k : ℕ) (m : Message) → message_of now.tape k ≡ Some m → IsWithin c m
-
-not_because : (t : Bool) (why : ℕ) (other : Option ℕ) → because t why other ≡ None → (t ≡ false) × (other ≡ None)
-not_because true why other h = cc
-not_because false why other h = (refl, h)
-
-not_false : (t : Bool) → not t ≡ false → t ≡ true
-not_false true h = refl
-not_false false h = cc
 
 within_among : (c : Cluster) (m : Message) (ms : List Message) → AreWithin c ms → Among m ms → IsWithin c m
 within_among c m [] h i = absurd i
@@ -146,7 +140,7 @@ module _ (c : Cluster) (few : c.cells ≤ length c.nodes) where
   started_in h now me (CutByData left) stays = record { nodes = crashed_in now me stays; owed = stays.owed; messages = λ k m is. stays.messages k m is }
 
   event_in : (h : Meanings) (cuts : Cuts) (now : Standing) (event : WorldEvent) → refusal c now event ≡ None → StaysIn c now → StaysIn c (after_event c h cuts now event)
-  event_in h cuts now (TickEvent node clock) r stays = at_node_in h now node.0 (TickItem (number node.0) clock) (Tick clock) (cuts now node.0) (not_false (is_node c node.0) (not_because (not (is_node c node.0)) 6 _ r).0) stays (λ nodes'. refl) (λ k. refl) tt tt tt
+  event_in h cuts now (TickEvent node clock) r stays = at_node_in h now node.0 (TickItem (number node.0) clock) (Tick clock) (cuts now node.0) (not-false (is_node c node.0) (not_because (not (is_node c node.0)) 6 _ r).0) stays (λ nodes'. refl) (λ k. refl) tt tt tt
   event_in h cuts now (Deliver j) r stays = handed_in h cuts now j (message_of now.tape j) refl stays
   event_in h cuts now (Drop j) r stays = marked_in now (Dropped j) (λ k. refl) stays
   event_in h cuts now (Drain most) r stays = drained_in h cuts most now stays
@@ -154,7 +148,7 @@ module _ (c : Cluster) (few : c.cells ≤ length c.nodes) where
   event_in h cuts now (StartEvent node) r stays = started_in h now node.0 (fate_by now node.0 (cuts now node.0) (start_calls c node.0)) stays
   event_in h cuts now (FuseEvent node calls image Log) r stays = record { nodes = stays.nodes; owed = stays.owed; messages = stays.messages }
   event_in h cuts now (FuseEvent node calls image Data) r stays = record { nodes = stays.nodes; owed = stays.owed; messages = stays.messages }
-  event_in h cuts now (BeginEvent node request text) r stays = at_node_in h now node.0 (BeginItem (op_of (setting c h node.0) (now.node node.0).met) text) (Begin request text) (cuts now node.0) (not_false (is_node c node.0) (not_because (not (is_node c node.0)) 6 _ r).0) stays (λ nodes'. refl) (λ k. refl) tt tt tt
+  event_in h cuts now (BeginEvent node request text) r stays = at_node_in h now node.0 (BeginItem (op_of (setting c h node.0) (now.node node.0).met) text) (Begin request text) (cuts now node.0) (not-false (is_node c node.0) (not_because (not (is_node c node.0)) 6 _ r).0) stays (λ nodes'. refl) (λ k. refl) tt tt tt
 
   all_in : (cuts : Cuts) (events : List Happening) (now : Standing) → StaysIn c now → StaysIn c (goes_on c cuts now events)
   all_in cuts [] now stays = stays

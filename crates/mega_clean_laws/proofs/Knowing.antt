@@ -30,7 +30,8 @@ use Rattle.mega_fresh_laws.proofs.of_leased_laws.Forms.{down, stepped}
 use Rattle.mega_fresh_laws.proofs.of_leased_laws.Told.{step_met}
 use Rattle.mega_fresh_laws.specs.Covering.{before_begin}
 use Rattle.mega_fresh_laws.proofs.Meant.{Stays, run_stays}
-use Rattle.mega_fresh_laws.proofs.Knowing.{known_notes, known_stood, own_decided}
+use Rattle.mega_fresh_laws.proofs.Knowing.{known_notes, known_stood}
+use Rattle.mega_fresh_laws.proofs.of_leased_laws.Validating.{own_decided}
 use Rattle.mega_clean_laws.specs.Reaching.{Reaches, applied_by}
 use Rattle.mega_clean_laws.proofs.Topmost.{applied_least}
 

@@ -2,6 +2,7 @@
 use Rattle.std.proofs.Common.{◌≡◌, ℕ, ◌+◌, ◌==◌, ◌&&◌, ◌≤◌, max, Bool, true, false, not, cond, nat_le, List, [], ◌∷◌, ◌++◌, length, map, Option, Some, None, refl, subst, zero, suc, arith}
 use Rattle.std.specs.List.{list_all, list_any, range_with_len}
 use Rattle.std.proofs.lemmas.Bool.Decides.{nat_tests}
+use Rattle.std.proofs.lemmas.Option.{same_Some}
 use Rattle.mega_base.specs.Names.{IsU32}
 use Rattle.mega_ballot.specs.declared.ballot.Ballot.{Ballot}
 use Rattle.mega_ballot.specs.Ballots.{IsBallot}
@@ -21,9 +22,6 @@ use Rattle.mega_voter.specs.of_rules.of_read.of_propose.declared.round.Round.The
 use Rattle.mega_voter.specs.of_rules.of_read.of_propose.Rounds.{accept_to, accepted, accepts, asks, cell_numbers, completes, covers, dead_to, due, first_cover, greater_vote, greatest_vote, invalidate_to, invalidated, is_covered, is_due, is_here, is_sent, last_round, move, next_ballot, picked, prepare_to, prepares, presses, promised, proposes, refused, same_ballot, sees, settled, stays, takes, uncovered, unheld, vote_round, with_accepted, with_cell, with_invalidated}
 use Rattle.mega_format_laws.specs.Rounds.{AreMessages, Each, IsMember, IsMove, IsProposal, IsReport, IsRound, IsShort, IsSite, IsVote}
 use Rattle.mega_format_laws.proofs.Each.{each_both, each_filter, each_flat, each_map, either}
-
-some_is : {X : Type 0} (x y : X) → Some x ≡ Some y → x ≡ y
-some_is x y e = cc
 
 -- ---- messages
 
@@ -238,7 +236,7 @@ pub completes_formed : (s : Site) (own : Content) (now : ℕ) → IsSite s → I
 completes_formed s own now h entry = prepares_formed s (record { own = own; seen = 0; round = Waiting }) now h entry (omega arith, omega arith)
 
 settled_round : (own entry : Content) (seen : ℕ) (round : Round) → IsRound round → settled (record { own = own; seen = seen; round = round }) ≡ Some entry → IsShort entry
-settled_round own entry seen (Settled found told) h e = subst IsShort (some_is found entry e) h
+settled_round own entry seen (Settled found told) h e = subst IsShort (same_Some found entry e) h
 settled_round own entry seen (Asking leader sent) h e = cc
 settled_round own entry seen (Preparing ballot reports sent) h e = cc
 settled_round own entry seen (Accepting ballot found voted sent) h e = cc

@@ -1,8 +1,9 @@
 -- Rows that have a text if that is short enough, against those that have one.
-use Rattle.std.proofs.Common.{◌≡◌, ℕ, ◌+◌, ◌==◌, ◌&&◌, ◌≤◌, Bool, true, false, List, [], ◌∷◌, length, length-append, flat_map, Option, Some, None, refl, arith}
+use Rattle.std.proofs.Common.{◌≡◌, ℕ, ◌+◌, ◌==◌, ◌&&◌, ◌≤◌, true, List, [], ◌∷◌, length, length-append, flat_map, Option, Some, None, arith}
 use Rattle.std.specs.Prelude.{nat_lt}
 use Rattle.std.specs.List.{list_all}
 use Rattle.std.proofs.lemmas.Bool.Decides.{nat_tests}
+use Rattle.std.proofs.lemmas.Bool.{and_parts}
 use Rattle.mega_base.specs.Codec.{IsOption, option_text}
 use Rattle.mega_base.specs.Values.{Ascends, IsRow, IsValue, cell_text, row_text, value_text}
 use Rattle.mega_base.specs.declared.values.Cell.{Cell}
@@ -81,10 +82,6 @@ row_short (Some row) h le = record { few = h.few; rising = cells_short 0 row.cel
 
 -- ---- a row that is put, and fits
 
-both : (a b : Bool) → (a && b) ≡ true → (a ≡ true) × (b ≡ true)
-both true b h = (refl, h)
-both false b h = cc
-
 at_least_one : (need : Need) (n : ℕ) → is_count need n ≡ true → 1 ≤ n
 at_least_one Required n e = one n e
   where
@@ -101,13 +98,13 @@ at_least_one Repeated n e = some n e
 
 some_values : (p : Option Property) (values : List Value) → cell_fits p values ≡ true → 1 ≤ length values
 some_values None values e = cc
-some_values (Some p) values e = at_least_one p.need (length values) (both (is_count p.need (length values)) (list_all (has_kind p.kind) values) e).0
+some_values (Some p) values e = at_least_one p.need (length values) (and_parts (is_count p.need (length values)) (list_all (has_kind p.kind) values) e).0
 
 rises_from : (ps : List Property) (low : ℕ) (cells : List Cell) → Each IsGiven cells → cells_fit ps low cells ≡ true → Rises (low + 1) cells
 rises_from ps low [] h e = tt
 rises_from ps low (c ∷ cs) h e =
-    let outer = both (nat_lt low c.property) (cell_fits (numbered ps c.property) c.values && cells_fit ps c.property cs) e in
-    let inner = both (cell_fits (numbered ps c.property) c.values) (cells_fit ps c.property cs) outer.1 in
+    let outer = and_parts (nat_lt low c.property) (cell_fits (numbered ps c.property) c.values && cells_fit ps c.property cs) e in
+    let inner = and_parts (cell_fits (numbered ps c.property) c.values) (cells_fit ps c.property cs) outer.1 in
     (((above low c.property outer.0, (h.0).0), (some_values (numbered ps c.property) c.values inner.0, (h.0).1)), rises_from ps c.property cs h.1 inner.1)
   where
     above : (a b : ℕ) → nat_lt a b ≡ true → a + 1 ≤ b
@@ -134,7 +131,7 @@ given_row ps row h e =
 table_row : (s : Schema) (n : ℕ) (t : Option Table) (row : Row) → Each IsGiven row.cells → fits_in s n t row ≡ true → IsSpelledRow row
 table_row s n None row h e = cc
 table_row s n (Some t) row h e =
-    given_row t.properties row h (both (cells_fit t.properties 0 row.cells) (has_required 1 t.properties row) (both (properties_fit t row) _ (both (has_place s n t row) _ e).0).0).0
+    given_row t.properties row h (and_parts (cells_fit t.properties 0 row.cells) (has_required 1 t.properties row) (and_parts (properties_fit t row) _ (and_parts (has_place s n t row) _ e).0).0).0
 
 pub put_row : (s : Schema) (n : ℕ) (row : Row) → Each IsGiven row.cells → fits s n row ≡ true → IsSpelledRow row
 put_row s n row h e = table_row s n (numbered s.tables n) row h e

@@ -3,6 +3,7 @@
 use Rattle.std.proofs.Common.{◌≡◌, ℕ, zero, suc, ◌+◌, ◌-◌, ◌≤◌, nat_le, Bool, true, false, cond, List, [], ◌∷◌, ◌++◌, take, length, Option, Some, None, Result, Ok, Err, refl, sym, ap, ◌∙◌, subst, arith}
 use Rattle.std.proofs.lemmas.Bool.Decides.{nat_tests}
 use Rattle.std.specs.List.{list_any}
+use Rattle.std.proofs.lemmas.Option.{same_Some}
 use Rattle.mega_base.specs.declared.names.Epoch.{Epoch}
 use Rattle.mega_base.specs.declared.names.GroupId.{GroupId}
 use Rattle.mega_base.specs.declared.names.OpId.{OpId}
@@ -63,12 +64,10 @@ use Rattle.mega_leased_laws.proofs.of_settled_laws.of_run_laws.Events.{each_appe
 use Rattle.mega_leased_laws.proofs.of_settled_laws.of_run_laws.Owned.{front_length, knows_front}
 use Rattle.mega_leased_laws.proofs.of_settled_laws.of_run_laws.Prefixes.{prefix_more}
 use Rattle.mega_leased_laws.proofs.of_settled_laws.of_run_laws.Turns.{Known, each_push}
-use Rattle.mega_fresh_laws.proofs.Enough.{Answered, IsFarAnswer, IsProposed, IsShown, ReadOver, Suffices}
+use Rattle.mega_fresh_laws.specs.FarEnough.{Answered, IsFarAnswer, IsProposed, IsShown, ReadOver}
+use Rattle.mega_fresh_laws.proofs.Enough.{Suffices}
 use Rattle.mega_fresh_laws.proofs.Accepts.{Never, NeverBody, polled_never, seeks_never}
 use Rattle.mega_fresh_laws.proofs.Through.{Of, PhaseFar, StageFar, polled_far, seeks_far}
-
-pub some_same : {X : Type 0} (x y : X) → Some x ≡ Some y → x ≡ y
-some_same x y h = cc
 
 -- a read answers with the rows of the entries
 answer_is : (s : Setting) (request : ReadRequest) (p : ℕ) (log : List Content) → rows_answer p (rows_shown (s.cluster).schema request log request.rows) ≡ read_answer s request p (after log no_rows) (list_after log [])
@@ -410,7 +409,7 @@ module _ (Far : List Item → OpId → GroupId → ℕ → Type 0) (enough : Suf
           find_it : (request : FindRequest) → W now (one (Find request)) → P (ends now id (local_found (s.cluster).schema request p (listed_at now group p)))
           find_it request w = ends_it now (one (Find request)) (local_found (s.cluster).schema request p (listed_at now group p)) w (λ guard t.
               found_far s.cluster tape id request request _ _ (listed_at now group p) _ (λ current other is.
-              subst (λ g. ReadOver Far tape id g (λ n front. find_over s.cluster request n front ≡ local_found (s.cluster).schema request p (listed_at now group p))) (some_same group other (sym (((w guard).phase).1).0 ∙ is))
+              subst (λ g. ReadOver Far tape id g (λ n front. find_over s.cluster request n front ≡ local_found (s.cluster).schema request p (listed_at now group p))) (same_Some group other (sym (((w guard).phase).1).0 ∙ is))
               (over (Find request) w guard (λ n front. find_over s.cluster request n front ≡ local_found (s.cluster).schema request p (listed_at now group p)) refl)))
 
           enters_it : (picked : Option Enter) → W now (one PumpEnter) → P (enters s again now (one PumpEnter) group r p picked)

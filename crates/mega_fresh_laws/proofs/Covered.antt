@@ -1,19 +1,10 @@
 -- In every run each answer and each proposal is fresh: what covers all that was decided before an operation began is far enough.
-use Rattle.std.proofs.Common.{ℕ, List, [], ◌∷◌, Option, Result, subst, sym, ◌≤◌, length}
+use Rattle.std.proofs.Common.{ℕ, List, [], ◌∷◌, subst, sym, ◌≤◌, length}
 use Rattle.mega_base.specs.declared.names.GroupId.{GroupId}
 use Rattle.mega_base.specs.declared.names.OpId.{OpId}
 use Rattle.mega_cluster.specs.declared.cluster.Cluster.{Cluster}
-use Rattle.mega_entry.specs.declared.content.Content.{Content}
-use Rattle.mega_wire.specs.declared.message.Body.{Body}
-use Rattle.mega_wire.specs.declared.message.Body.TheVariants.{Accept}
-use Rattle.mega_outcome.specs.declared.answer.Answer.{Answer}
-use Rattle.mega_outcome.specs.declared.answer.Answer.TheVariants.{AllTurned, Found as FoundAnswer, LogFull, Read as ReadAnswer, Turned}
-use Rattle.mega_outcome.specs.declared.answer.Shown.{Shown}
-use Rattle.mega_outcome.specs.declared.answer.Turn.{Turn}
-use Rattle.mega_outcome.specs.declared.request.Request.{Request}
-use Rattle.mega_outcome.specs.declared.request.Request.TheVariants.{Batch as BatchRequest, Find, Read as ReadRequested, Txn}
 use Rattle.mega_leased_laws.specs.of_settled_laws.of_run_laws.of_tape_laws.of_promises.of_transcript.declared.item.Item.{Item}
-use Rattle.mega_leased_laws.specs.of_settled_laws.of_run_laws.of_tape_laws.of_promises.of_transcript.declared.item.Item.TheVariants.{Begin, Decide, Sent, Answer as AnswerItem}
+use Rattle.mega_leased_laws.specs.of_settled_laws.of_run_laws.of_tape_laws.of_promises.of_transcript.declared.item.Item.TheVariants.{Begin, Decide}
 use Rattle.mega_leased_laws.specs.of_settled_laws.of_run_laws.of_tape_laws.of_promises.Promises.{Stands}
 use Rattle.mega_leased_laws.specs.of_settled_laws.of_run_laws.of_tape_laws.of_promises.Runs.{Cuts, Happening, IsRun, met_in, setting}
 use Rattle.mega_leased_laws.specs.of_settled_laws.of_run_laws.of_tape_laws.of_promises.of_rules.Met.{Met, Crashes}
@@ -29,13 +20,13 @@ use Rattle.mega_leased_laws.specs.of_settled_laws.of_run_laws.Usages.{Fits}
 use Rattle.mega_leased_laws.proofs.of_settled_laws.of_run_laws.Events.{IsPlain, each_append as each_both}
 use Rattle.mega_leased_laws.proofs.of_settled_laws.of_run_laws.Turns.{each_on}
 use Rattle.mega_leased_laws.specs.Items.{Are}
-use Rattle.mega_fresh_laws.specs.Covering.{AreTurned, Covers, IsFreshAnswer, IsFreshItem, IsProposed, IsShown, IsTurned, ReadOver}
+use Rattle.mega_fresh_laws.specs.Covering.{Covers, IsFreshItem}
 use Rattle.mega_fresh_laws.proofs.Moments.{Onward}
 use Rattle.mega_fresh_laws.proofs.Nearby.{Lives, step_locals}
 use Rattle.mega_fresh_laws.proofs.Enough.{Suffices}
-use Rattle.mega_fresh_laws.proofs.Enough as far
-use Rattle.mega_fresh_laws.proofs.Runs.{Near, fronts_plain, run_far}
+use Rattle.mega_fresh_laws.proofs.Runs.{Near, run_far}
 use Rattle.mega_leased_laws.proofs.Tails.{IsTail, Parted, front_each, front_of, fronts, step_parted}
+use Rattle.mega_leased_laws.proofs.Validating.{fronts_plain}
 use Rattle.mega_fresh_laws.proofs.Through.{begun_before}
 
 -- ---- such positions are far enough
@@ -48,49 +39,6 @@ polled_covers c tape l q op group p polled = λ un node n entry s. let b = begun
 
 covers_suffice : Suffices Covers
 covers_suffice = record { stays = covers_on; polled = polled_covers }
-
--- ---- what was read, in the words of the law
-
-over_is : (tape : List Item) (op : OpId) (group : GroupId) (Shows : ℕ → List Content → Type 0) → far.ReadOver Covers tape op group Shows → ReadOver tape op group Shows
-over_is tape op group Shows h = record { below = h.below; known = h.known; covers = h.far; shows = h.shows }
-
-module _ (c : Cluster) (tape : List Item) (op : OpId) where
-  shown_is : (request : Request) (answer : Answer) → far.IsShown Covers c tape op request answer → IsShown c tape op request answer
-  shown_is (ReadRequested request) answer h = λ current. over_is tape op request.group _ (h current)
-  shown_is (Find request) answer h = λ current group is. over_is tape op group _ (h current group is)
-  shown_is _ answer h = tt
-
-  turned_is : (request : Request) (turn : Turn) → far.IsTurned Covers c tape op request turn → IsTurned c tape op request turn
-  turned_is (Txn transaction) turn h = over_is tape op transaction.group _ h
-  turned_is (ReadRequested request) turn h = shown_is (ReadRequested request) (Turned turn) h
-  turned_is (Find request) turn h = shown_is (Find request) (Turned turn) h
-  turned_is _ turn h = tt
-
-  all_turned_is : (request : Request) (results : List (Result (List (Option Shown)) Turn)) → far.AreTurned Covers c tape op request results → AreTurned c tape op request results
-  all_turned_is (BatchRequest group transactions) results h = over_is tape op group _ h
-  all_turned_is _ results h = tt
-
-  answer_is : (request : Request) (answer : Answer) → far.IsFarAnswer Covers c tape op request answer → IsFreshAnswer c tape op request answer
-  answer_is request (ReadAnswer p rows) h = shown_is request (ReadAnswer p rows) h
-  answer_is request (FoundAnswer marks found) h = shown_is request (FoundAnswer marks found) h
-  answer_is request (Turned turn) h = turned_is request turn h
-  answer_is request (AllTurned results) h = all_turned_is request results h
-  answer_is request (LogFull n) h = record { group = h.group; home = h.home; reads = over_is tape op h.group _ h.reads }
-  answer_is request _ h = tt
-
-body_is : (tape : List Item) (body : Body) → far.IsProposed Covers tape body → IsProposed tape body
-body_is tape (Accept op group n b e) h = h
-body_is tape _ h = tt
-
-module _ (c : Cluster) (usage : Usage) where
-  item_is : (before : List Item) (item : Item) → far.IsFarItem Covers c usage before item → IsFreshItem c usage before item
-  item_is before (AnswerItem op answer) h = record { request = h.request; asked = h.asked; fresh = answer_is c before op h.request answer h.far }
-  item_is before (Sent key m) h = body_is before m.body h
-  item_is before _ h = tt
-
-  items_are : (tape : List Item) → Are (far.IsFarItem Covers c usage) tape → Are (IsFreshItem c usage) tape
-  items_are [] h = tt
-  items_are (item ∷ before) h = (item_is before item h.0, items_are before h.1)
 
 plain_lives : (notes : List Met) → Each IsPlain notes → Each Lives notes
 plain_lives notes h = each_on IsPlain Lives one notes h
@@ -133,4 +81,4 @@ near_covers c few five usage first cuts h now me item event g r then up own whol
 -- each answer and each proposal of every run
 pub run_fresh : (c : Cluster) (usage : Usage) (first : Meanings) (events : List Happening) (tape : List Item) → length c.nodes ≤ 9 → c.cells ≤ 5 → IsRun c first events tape → Fits usage events → Are (IsFreshItem c usage) tape
 run_fresh c usage first events tape few five run fits =
-    items_are c usage tape (run_far Covers covers_suffice c usage first events tape (λ cuts. near_covers c few five usage first cuts) run fits)
+    run_far Covers covers_suffice c usage first events tape (λ cuts. near_covers c few five usage first cuts) run fits

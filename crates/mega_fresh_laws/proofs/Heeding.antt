@@ -1,5 +1,6 @@
 -- All that the operations of a node do in a step, one after another: what they hear, what is due, and one that begins.
 use Rattle.std.proofs.Common.{◌≡◌, ℕ, ◌-◌, nat_le, Bool, true, false, cond, List, [], ◌∷◌, length, map, flat_map, fold, Option, Some, None, refl, sym, ap, ◌∙◌, subst}
+use Rattle.std.proofs.lemmas.Option.{same_Some}
 use Rattle.mega_base.specs.declared.names.GroupId.{GroupId}
 use Rattle.mega_base.specs.declared.names.OpId.{OpId}
 use Rattle.mega_cluster.specs.declared.cluster.Cluster.{Cluster}
@@ -34,7 +35,8 @@ use Rattle.mega_leased_laws.specs.of_settled_laws.of_run_laws.of_tape_laws.Polls
 use Rattle.mega_leased_laws.specs.of_settled_laws.of_run_laws.of_tape_laws.Writes.{Usage}
 use Rattle.mega_leased_laws.specs.of_settled_laws.of_run_laws.Justified.{Each}
 use Rattle.mega_leased_laws.proofs.of_settled_laws.of_run_laws.Turns.{Known}
-use Rattle.mega_fresh_laws.proofs.Enough.{IsFarAnswer, IsProposed, Suffices}
+use Rattle.mega_fresh_laws.specs.FarEnough.{IsFarAnswer, IsProposed}
+use Rattle.mega_fresh_laws.proofs.Enough.{Suffices}
 use Rattle.mega_fresh_laws.proofs.Accepts.{Zero, ZeroBody, due_zero, falls_due_never, hears_never, takes_zero}
 use Rattle.mega_fresh_laws.proofs.Through.{Of, PhaseAbove, PhaseFar, due_far, hears_far}
 use Rattle.mega_base.specs.declared.values.NodeKind.{NodeKind}
@@ -43,7 +45,7 @@ use Rattle.mega_leased_laws.specs.of_settled_laws.of_run_laws.of_tape_laws.of_pr
 use Rattle.mega_index.specs.Fits.{numbered}
 use Rattle.mega_leased_laws.specs.of_settled_laws.of_run_laws.of_tape_laws.of_promises.of_rules.Finding.{group_bytes, group_marks, refreshed_marks, rows_through}
 use Rattle.mega_leased_laws.specs.of_settled_laws.of_run_laws.of_tape_laws.of_promises.of_rules.Steps.{applied_position, needs_full, snapshot_listed, stored_listed, unless_missing}
-use Rattle.mega_fresh_laws.proofs.Acting.{Acting, Begins, Guard, Locals, answers_more, begins_read_it, found_far, goes_on_it, never_far, picks_group_it, picks_message_it, rows_far, sends_acting, some_same}
+use Rattle.mega_fresh_laws.proofs.Acting.{Acting, Begins, Guard, Locals, answers_more, begins_read_it, found_far, goes_on_it, never_far, picks_group_it, picks_message_it, rows_far, sends_acting}
 
 module _ (Far : List Item → OpId → GroupId → ℕ → Type 0) (enough : Suffices Far) where
   clash_of : {X : Type 0} (t : Bool) → t ≡ true → t ≡ false → X
@@ -63,12 +65,12 @@ module _ (Far : List Item → OpId → GroupId → ℕ → Type 0) (enough : Suf
   -- no answer of an operation that is refused, or that has waited too long, shows rows
   pub refused_far : (c : Cluster) (tape : List Item) (op : OpId) (asked : Request) (open_ones : List Operation) (kind : Option NodeKind) (worn : Bool) (answer : Answer) → cond worn (Some Worn) (unless_missing open_ones kind) ≡ Some answer
       → IsFarAnswer Far c tape op asked answer
-  refused_far c tape op asked open_ones kind true answer is = subst (IsFarAnswer Far c tape op asked) (some_same Worn answer is) tt
-  refused_far c tape op asked open_ones (Some kind) false answer is = subst (IsFarAnswer Far c tape op asked) (some_same (NotHere kind) answer is) tt
+  refused_far c tape op asked open_ones kind true answer is = subst (IsFarAnswer Far c tape op asked) (same_Some Worn answer is) tt
+  refused_far c tape op asked open_ones (Some kind) false answer is = subst (IsFarAnswer Far c tape op asked) (same_Some (NotHere kind) answer is) tt
   refused_far c tape op asked open_ones None false answer is = by (nat_le 64 (length open_ones)) is
     where
       by : (t : Bool) → cond t (Some (Busy 64)) None ≡ Some answer → IsFarAnswer Far c tape op asked answer
-      by true k = subst (IsFarAnswer Far c tape op asked) (some_same (Busy 64) answer k) tt
+      by true k = subst (IsFarAnswer Far c tape op asked) (same_Some (Busy 64) answer k) tt
       by false k = cc
 
   out_far : (c : Cluster) (tape : List Item) (o : Operation) → IsFarAnswer Far c tape o.id o.request (last_answer o)

@@ -23,7 +23,7 @@ use Rattle.mega_leased_laws.specs.of_settled_laws.of_run_laws.of_tape_laws.of_pr
 use Rattle.mega_leased_laws.specs.of_settled_laws.of_run_laws.of_tape_laws.of_promises.of_rules.Met.{Met, Begins, Takes, Ticks}
 use Rattle.mega_leased_laws.specs.of_settled_laws.of_run_laws.of_tape_laws.of_promises.of_rules.Operations.{Node, Now, Operation, Setting}
 use Rattle.mega_leased_laws.specs.of_settled_laws.of_run_laws.of_tape_laws.of_promises.of_rules.Replies.{reply_to}
-use Rattle.mega_leased_laws.specs.of_settled_laws.of_run_laws.of_tape_laws.of_promises.of_rules.Steps.{Begin, Decision, Event, Heard as HeardBy, Step, Take, Tick, all_act, at_first, at_open, background, begin_step, crashed, decision_note, first_settled, hears_message, if_new, is_worn, lapse_notes, lease_notes, missing_kind, new_operation, news, onto, op_of, portion_of, refusal, start, start_items, step, stored_after, taken, tick_step, ticked, told_decision, told_notes, unless_missing, unless_refused}
+use Rattle.mega_leased_laws.specs.of_settled_laws.of_run_laws.of_tape_laws.of_promises.of_rules.Steps.{Begin, Decision, Event, Step, Take, Tick, all_act, at_first, at_open, background, begin_step, crashed, decision_note, first_settled, hears_message, if_new, is_worn, lapse_notes, lease_notes, missing_kind, new_operation, news, onto, op_of, portion_of, refusal, start, start_items, step, stored_after, taken, tick_step, ticked, told_decision, told_notes, unless_missing, unless_refused}
 use Rattle.mega_leased_laws.specs.of_settled_laws.of_run_laws.of_tape_laws.Lawful.{message}
 use Rattle.mega_leased_laws.specs.of_settled_laws.of_run_laws.of_tape_laws.Places.{In, Place, Proposes as ProposesMove, Took, move_of, moves}
 use Rattle.mega_leased_laws.specs.of_settled_laws.of_run_laws.of_tape_laws.Writes.{Usage}
@@ -43,7 +43,10 @@ use Rattle.mega_leased_laws.specs.of_valid_laws.Leases.{has_polled}
 use Rattle.mega_leased_laws.specs.Items.{Are}
 use Rattle.mega_leased_laws.proofs.Cells.{by_node, occurs_own}
 use Rattle.mega_leased_laws.proofs.Forms.{Occurs, down, stepped}
-use Rattle.mega_leased_laws.proofs.Validating.{NoRequest, Plain, acquires_plain, background_plain, news_plain, next_is, not_worn, own_item, reply_plain, unasked_unpolled}
+use Rattle.mega_leased_laws.proofs.Validating.{NoRequest, Plain, acquires_plain, background_plain, news_plain, next_is, own_item, reply_plain, unasked_unpolled}
+use Rattle.mega_leased_laws.proofs.of_run_laws.Whole.{take_by}
+use Rattle.mega_leased_laws.proofs.of_run_laws.Steps.{not_worn}
+use Rattle.mega_leased_laws.proofs.Obeying.{mark_silent}
 use Rattle.mega_fresh_laws.proofs.Inquiries.{Beside, IsInquired, Unoffered, beside_items, beside_same, beside_silent, beside_then, mute_beside, mute_inquired, silent_inquired, silent_one}
 use Rattle.mega_fresh_laws.proofs.Meant.{Stays, run_stays, those_of}
 use Rattle.mega_fresh_laws.proofs.Polling.{Acted, AllActed, OpenHeard, Waits, all_heard_acted, all_ticked_acted, begins_acted, open_beside}
@@ -232,11 +235,7 @@ module _ (s : Setting) (node : Node) (second : List Item) (count : ℕ) (law : A
       raised : (l : ℕ) → k ≤ l → Each (λ (o : Operation). ((o.id).number < l) × OpenHeard s.cluster second o) node.open_operations
       raised l le = each_zip (λ (o : Operation). (o.id).number < k) WaitsHere (λ (o : Operation). ((o.id).number < l) × OpenHeard s.cluster second o) (λ o less w. (omega (arith, less, le), w.opens)) node.open_operations below waits
 
-  abbrev take_by : Message → List HeardBy → Option Decision → Step
-  take_by m ts (Some d) = taken s node m (told_notes s node.met m.from m.body) ts (if_new node.met (Some d)) (reply_to s.cluster s.me node.met m) []
-  take_by m ts None = taken s node m (told_notes s node.met m.from m.body) ts (if_new node.met (first_settled ts)) (reply_to s.cluster s.me node.met m) (news s (if_new node.met (first_settled ts)))
-
-  take_heard : (m : Message) (told : Option Decision) → let made = take_by m (map (hears_message s (clock_of node.met) m) node.open_operations) told in
+  take_heard : (m : Message) (told : Option Decision) → let made = take_by s node m (map (hears_message s (clock_of node.met) m) node.open_operations) told in
       Took second (message m.from s.me m.body) → IsRising 0 node.open_operations → Each WaitsHere node.open_operations → StepHeard s.cluster s.me second (sent count made.sends second) (made.node).open_operations
   take_heard m (Some d) took rising waits = taken_heard m (if_new node.met (Some d)) [] took rising waits tt
   take_heard m None took rising waits = let d = if_new node.met (first_settled (map (hears_message s (clock_of node.met) m) node.open_operations)) in taken_heard m d (news s d) took rising waits (news_plain s d)
@@ -360,14 +359,10 @@ falls_inquired c now me q = silent_one_node c now (Crash (number me) ∷ now.tap
 
 marks_inquired : (c : Cluster) (now : Standing) (item : Item) → IsMark item → AllInquired c now.tape now.node → AllInquired c (item ∷ now.tape) now.node
 marks_inquired c now item is q = record {
-  items = (silent_one c item (mark item is) now.tape, q.items);
-  numbered = (silent_numbered now.tape item (mark item is), q.numbered);
-  opens = λ v. each_on (OpenHeard c now.tape) (OpenHeard c (item ∷ now.tape)) (λ x opened. open_beside c now.tape (item ∷ now.tape) x (beside_silent x.id now.tape item (mark item is)) opened) (now.node v).open_operations (q.opens v);
+  items = (silent_one c item (mark_silent item is) now.tape, q.items);
+  numbered = (silent_numbered now.tape item (mark_silent item is), q.numbered);
+  opens = λ v. each_on (OpenHeard c now.tape) (OpenHeard c (item ∷ now.tape)) (λ x opened. open_beside c now.tape (item ∷ now.tape) x (beside_silent x.id now.tape item (mark_silent item is)) opened) (now.node v).open_operations (q.opens v);
 }
-  where
-    mark : (x : Item) → IsMark x → IsSilent x
-    mark (Sent key m) k = absurd k
-    mark _ k = tt
 
 inquired_stays : (c : Cluster) (usage : Usage) (first : Meanings) (cuts : Cuts) → Stays c usage first cuts (AllInquired c)
 inquired_stays c usage first cuts = record {

@@ -1,6 +1,7 @@
 -- What a tape tells of what an operation asked and proposed: it asks nothing more once it proposed an entry of its own, and it proposes by what a poll told it
 -- where it asked anything about the group.
 use Rattle.std.proofs.Common.{ℕ, ◌≡◌, ◌⊎◌, inl, inr, ◌+◌, ◌-◌, ◌&&◌, Bool, true, false, not, cond, List, [], ◌∷◌, Some, refl, sym, ap, ◌∙◌, subst}
+use Rattle.std.proofs.lemmas.Bool.{or_from, and_left, and_right}
 use Rattle.mega_base.specs.declared.names.GroupId.{GroupId}
 use Rattle.mega_base.specs.declared.names.OpId.{OpId}
 use Rattle.mega_base.specs.declared.names.Position.{Position}
@@ -26,7 +27,6 @@ use Rattle.mega_leased_laws.proofs.of_settled_laws.of_run_laws.Turns.{each_on}
 use Rattle.mega_leased_laws.proofs.of_settled_laws.of_run_laws.Shown.{IsSilent}
 use Rattle.mega_leased_laws.specs.of_valid_laws.Leases.{asks_end, has_polled}
 use Rattle.mega_leased_laws.specs.Items.{Are}
-use Rattle.mega_leased_laws.proofs.Asking.{either_false, first_false, second_false}
 use Rattle.mega_leased_laws.proofs.Polls.{polled_on}
 use Rattle.mega_leased_laws.proofs.Tapes.{are_items, free_follows}
 use Rattle.mega_leased_laws.proofs.Validating.{silent_polled}
@@ -117,7 +117,7 @@ ApartItem x _ = Unit {0}
 apart_one : (x : OpId) (k : ℕ) (m : Message) (tape : List Item) → Apart x m → Beside x tape (Sent k m ∷ tape)
 apart_one x k m tape apart = record {
   stood = λ y s. inr s;
-  polled = λ g h. either_false (asks_end x g m.body) (has_polled tape x g) (by g m.body apart) h;
+  polled = λ g h. or_from (asks_end x g m.body) (has_polled tape x g) (by g m.body apart) h;
   unoffered = λ none. λ key to group n own id s. elim s [
     | inl same ↦ clash (same_op x x) (same_op_self x) (offered key to group n own id (subst (ApartItem x) same apart))
     | inr before ↦ none key to group n own id before
@@ -125,7 +125,7 @@ apart_one x k m tape apart = record {
 }
   where
     by : (g : GroupId) (body : Body) → ApartBody x body → asks_end x g body ≡ false
-    by g (Where asking group) is = first_false (same_op asking x) (same_group group g) is
+    by g (Where asking group) is = and_left (same_op asking x) (same_group group g) is
     by g _ is = refl
 
     offered : (key to : ℕ) (group : GroupId) (n : Position) (own : Content) → own.id ≡ Some x → ApartItem x (proposes key x to group n own) → same_op x x ≡ false
@@ -172,15 +172,15 @@ unasking_body op group _ none = refl
 
 pub unasking_sent : (op : OpId) (group : GroupId) (k : ℕ) (ms : List Message) (tape : List Item) → Each Unasking ms → has_polled tape op group ≡ false → has_polled (sent k ms tape) op group ≡ false
 unasking_sent op group k [] tape none h = h
-unasking_sent op group k (m ∷ ms) tape none h = unasking_sent op group (k + 1) ms (Sent k m ∷ tape) none.1 (either_false (asks_end op group m.body) (has_polled tape op group) (unasking_body op group m.body none.0) h)
+unasking_sent op group k (m ∷ ms) tape none h = unasking_sent op group (k + 1) ms (Sent k m ∷ tape) none.1 (or_from (asks_end op group m.body) (has_polled tape op group) (unasking_body op group m.body none.0) h)
 
 -- what asks about another group
 pub asks_elsewhere : (op : OpId) (group g : GroupId) (k : ℕ) (ms : List Message) (tape : List Item) → same_group group g ≡ false → Each (Asks op group) ms → has_polled tape op g ≡ false → has_polled (sent k ms tape) op g ≡ false
 asks_elsewhere op group g k [] tape apart asks h = h
-asks_elsewhere op group g k (m ∷ ms) tape apart asks h = asks_elsewhere op group g (k + 1) ms (Sent k m ∷ tape) apart asks.1 (either_false (asks_end op g m.body) (has_polled tape op g) (by m.from m.body asks.0) h)
+asks_elsewhere op group g k (m ∷ ms) tape apart asks h = asks_elsewhere op group g (k + 1) ms (Sent k m ∷ tape) apart asks.1 (or_from (asks_end op g m.body) (has_polled tape op g) (by m.from m.body asks.0) h)
   where
     by : (from : ℕ) (body : Body) → AsksBody from op group body → asks_end op g body ≡ false
-    by from (Where asking other) is = second_false (same_op asking op) (same_group other g) (ap (λ y. same_group y g) (is.1).1 ∙ apart)
+    by from (Where asking other) is = and_right (same_op asking op) (same_group other g) (ap (λ y. same_group y g) (is.1).1 ∙ apart)
     by from _ is = refl
 
 pub heard_stood : (c : Cluster) (old new : List Item) (op : OpId) (group : GroupId) (p : ℕ) → Stood old new → (has_polled old op group ≡ false → has_polled new op group ≡ false) → HasHeard c old op group p → HasHeard c new op group p

@@ -1,5 +1,6 @@
 -- What a node decided stands on the tape.
 use Rattle.std.proofs.Common.{ℕ, ◌≡◌, inl, inr, ◌==◌, ◌&&◌, Bool, true, false, cond, List, [], ◌∷◌, flat_map, Option, Some, None, refl, sym, ◌∙◌, subst}
+use Rattle.std.proofs.lemmas.Bool.{and_parts}
 use Rattle.mega_base.specs.declared.names.GroupId.{GroupId}
 use Rattle.mega_cluster.specs.declared.cluster.Cluster.{Cluster}
 use Rattle.mega_entry.specs.declared.content.Content.{Content}
@@ -9,11 +10,11 @@ use Rattle.mega_wal.specs.Same.{same_group}
 use Rattle.mega_wal.proofs.Sames.{same_group_equal}
 use Rattle.mega_leased_laws.specs.of_settled_laws.of_run_laws.of_tape_laws.of_promises.Items.{number, shown}
 use Rattle.mega_leased_laws.specs.of_settled_laws.of_run_laws.of_tape_laws.of_promises.Promises.{Stands}
-use Rattle.mega_leased_laws.specs.of_settled_laws.of_run_laws.of_tape_laws.of_promises.Runs.{met_in, with_items}
+use Rattle.mega_leased_laws.specs.of_settled_laws.of_run_laws.of_tape_laws.of_promises.Runs.{with_items}
 use Rattle.mega_leased_laws.specs.of_settled_laws.of_run_laws.of_tape_laws.of_promises.of_rules.Logs.{decided, first_of}
 use Rattle.mega_leased_laws.specs.of_settled_laws.of_run_laws.of_tape_laws.of_promises.of_rules.Met.{Met, Starts, Crashes, Ticks, Begins, Takes, Sends, Unsends, Grants, Lapses, Counts, Forgets, Serves, Loses, Validates, Invalidates, Decides, Applies, Answers}
-use Rattle.mega_leased_laws.specs.of_settled_laws.of_run_laws.of_tape_laws.of_promises.of_rules.Operations.{Node, Setting}
-use Rattle.mega_leased_laws.specs.of_settled_laws.of_run_laws.of_tape_laws.of_promises.of_rules.Steps.{Begin, Event, Take, Tick, onto}
+use Rattle.mega_leased_laws.specs.of_settled_laws.of_run_laws.of_tape_laws.of_promises.of_rules.Operations.{Node}
+use Rattle.mega_leased_laws.specs.of_settled_laws.of_run_laws.of_tape_laws.of_promises.of_rules.Steps.{onto}
 use Rattle.mega_leased_laws.proofs.of_settled_laws.of_run_laws.of_tape_laws.Ballots.{number_is}
 use Rattle.mega_leased_laws.proofs.of_settled_laws.of_run_laws.of_tape_laws.Lists.{some_is}
 use Rattle.mega_leased_laws.proofs.of_settled_laws.of_run_laws.Noted.{with_append}
@@ -22,16 +23,12 @@ use Rattle.mega_leased_laws.specs.of_settled_laws.Covering.{Earlier}
 use Rattle.mega_leased_laws.proofs.of_settled_laws.Tapes.{earlier_stood, items_later}
 
 module _ (c : Cluster) (nodes' : ℕ → Node) (me : ℕ) where
-  both : (a b : Bool) → (a && b) ≡ true → (a ≡ true) × (b ≡ true)
-  both true b k = (refl, k)
-  both false b k = cc
-
   known_decided : (g : GroupId) (n : ℕ) (entry : Content) (base : List Met) (tape : List Item) → Known me base tape → Known me (Decides g n entry ∷ base) (Decide (number me) g (record { 0 = n }) entry ∷ tape)
   known_decided g n entry base tape known h m x = by (same_group g h && n == m) refl
     where
       first : (same_group g h && n == m) ≡ true → (o : Option Content) → decided base h m ≡ o → first_of o entry ≡ Some x → Stands (Decide (number me) h (record { 0 = m }) x) (Decide (number me) g (record { 0 = n }) entry ∷ tape)
       first at (Some y) is k = inr (known h m x (is ∙ k))
-      first at None is k = let parts = both (same_group g h) (n == m) at in
+      first at None is k = let parts = and_parts (same_group g h) (n == m) at in
           inl (λ i. Decide (number me) (same_group_equal g h parts.0 i) (record { 0 = number_is n m parts.1 i }) (some_is entry x k i))
 
       by : (t : Bool) → (same_group g h && n == m) ≡ t → cond t (first_of (decided base h m) entry) (decided base h m) ≡ Some x → Stands (Decide (number me) h (record { 0 = m }) x) (Decide (number me) g (record { 0 = n }) entry ∷ tape)
@@ -65,8 +62,3 @@ module _ (c : Cluster) (nodes' : ℕ → Node) (me : ℕ) where
   known_notes [] met tape known = known
   known_notes (note ∷ notes) met tape known = subst (Known me (onto notes (note ∷ met))) (sym (with_append c nodes' (shown me note) (flat_map (shown me) notes) tape))
       (known_notes notes (note ∷ met) (with_items c nodes' tape (shown me note)) (known_one note met tape known))
-
-pub own_decided : (s : Setting) (met : List Met) (event : Event) (g : GroupId) (n : ℕ) → decided (met_in s met event ∷ met) g n ≡ decided met g n
-own_decided s met (Tick clock) g n = refl
-own_decided s met (Take m) g n = refl
-own_decided s met (Begin request text) g n = refl

@@ -2,6 +2,7 @@
 use Rattle.std.proofs.Common.{◌≡◌, ℕ, zero, suc, ◌+◌, ◌&&◌, ◌≤◌, ◌<◌, nat_le, Bool, true, false, not, cond, List, [], ◌∷◌, ◌++◌, flat_map, fold, find, Option, Some, None, refl, sym, ap, ◌∙◌, subst, arith}
 use Rattle.std.proofs.lemmas.Bool.Decides.{nat_tests}
 use Rattle.std.specs.List.{range_with_len}
+use Rattle.std.proofs.lemmas.Bool.{and_from, not-true, and_parts, not-false}
 use Rattle.mega_cluster.specs.declared.cluster.Cluster.{Cluster}
 use Rattle.mega_disk.specs.declared.pair.Device.TheVariants.{Log, Data}
 use Rattle.mega_handler.specs.Named.{Meanings}
@@ -23,7 +24,7 @@ use Rattle.mega_leased_laws.specs.of_settled_laws.of_run_laws.Usages.{Brought, F
 use Rattle.mega_leased_laws.specs.of_settled_laws.of_run_laws.Justified.{sent}
 use Rattle.mega_leased_laws.proofs.of_settled_laws.of_run_laws.Noted.{tape_item, with_append, with_sent}
 use Rattle.mega_leased_laws.proofs.of_settled_laws.of_run_laws.Owned.{Users}
-use Rattle.mega_leased_laws.proofs.of_settled_laws.of_run_laws.Runs.{IsMark, begin_good, both_true, crashes_good, fated_start_good, found, handed_good, marked_good, not_because, not_false, nothing_good, start_good, tick_good}
+use Rattle.mega_leased_laws.proofs.of_settled_laws.of_run_laws.Runs.{IsMark, begin_good, crashes_good, fated_start_good, found, handed_good, marked_good, not_because, nothing_good, start_good, tick_good}
 use Rattle.mega_leased_laws.proofs.of_settled_laws.of_run_laws.Standing.{Good}
 use Rattle.mega_leased_laws.proofs.of_settled_laws.of_run_laws.Steps.{stands_sent}
 use Rattle.mega_leased_laws.proofs.of_settled_laws.of_run_laws.Turns.{each_push}
@@ -141,16 +142,8 @@ module _ (c : Cluster) (usage : Usage) (first : Meanings) (cuts : Cuts) (Q : Sha
       by true e is again = let same = here base j is in (omega (arith, same), omega (arith, same))
       by false e is again = let rest = again is in let low = rest.0 in let high = rest.1 in (omega (arith, low), omega (arith, high))
 
-  joined : (a b : Bool) → a ≡ true → b ≡ true → (a && b) ≡ true
-  joined true b h j = j
-  joined false b h j = cc
-
   at_most : (a b : ℕ) → a ≤ b → nat_le a b ≡ true
   at_most a b le = grind (arith, nat_tests)
-
-  false_of : (t : Bool) → not t ≡ true → t ≡ false
-  false_of true h = cc
-  false_of false h = refl
 
   up_down : (now : Standing) (o : Option Message) → receiver_up (up now) o ≡ true → receiver_down now o ≡ false
   up_down now None h = cc
@@ -158,16 +151,16 @@ module _ (c : Cluster) (usage : Usage) (first : Meanings) (cuts : Cuts) (Q : Sha
 
   -- the least message that can be delivered is not refused
   not_refused : (now : Standing) (j : ℕ) → next_delivery (up now) now.tape ≡ Some j → refusal c now (Deliver j) ≡ None
-  not_refused now j e = by (not (is_sent now.tape j)) (is_dropped now.tape j) (receiver_down now (message_of now.tape j)) (ap not was) (false_of (is_dropped now.tape j) (both_true (not (is_taken now.tape j)) (not (is_dropped now.tape j)) parts.0).1) (up_down now (message_of now.tape j) parts.1)
+  not_refused now j e = by (not (is_sent now.tape j)) (is_dropped now.tape j) (receiver_down now (message_of now.tape j)) (ap not was) (not-true (is_dropped now.tape j) (and_parts (not (is_taken now.tape j)) (not (is_dropped now.tape j)) parts.0).1) (up_down now (message_of now.tape j) parts.1)
     where
       parts : (((not (is_taken now.tape j)) && (not (is_dropped now.tape j))) ≡ true) × (receiver_up (up now) (message_of now.tape j) ≡ true)
-      parts = both_true (not (is_taken now.tape j) && not (is_dropped now.tape j)) (receiver_up (up now) (message_of now.tape j)) (found (is_deliverable (up now) now.tape) _ j e)
+      parts = and_parts (not (is_taken now.tape j) && not (is_dropped now.tape j)) (receiver_up (up now) (message_of now.tape j)) (found (is_deliverable (up now) now.tape) _ j e)
 
       range : (1 ≤ j) × (j < 1 + sent_count now.tape)
       range = sent_if (is_deliverable (up now) now.tape) 1 (sent_count now.tape) j e
 
       was : is_sent now.tape j ≡ true
-      was = joined (nat_le 1 j) (nat_le j (sent_count now.tape)) (at_most 1 j range.0) (at_most j (sent_count now.tape) (let less = range.1 in omega (arith, less)))
+      was = and_from (nat_le 1 j) (nat_le j (sent_count now.tape)) (at_most 1 j range.0) (at_most j (sent_count now.tape) (let less = range.1 in omega (arith, less)))
 
       by : (a b d : Bool) → a ≡ false → b ≡ false → d ≡ false → cond {A = Option ℕ} a (Some 3) (cond {A = Option ℕ} b (Some 4) (cond {A = Option ℕ} d (Some 1) None)) ≡ None
       by false false false ha hb hd = refl
@@ -191,9 +184,9 @@ module _ (c : Cluster) (usage : Usage) (first : Meanings) (cuts : Cuts) (Q : Sha
     delivers : (now : Standing) (j : ℕ) (o : Option Message) → message_of now.tape j ≡ o → receiver_down now o ≡ false → Reaches (handed c h cuts now j o) → Kept now → Kept (handed c h cuts now j o)
     delivers now j None is down then x = record { good = x.good; reached = then; held = x.held }
     delivers now j (Some m) is down then x = record {
-      good = handed_good (those_of usage) c h (λ f. b) cuts now j (Some m) is (not_false (up now m.to) down) x.good;
+      good = handed_good (those_of usage) c h (λ f. b) cuts now j (Some m) is (not-false (up now m.to) down) x.good;
       reached = then;
-      held = took_on h now j (Some m) is (not_false (up now m.to) down) x.good x.reached then x.held;
+      held = took_on h now j (Some m) is (not-false (up now m.to) down) x.good x.reached then x.held;
     }
 
     delivered_kept : (now : Standing) (j : ℕ) → refusal c now (Deliver j) ≡ None → Kept now → Kept (delivered c h cuts now j)
@@ -235,10 +228,10 @@ module _ (c : Cluster) (usage : Usage) (first : Meanings) (cuts : Cuts) (Q : Sha
       by : (event : WorldEvent) → IsMeant usage event → refusal c now event ≡ None → Reaches (after_event c h cuts now event) → Kept (after_event c h cuts now event)
       by (TickEvent node clock) meant r then =
           let second = (not_because (not (is_node c node.0)) 6 _ r).1 in let third = (not_because (not (up now node.0)) 1 _ second).0 in record {
-            good = tick_good (those_of usage) c h (λ f. b) now node.0 clock (cuts now node.0) (not_false (up now node.0) third) x.good;
+            good = tick_good (those_of usage) c h (λ f. b) now node.0 clock (cuts now node.0) (not-false (up now node.0) third) x.good;
             reached = then;
             held = fated_stays h now node.0 (TickItem (number node.0) clock) (Tick clock)
-                (fate_by now node.0 (cuts now node.0) (calls_of c h now node.0 (Tick clock) (step (setting c h node.0) (now.node node.0) (Tick clock)))) x.good x.reached then (not_false (up now node.0) third) tt refl (λ nodes. refl) x.held;
+                (fate_by now node.0 (cuts now node.0) (calls_of c h now node.0 (Tick clock) (step (setting c h node.0) (now.node node.0) (Tick clock)))) x.good x.reached then (not-false (up now node.0) third) tt refl (λ nodes. refl) x.held;
           }
       by (Deliver j) meant r then = delivered_kept h b now j r x
       by (Drop j) meant r then = record {
@@ -263,11 +256,11 @@ module _ (c : Cluster) (usage : Usage) (first : Meanings) (cuts : Cuts) (Q : Sha
           fused_good g = record { lawful = g.lawful; node = g.node; starts = g.starts; polls = g.polls; written = g.written; unbegun = g.unbegun; answered = g.answered; unfailed = g.unfailed; fresh = g.fresh; unasked = g.unasked; worn = g.worn; owes = g.owes; owed = g.owed }
       by (BeginEvent node request text) meant r then =
           let first_two = not_because (not (is_node c node.0)) 6 _ r in let third = (not_because (not (up now node.0)) 1 _ first_two.1).0 in record {
-            good = begin_good (those_of usage) c h (λ f. b) now node.0 request text (cuts now node.0) (λ f. meant) (not_false (up now node.0) third) x.good;
+            good = begin_good (those_of usage) c h (λ f. b) now node.0 request text (cuts now node.0) (λ f. meant) (not-false (up now node.0) third) x.good;
             reached = then;
             held = fated_stays h now node.0 (BeginItem (op_of (setting c h node.0) (now.node node.0).met) text) (Begin request text)
                 (fate_by now node.0 (cuts now node.0) (calls_of c h now node.0 (Begin request text) (step (setting c h node.0) (now.node node.0) (Begin request text)))) x.good x.reached then
-                (not_false (up now node.0) third) (not_false (is_node c node.0) first_two.0, meant) refl (λ nodes. refl) x.held;
+                (not-false (up now node.0) third) (not-false (is_node c node.0) first_two.0, meant) refl (λ nodes. refl) x.held;
           }
 
   all_kept : (events : List Happening) (now : Standing) → Fits usage events → Kept now → Kept (goes_on c cuts now events)

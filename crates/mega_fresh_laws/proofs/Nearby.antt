@@ -1,6 +1,6 @@
 -- Where a node may read locally within a step, the greatest position that it accepted or decided by then covers each decision before the operation began,
 -- as long as leases are safe: what the tape shows at the step's end, before its messages, is that of a run.
-use Rattle.std.proofs.Common.{ℕ, ◌≡◌, ◌⊎◌, inl, inr, zero, suc, ◌+◌, ◌≤◌, ◌<◌, ◌&&◌, not, Bool, true, false, cond, List, [], ◌∷◌, ◌++◌, flat_map, length, map, refl, sym, ap, ◌∙◌, subst, arith}
+use Rattle.std.proofs.Common.{ℕ, ◌≡◌, ◌⊎◌, inl, inr, zero, suc, ◌+◌, ◌≤◌, ◌<◌, ◌&&◌, not, Bool, true, false, cond, List, [], ◌∷◌, flat_map, length, map, refl, sym, ap, ◌∙◌, subst, arith}
 use Rattle.mega_base.specs.declared.names.Epoch.{Epoch}
 use Rattle.mega_base.specs.declared.names.GroupId.{GroupId}
 use Rattle.mega_base.specs.declared.names.NodeId.{NodeId}
@@ -63,16 +63,12 @@ use Rattle.mega_fresh_laws.proofs.Acting.{IsValidate, Locals}
 use Rattle.mega_fresh_laws.proofs.Meant.{Reached, run_of, those_of}
 use Rattle.mega_fresh_laws.proofs.Moments.{IsCalm, Onward, calm_items}
 use Rattle.mega_leased_laws.proofs.Tails.{IsTail, Parted, front_each, front_of, step_parted}
+use Rattle.mega_leased_laws.proofs.of_run_laws.Picked.{in_both}
 use Rattle.mega_fresh_laws.proofs.Steps.{base_of}
 use Rattle.mega_fresh_laws.proofs.Tails.{Hit, hit_shows, sends_valid, tail_valid, valid_or}
 use Rattle.mega_fresh_laws.proofs.Tops.{noted_most, notes_stood}
 
 -- ---- lists
-
-in_either : {X : Type 0} (x : X) (xs ys : List X) → In x (xs ++ ys) → In x xs ⊎ In x ys
-in_either x [] ys i = inr i
-in_either x (y ∷ xs) ys (inl is) = inl (inl is)
-in_either x (y ∷ xs) ys (inr i) = elim (in_either x xs ys i) [ inl j ↦ inl (inr j) | inr j ↦ inr j ]
 
 in_each : {X : Type 0} (P : X → Type 0) (xs : List X) (x : X) → Each P xs → In x xs → P x
 in_each P [] x h i = absurd i
@@ -304,7 +300,7 @@ module _ (c : Cluster) (few : length c.nodes ≤ 9) (five : c.cells ≤ 5) (usag
     ]
       where
         in_rest : (hit : Hit c group valid) → In (Validates hit.one hit.position) rest
-        in_rest hit = elim (in_either (Validates hit.one hit.position) front rest (subst (In (Validates hit.one hit.position)) parted.is (in_each (λ note. In note made.notes) valid (Validates hit.one hit.position) among hit.among))) [
+        in_rest hit = elim (in_both (Validates hit.one hit.position) front rest (subst (In (Validates hit.one hit.position)) parted.is (in_each (λ note. In note made.notes) valid (Validates hit.one hit.position) among hit.among))) [
           | inl early ↦ absurd (front_none early)
           | inr later ↦ later
         ]
@@ -374,7 +370,7 @@ module _ (c : Cluster) (few : length c.nodes ≤ 9) (five : c.cells ≤ 5) (usag
             (subst (λ (at : Standing). m.0 ≤ top_of (at.node me).met group) (sym r.is) (run_decided_most c first r.events now.tape run_now me group m e before)) node_base
 
         by : ((me ≡ me) × In (Decides group m.0 e) made.notes) ⊎ Stands (Decide (number me) group m e) start_tape → m.0 ≤ top_of base group
-        by (inl noted) = in_front (in_either (Decides group m.0 e) front rest (subst (In (Decides group m.0 e)) parted.is noted.1))
+        by (inl noted) = in_front (in_both (Decides group m.0 e) front rest (subst (In (Decides group m.0 e)) parted.is noted.1))
         by (inr before) = at_start before
 
     covers_each : valid_at c next_met group ≡ true → (other : NodeId) (n : Position) (entry : Content) → Stands (Decide other group n entry) now.tape → n.0 ≤ top_of base group

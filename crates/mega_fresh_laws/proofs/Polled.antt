@@ -1,6 +1,7 @@
 -- What an operation proposes that polled its group stands above each position that was decided before it first asked, in every run, whether leases are safe or
 -- not.
-use Rattle.std.proofs.Common.{ℕ, ◌≡◌, inl, inr, suc, ◌+◌, ◌-◌, ◌&&◌, ◌||◌, ◌≤◌, ◌<◌, Bool, true, false, List, [], ◌∷◌, ◌++◌, Some, length, refl, sym, ap, ◌∙◌, subst, arith}
+use Rattle.std.proofs.Common.{ℕ, ◌≡◌, inl, inr, suc, ◌+◌, ◌-◌, ◌||◌, ◌≤◌, ◌<◌, Bool, true, false, List, [], ◌∷◌, ◌++◌, Some, length, refl, sym, ap, ◌∙◌, subst, arith}
+use Rattle.std.proofs.lemmas.Bool.{and_parts}
 use Rattle.mega_base.specs.declared.names.GroupId.{GroupId}
 use Rattle.mega_base.specs.declared.names.NodeId.{NodeId}
 use Rattle.mega_base.specs.declared.names.OpId.{OpId}
@@ -29,10 +30,11 @@ use Rattle.mega_leased_laws.specs.of_valid_laws.Leases.{asks_end, has_polled}
 use Rattle.mega_leased_laws.proofs.of_valid_laws.Joint.{polled_is}
 use Rattle.mega_leased_laws.specs.Items.{Are}
 use Rattle.mega_leased_laws.proofs.Polls.{polled_on}
+use Rattle.mega_leased_laws.proofs.of_settled_laws.Tapes.{stood_behind}
 use Rattle.mega_fresh_laws.proofs.Asked.{poll_covers}
 use Rattle.mega_fresh_laws.proofs.Inquired.{Inquired, IsNumbered, numbers_most, run_inquired}
 use Rattle.mega_fresh_laws.proofs.Inquiries.{HasHeard, IsInquired, Unoffered}
-use Rattle.mega_fresh_laws.proofs.Promised.{ItemAt, item_at, proposals, stood_later}
+use Rattle.mega_fresh_laws.proofs.Promised.{ItemAt, item_at, proposals}
 
 clash : {X : Type 0} (t : Bool) → t ≡ true → t ≡ false → X
 clash t h k = absurd (let both = sym h ∙ k in cc)
@@ -67,12 +69,8 @@ question_of : (tape : List Item) (op : OpId) (group : GroupId) → has_polled ta
 question_of [] op group h = cc
 question_of (Sent key m ∷ before) op group h = by (asks_end op group m.body) refl h (question_of before op group)
   where
-    both : (a b : Bool) → (a && b) ≡ true → (a ≡ true) × (b ≡ true)
-    both true b k = (refl, k)
-    both false b k = cc
-
     asked : (body : Body) → asks_end op group body ≡ true → Stands (Sent key (message m.from m.to body)) (Sent key (message m.from m.to body) ∷ before) → Question (Sent key (message m.from m.to body) ∷ before) op group
-    asked (Where asking g) e s = let parts = both (same_op asking op) (same_group g group) e in record {
+    asked (Where asking g) e s = let parts = and_parts (same_op asking op) (same_group g group) e in record {
       key = key;
       from = m.from;
       to = m.to;
@@ -106,7 +104,7 @@ no_question c [] before op group number to m own key voter law id none (inl same
 no_question c [] before op group number to m own key voter law id none (inr s) = clash (has_polled before op group) (polled_is before key op.node.0 voter op group s) none
 no_question c (item ∷ later) before op group number to m own key voter law id none (inl same) =
     let asked : (op.node.0 ≡ op.node.0) × Unoffered (later ++ proposes number op to group m own ∷ before) op = subst (IsInquired c (later ++ proposes number op to group m own ∷ before)) same law.0 in
-    asked.1 number to group m own id (stood_later later (proposes number op to group m own ∷ before) (proposes number op to group m own) (inl refl))
+    asked.1 number to group m own id (stood_behind later (proposes number op to group m own ∷ before) (proposes number op to group m own) (inl refl))
 no_question c (item ∷ later) before op group number to m own key voter law id none (inr s) = no_question c later before op group number to m own key voter law.1 id none s
 
 module _ (c : Cluster) (tape : List Item) (l : Lawful c tape) (q : ArePolls tape) (law : Inquired c tape) where
@@ -126,7 +124,7 @@ module _ (c : Cluster) (tape : List Item) (l : Lawful c tape) (q : ArePolls tape
 
       earlier : Question moment op group → ⊥
       earlier one = over asked one.key (sent_count moment)
-          (least one.key one.to (subst (Stands _) (sym is) (stood_later later (polls asked op voter group ∷ moment) _ (inr (subst (λ from. Stands (Sent one.key (message from one.to (Where op group))) moment)
+          (least one.key one.to (subst (Stands _) (sym is) (stood_behind later (polls asked op voter group ∷ moment) _ (inr (subst (λ from. Stands (Sent one.key (message from one.to (Where op group))) moment)
           (from_node c moment items.1 one.key one.from one.to op group one.stands) one.stands)))))
           (numbers_most moment numbers.1 one.key (message one.from one.to (Where op group)) one.stands) numbers.0
 
@@ -152,13 +150,13 @@ module _ (c : Cluster) (tape : List Item) (l : Lawful c tape) (q : ArePolls tape
           grouped (x ∷ later) = ap (λ t. x ∷ t) (grouped later)
 
       stood : Stood at.before tape
-      stood x k = subst (Stands x) (sym at.is) (stood_later at.later (proposes number op to group m own ∷ at.before) x (inr k))
+      stood x k = subst (Stands x) (sym at.is) (stood_behind at.later (proposes number op to group m own ∷ at.before) x (inr k))
 
       by : HasHeard c at.before op group (m.0 - 1) → n.0 ≤ m.0 - 1
       by (inl polled) = poll_covers c tape l q op group n (record { 0 = m.0 - 1 }) asking.moment moment_earlier (first_question op asked voter group asking.later asking.moment asking.is least) node entry asking.stands
           (polled_on c at.before tape op group (record { 0 = m.0 - 1 }) stood polled)
       by (inr none) = absurd (no_question c at.later at.before op group number to m own asked voter (subst (Are (IsInquired c)) at.is law.items) id none
-          (subst (Stands (polls asked op voter group)) at.is (subst (Stands (polls asked op voter group)) (sym asking.is) (stood_later asking.later (polls asked op voter group ∷ asking.moment) (polls asked op voter group) (inl refl)))))
+          (subst (Stands (polls asked op voter group)) at.is (subst (Stands (polls asked op voter group)) (sym asking.is) (stood_behind asking.later (polls asked op voter group ∷ asking.moment) (polls asked op voter group) (inl refl)))))
 
 module _ (c : Cluster) (usage : Usage) (first : Meanings) (events : List Happening) (tape : List Item) (few : length c.nodes ≤ 9) (five : c.cells ≤ 5) (run : IsRun c first events tape) (fits : Fits usage events) where
   pub polled : (op : OpId) (number to asked voter : ℕ) (group : GroupId) (m n : Position) (own entry : Content) (node : NodeId) → own.id ≡ Some op → Stands (proposes number op to group m own) tape

@@ -1,5 +1,6 @@
 -- So what is answered and what is proposed is fresh as it is promised: of the whole tape, also of what comes after.
 use Rattle.std.proofs.Common.{◌≡◌, ◌⊎◌, inl, inr, ℕ, suc, ◌-◌, ◌≤◌, ◌||◌, Bool, true, false, cond, List, [], ◌∷◌, ◌++◌, length, Option, Some, Result, Ok, Err, refl, sym, ap, ◌∙◌, subst, arith}
+use Rattle.std.proofs.lemmas.Bool.{or_left, or_right}
 use Rattle.mega_base.specs.declared.names.GroupId.{GroupId}
 use Rattle.mega_base.specs.declared.names.OpId.{OpId}
 use Rattle.mega_base.specs.declared.names.Position.{Position}
@@ -39,22 +40,15 @@ use Rattle.mega_leased_laws.proofs.of_settled_laws.of_run_laws.of_tape_laws.Made
 use Rattle.mega_leased_laws.proofs.of_settled_laws.of_run_laws.of_tape_laws.Origins.{Origin, id_is, origin}
 use Rattle.mega_leased_laws.specs.of_settled_laws.of_run_laws.Usages.{Fits}
 use Rattle.mega_leased_laws.proofs.of_settled_laws.of_run_laws.Runs.{run_answered, run_lawful, run_written}
-use Rattle.mega_leased_laws.proofs.of_settled_laws.Tapes.{written_before}
+use Rattle.mega_leased_laws.proofs.of_settled_laws.Tapes.{written_before, stood_behind}
 use Rattle.mega_leased_laws.specs.Items.{Are}
-use Rattle.mega_fresh_laws.specs.Covering.{Answered, Covers, IsFreshAnswer, IsFreshItem, ReadOver, before_begin}
+use Rattle.mega_fresh_laws.specs.FarEnough.{Answered, IsFarAnswer, ReadOver}
+use Rattle.mega_fresh_laws.specs.Covering.{Covers, IsFreshItem, before_begin}
 use Rattle.mega_fresh_laws.proofs.Moments.{NoBegin, onward_item}
 use Rattle.mega_fresh_laws.proofs.Covered.{run_fresh}
 
 clash : {X : Type 0} (t : Bool) → t ≡ true → t ≡ false → X
 clash t h k = absurd (let both_ways = sym h ∙ k in cc)
-
-either_left : (t u : Bool) → t ≡ true → (t || u) ≡ true
-either_left true u h = refl
-either_left false u h = cc
-
-either_right : (t u : Bool) → u ≡ true → (t || u) ≡ true
-either_right true u h = refl
-either_right false u h = h
 
 -- ---- where an item stands
 
@@ -68,10 +62,6 @@ pub item_at : (P : List Item → Item → Type 0) (item : Item) (tape : List Ite
 item_at P item [] h s = absurd s
 item_at P item (other ∷ before) h (inl same) = record { before = before; later = []; is = ap (λ x. x ∷ before) same; holds = subst (P before) same h.0 }
 item_at P item (other ∷ before) h (inr s) = let rest = item_at P item before h.1 s in record { before = rest.before; later = other ∷ rest.later; is = ap (λ t. other ∷ t) rest.is; holds = rest.holds }
-
-pub stood_later : (later before : List Item) (x : Item) → Stands x before → Stands x (later ++ before)
-stood_later [] before x s = s
-stood_later (item ∷ later) before x s = inr (stood_later later before x s)
 
 stood_at : (later before : List Item) (x item : Item) → Stands x before → StoodBefore x item (later ++ item ∷ before)
 stood_at [] before x item s = inl (refl, s)
@@ -98,7 +88,7 @@ begun_later [] before op h = h
 begun_later (item ∷ later) before op h = by item (begun_later later before op h)
   where
     by : (x : Item) → has_begun (later ++ before) op ≡ true → has_begun (x ∷ (later ++ before)) op ≡ true
-    by (Begin began text) k = either_right (same_op began op) (has_begun (later ++ before) op) k
+    by (Begin began text) k = or_right (same_op began op) (has_begun (later ++ before) op) k
     by _ k = k
 
 module _ (schema : Schema) (usage : Usage) (op : OpId) (named : IsNamed op) where
@@ -126,7 +116,7 @@ module _ (schema : Schema) (usage : Usage) (op : OpId) (named : IsNamed op) wher
 
   begin_stood : (tape : List Item) (text : List ℕ) (x : Item) → StoodBefore x (Begin op text) tape → has_begun tape op ≡ true
   begin_stood [] text x s = absurd s
-  begin_stood (item ∷ before) text x (inl both) = subst (λ y. has_begun (y ∷ before) op ≡ true) (sym both.0) (either_left (same_op op op) (has_begun before op) (same_op_self op))
+  begin_stood (item ∷ before) text x (inl both) = subst (λ y. has_begun (y ∷ before) op ≡ true) (sym both.0) (or_left (same_op op op) (has_begun before op) (same_op_self op))
   begin_stood (item ∷ before) text x (inr s) = begun_later (item ∷ []) before op (begin_stood before text x s)
 
   -- what stood before its begin
@@ -152,17 +142,17 @@ module _ (c : Cluster) (usage : Usage) (tape : List Item) (l : Lawful c tape) (w
       same = ap (λ t. before_begin t op) is
           ∙ (once_later c.schema usage op named later (item ∷ before) (subst (AreWritten c.schema usage) is w) (begun_later (item ∷ []) before op begun)).same ∙ (onward_item op before item plain).same
 
-  reads_through : (before later : List Item) (item : Item) → NoBegin item → tape ≡ later ++ item ∷ before → has_begun before op ≡ true → (group : GroupId) (Shows : ℕ → List Content → Type 0) → ReadOver before op group Shows
+  reads_through : (before later : List Item) (item : Item) → NoBegin item → tape ≡ later ++ item ∷ before → has_begun before op ≡ true → (group : GroupId) (Shows : ℕ → List Content → Type 0) → ReadOver Covers before op group Shows
       → ReadsThrough tape op group item Shows
   reads_through before later item plain is begun group Shows h = record {
     p = length h.below;
     within = front.shorter;
-    covers = covers_each before later item plain is begun group (length h.below) h.covers;
+    covers = covers_each before later item plain is begun group (length h.below) h.far;
     shows = subst (Shows (length h.below)) front.is h.shows;
   }
     where
       stood : (x : Item) → Stands x before → Stands x tape
-      stood x s = subst (Stands x) (sym is) (stood_later later (item ∷ before) x (inr s))
+      stood x s = subst (Stands x) (sym is) (stood_behind later (item ∷ before) x (inr s))
 
       front : IsFront (log_of tape group) h.below
       front = known_is_front c tape l op.node.0 group h.below (λ k d there. stood _ (h.known k d there))
@@ -180,7 +170,7 @@ record Given (c : Cluster) (usage : Usage) (tape : List Item) (op : OpId) (answe
   before : List Item
   later : List Item
   is : tape ≡ later ++ AnswerItem op answer ∷ before
-  fresh : Answered c usage before op answer
+  fresh : Answered Covers c usage before op answer
 
 module _ (c : Cluster) (usage : Usage) (first : Meanings) (events : List Happening) (tape : List Item) (few : length c.nodes ≤ 9) (five : c.cells ≤ 5) (run : IsRun c first events tape) (fits : Fits usage events) where
   lawful : Lawful c tape
@@ -212,11 +202,11 @@ module _ (c : Cluster) (usage : Usage) (first : Meanings) (events : List Happeni
         same = ap (λ t. asked_for usage.meaning t op) x.is
             ∙ (once_later c.schema usage op x.named x.later (AnswerItem op answer ∷ x.before) (subst (AreWritten c.schema usage) x.is written) (begun_later (AnswerItem op answer ∷ []) x.before op begun)).asked
 
-    through : (group : GroupId) (Shows : ℕ → List Content → Type 0) → ReadOver x.before op group Shows → ReadsThrough tape op group (AnswerItem op answer) Shows
+    through : (group : GroupId) (Shows : ℕ → List Content → Type 0) → ReadOver Covers x.before op group Shows → ReadsThrough tape op group (AnswerItem op answer) Shows
     through group Shows h = reads_through c usage tape lawful written op x.named x.before x.later (AnswerItem op answer) tt x.is begun group Shows h
 
-    fresh_of : (request : Request) → asked_for usage.meaning tape op ≡ Some request → IsFreshAnswer c x.before op request answer
-    fresh_of request asked = subst (λ q. IsFreshAnswer c x.before op q answer) (request_is request asked) (x.fresh).fresh
+    fresh_of : (request : Request) → asked_for usage.meaning tape op ≡ Some request → IsFarAnswer Covers c x.before op request answer
+    fresh_of request asked = subst (λ q. IsFarAnswer Covers c x.before op q answer) (request_is request asked) (x.fresh).far
 
   abbrev worn : Answer → Bool
   worn Worn = true
@@ -329,7 +319,7 @@ module _ (c : Cluster) (usage : Usage) (first : Meanings) (events : List Happeni
       same = ap (λ t. asked_for usage.meaning t op) at.is ∙ (once_later c.schema usage op named at.later (item ∷ at.before) (subst (AreWritten c.schema usage) at.is written_all) begun).asked
 
       front : IsFront (log_of tape group) o.below
-      front = known_is_front c tape lawful_all o.node group o.below (λ k d there. subst (Stands _) (sym at.is) (stood_later at.later (item ∷ at.before) _ (o.known k d there)))
+      front = known_is_front c tape lawful_all o.node group o.below (λ k d there. subst (Stands _) (sym at.is) (stood_behind at.later (item ∷ at.before) _ (o.known k d there)))
 
       less : (a b : ℕ) → a ≡ suc b → a - 1 ≡ b
       less a b is = omega (arith, is)

@@ -1,5 +1,6 @@
 -- In every run each answer and each proposal is of a log that was read far enough, item by item, and so is what stays open.
-use Rattle.std.proofs.Common.{ℕ, ◌≡◌, inl, inr, ◌+◌, ◌||◌, Bool, true, false, cond, List, [], ◌∷◌, ◌++◌, flat_map, refl, sym, ap, ◌∙◌, subst}
+use Rattle.std.proofs.Common.{ℕ, ◌≡◌, inl, inr, ◌+◌, Bool, true, false, cond, List, [], ◌∷◌, ◌++◌, flat_map, refl, sym, ap, ◌∙◌, subst}
+use Rattle.std.proofs.lemmas.Bool.{or_left, or_right}
 use Rattle.mega_base.specs.declared.names.GroupId.{GroupId}
 use Rattle.mega_base.specs.declared.names.OpId.{OpId}
 use Rattle.mega_cluster.specs.declared.cluster.Cluster.{Cluster}
@@ -16,13 +17,13 @@ use Rattle.mega_leased_laws.specs.of_settled_laws.of_run_laws.of_tape_laws.of_pr
 use Rattle.mega_leased_laws.specs.of_settled_laws.of_run_laws.of_tape_laws.of_promises.of_rules.Clock.{begun_of, is_up, start_of}
 use Rattle.mega_leased_laws.specs.of_settled_laws.of_run_laws.of_tape_laws.of_promises.of_rules.Met.{Met, Starts, Crashes, Ticks, Begins, Takes, Sends, Unsends, Validates, Applies, Answers}
 use Rattle.mega_leased_laws.specs.of_settled_laws.of_run_laws.of_tape_laws.of_promises.of_rules.Operations.{Node, Operation, Setting}
-use Rattle.mega_leased_laws.specs.of_settled_laws.of_run_laws.of_tape_laws.of_promises.of_rules.Steps.{Begin, Event, Step, Take, Tick, crashed, lapse_notes, lease_notes, onto, op_of, start, start_items, start_notes, step}
+use Rattle.mega_leased_laws.specs.of_settled_laws.of_run_laws.of_tape_laws.of_promises.of_rules.Steps.{Begin, Event, Step, Take, Tick, crashed, onto, op_of, start, start_items, start_notes, step}
 use Rattle.mega_leased_laws.specs.of_settled_laws.of_run_laws.of_tape_laws.Lawful.{Lawful, message}
 use Rattle.mega_leased_laws.specs.of_settled_laws.of_run_laws.of_tape_laws.Polls.{ArePolls}
 use Rattle.mega_leased_laws.specs.of_settled_laws.of_run_laws.of_tape_laws.Writes.{IsNamed, Usage, has_begun}
 use Rattle.mega_leased_laws.specs.of_settled_laws.of_run_laws.Usages.{Fits}
 use Rattle.mega_leased_laws.specs.of_settled_laws.of_run_laws.Justified.{Each, sent}
-use Rattle.mega_leased_laws.proofs.of_settled_laws.of_run_laws.Events.{IsPlain, each_append as each_both, lapses_plain, lease_plain, told_plain}
+use Rattle.mega_leased_laws.proofs.of_settled_laws.of_run_laws.Events.{IsPlain, each_append as each_both}
 use Rattle.mega_leased_laws.proofs.of_settled_laws.of_run_laws.Noted.{with_append, with_sent}
 use Rattle.mega_leased_laws.proofs.of_settled_laws.of_run_laws.Owned.{Mine, began_asked}
 use Rattle.mega_leased_laws.proofs.of_settled_laws.of_run_laws.Runs.{IsMark, run_lawful, run_polls, starts_plain}
@@ -40,11 +41,13 @@ use Rattle.mega_leased_laws.proofs.Forms.{Occurs, down, stepped}
 use Rattle.mega_leased_laws.proofs.Tapes.{IsFree, are_items, free_follows, free_notes}
 use Rattle.mega_fresh_laws.proofs.Acting.{IsValidate, Locals, NoteFar}
 use Rattle.mega_fresh_laws.proofs.Heeding.{Open}
-use Rattle.mega_fresh_laws.proofs.Knowing.{known_notes, own_decided}
+use Rattle.mega_fresh_laws.proofs.Knowing.{known_notes}
 use Rattle.mega_fresh_laws.proofs.Meant.{MayBegin, Reached, Stays, run_of, run_stays, those_of}
 use Rattle.mega_fresh_laws.proofs.Moments.{IsLater, NoBegin, Onward, later_shown, onward_begin, onward_item, onward_items, onward_sent, onward_then}
-use Rattle.mega_fresh_laws.proofs.Enough.{IsFarItem, IsProposed, Suffices, answered_on, proposed_on}
+use Rattle.mega_fresh_laws.specs.FarEnough.{IsFarItem, IsProposed}
+use Rattle.mega_fresh_laws.proofs.Enough.{Suffices, answered_on, proposed_on}
 use Rattle.mega_leased_laws.proofs.Tails.{Parted, front_each, front_of, fronts, step_parted}
+use Rattle.mega_leased_laws.proofs.Validating.{own_decided, fronts_plain}
 use Rattle.mega_fresh_laws.proofs.Steps.{IsApply, Shown, StepFar, base_of, step_far}
 use Rattle.mega_fresh_laws.proofs.Through.{PhaseFar, phase_above, phase_on}
 
@@ -73,11 +76,6 @@ plain_mute notes h = each_on IsPlain IsMute one notes h
     one (Begins op text) k = absurd k
     one (Answers op answer) k = absurd k
     one _ k = tt
-
-pub fronts_plain : (s : Setting) (node : Node) (event : Event) → Each IsPlain (fronts s node event)
-fronts_plain s node (Tick clock) = each_both IsPlain (lease_notes s node.met clock) (lapse_notes s node.met clock) (lease_plain s node.met clock) (lapses_plain s node.met clock)
-fronts_plain s node (Take m) = told_plain s node.met m.from m.body
-fronts_plain s node (Begin request text) = tt
 
 applies_mute : (notes : List Met) → Each IsApply notes → Each IsMute notes
 applies_mute notes h = each_on IsApply IsMute one notes h
@@ -115,19 +113,11 @@ earlier_polls moment tape e l = polls_before e.later moment (subst ArePolls e.is
 
 stands_begun : (tape : List Item) (op : OpId) (text : List ℕ) → Stands (BeginItem op text) tape → has_begun tape op ≡ true
 stands_begun [] op text s = absurd s
-stands_begun (item ∷ before) op text (inl is) = subst (λ x. has_begun (x ∷ before) op ≡ true) (sym is) (either (same_op op op) (has_begun before op) (same_op_self op))
-  where
-    either : (t u : Bool) → t ≡ true → (t || u) ≡ true
-    either true u h = refl
-    either false u h = cc
+stands_begun (item ∷ before) op text (inl is) = subst (λ x. has_begun (x ∷ before) op ≡ true) (sym is) (or_left (same_op op op) (has_begun before op) (same_op_self op))
 stands_begun (item ∷ before) op text (inr s) = still item (stands_begun before op text s)
   where
-    right : (t u : Bool) → u ≡ true → (t || u) ≡ true
-    right true u h = refl
-    right false u h = h
-
     still : (x : Item) → has_begun before op ≡ true → has_begun (x ∷ before) op ≡ true
-    still (BeginItem began words) h = right (same_op began op) (has_begun before op) h
+    still (BeginItem began words) h = or_right (same_op began op) (has_begun before op) h
     still _ h = h
 
 -- ---- standings

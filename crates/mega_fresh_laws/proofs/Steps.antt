@@ -1,7 +1,8 @@
 -- A step of a node: what it answers, what it proposes and what stays open are of logs that were read far enough, on the tape behind its first notes and its
 -- decision.
-use Rattle.std.proofs.Common.{ℕ, ◌≡◌, inl, inr, zero, suc, ◌-◌, ◌<◌, ◌&&◌, nat_le, nat_lt, slice_get, length, arith, Bool, true, false, cond, List, [], ◌∷◌, ◌++◌, map, flat_map, fold, Option, Some, None, refl, sym, ap, subst}
+use Rattle.std.proofs.Common.{ℕ, ◌≡◌, inl, inr, zero, suc, ◌-◌, ◌<◌, nat_le, nat_lt, slice_get, length, arith, Bool, true, false, cond, List, [], ◌∷◌, ◌++◌, map, flat_map, fold, Option, Some, None, refl, sym, subst, append-nil}
 use Rattle.std.proofs.lemmas.Bool.Decides.{nat_tests}
+use Rattle.std.proofs.lemmas.Bool.{and_parts, and_from}
 use Rattle.mega_base.specs.declared.names.GroupId.{GroupId}
 use Rattle.mega_base.specs.declared.names.OpId.{OpId}
 use Rattle.mega_base.specs.declared.values.NodeKind.{NodeKind}
@@ -35,7 +36,9 @@ use Rattle.mega_leased_laws.proofs.of_settled_laws.of_run_laws.Turns.{Known, eac
 use Rattle.mega_leased_laws.proofs.of_settled_laws.of_run_laws.Whole.{in_left, in_right}
 use Rattle.mega_leased_laws.proofs.Validating.{NoRequest, Plain, acquires_plain, background_plain, news_plain, reply_plain}
 use Rattle.mega_leased_laws.proofs.Tails.{decision_in, front_of}
-use Rattle.mega_fresh_laws.proofs.Enough.{IsProposed, Suffices}
+use Rattle.mega_leased_laws.proofs.of_run_laws.Whole.{take_by}
+use Rattle.mega_fresh_laws.specs.FarEnough.{IsProposed}
+use Rattle.mega_fresh_laws.proofs.Enough.{Suffices}
 use Rattle.mega_fresh_laws.proofs.Through.{PhaseFar}
 use Rattle.mega_fresh_laws.proofs.Acting.{Acting, IsValidate, Locals, NoteFar}
 use Rattle.mega_fresh_laws.proofs.Heeding.{Open, all_heard, all_ticked, begun_it, refused_far}
@@ -84,10 +87,6 @@ valid_among front applies valid answers = each_in (λ note. In note (((front ++ 
 
 -- ---- a node that runs operations
 
-both : (a b : Bool) → (a && b) ≡ true → (a ≡ true) × (b ≡ true)
-both true b h = (refl, h)
-both false b h = cc
-
 get_in : {X : Type 0} (xs : List X) (k : ℕ) → k < length xs → slice_get xs k ≡ None → ⊥
 get_in [] k less h = omega (arith, less)
 get_in (x ∷ xs) zero less h = cc
@@ -97,12 +96,8 @@ less_one : (n most : ℕ) → nat_le 1 n ≡ true → nat_le n most ≡ true →
 less_one n most low high = grind (arith, nat_tests)
 
 kind_full : (c : Cluster) (me : ℕ) (request : Request) (open_ones : List Operation) → is_node c me ≡ true → unless_missing open_ones (missing_kind request (kind_of c me)) ≡ None → needs_full request ≡ true → is_full c me ≡ true
-kind_full c me request open_ones node none needs = joined (is_node c me) (runs (kind_of c me)) node (by (kind_of c me) refl none)
+kind_full c me request open_ones node none needs = and_from (is_node c me) (runs (kind_of c me)) node (by (kind_of c me) refl none)
   where
-    joined : (a b : Bool) → a ≡ true → b ≡ true → (a && b) ≡ true
-    joined true b h k = k
-    joined false b h k = cc
-
     by_needs : (t : Bool) → t ≡ true → unless_missing open_ones (cond t (Some ReadOnly) None) ≡ None → false ≡ true
     by_needs true h k = cc
     by_needs false h k = cc
@@ -111,7 +106,7 @@ kind_full c me request open_ones node none needs = joined (is_node c me) (runs (
     by (Some Full) e k = refl
     by (Some Witness) e k = cc
     by (Some ReadOnly) e k = by_needs (needs_full request) needs k
-    by None e k = let parts = both (nat_le 1 me) (nat_le me (length c.nodes)) node in absurd (get_in c.nodes (me - 1) (less_one me (length c.nodes) parts.0 parts.1) e)
+    by None e k = let parts = and_parts (nat_le 1 me) (nat_le me (length c.nodes)) node in absurd (get_in c.nodes (me - 1) (less_one me (length c.nodes) parts.0 parts.1) e)
 
 unworn : (worn : Bool) (other : Option Answer) → cond worn (Some Worn) other ≡ None → other ≡ None
 unworn true other h = cc
@@ -264,26 +259,17 @@ module _ (Far : List Item → OpId → GroupId → ℕ → Type 0) (enough : Suf
     Shown (Take m) = Took tape (message m.from s.me m.body)
     Shown (Begin request text) = (is_node s.cluster s.me ≡ true) × (asked_for usage.meaning tape (op_of s node.met) ≡ Some request)
 
-    abbrev take_by : Message → Option Decision → Step
-    take_by m (Some d) = taken s node m (told_notes s node.met m.from m.body) (map (hears_message s (clock_of node.met) m) node.open_operations) (if_new node.met (Some d)) (reply_to s.cluster s.me node.met m) []
-    take_by m None = taken s node m (told_notes s node.met m.from m.body) (map (hears_message s (clock_of node.met) m) node.open_operations) (if_new node.met (first_settled (map (hears_message s (clock_of node.met) m) node.open_operations)))
-        (reply_to s.cluster s.me node.met m) (news s (if_new node.met (first_settled (map (hears_message s (clock_of node.met) m) node.open_operations))))
-
-    append_nil : {X : Type 0} (xs : List X) → xs ++ [] ≡ xs
-    append_nil [] = refl
-    append_nil (x ∷ xs) = ap (λ ys. x ∷ ys) (append_nil xs)
-
     take_far : (m : Message) (told : Option Decision) → Known s.me (onto (told_notes s node.met m.from m.body ++ decision_note (decision_in s node m told)) (Takes m ∷ node.met)) tape
-        → Locals Far s tape (onto (told_notes s node.met m.from m.body ++ decision_note (decision_in s node m told)) (Takes m ∷ node.met)) (take_by m told).notes → Shown (Take m) → Opens node.open_operations
-        → StepFar s usage tape (told_notes s node.met m.from m.body ++ decision_note (decision_in s node m told)) (take_by m told)
+        → Locals Far s tape (onto (told_notes s node.met m.from m.body ++ decision_note (decision_in s node m told)) (Takes m ∷ node.met)) (take_by s node m (map (hears_message s (clock_of node.met) m) node.open_operations) told).notes → Shown (Take m) → Opens node.open_operations
+        → StepFar s usage tape (told_notes s node.met m.from m.body ++ decision_note (decision_in s node m told)) (take_by s node m (map (hears_message s (clock_of node.met) m) node.open_operations) told)
     take_far m (Some d) known locals shown opens =
         let apart = onto_append (told_notes s node.met m.from m.body) (decision_note (if_new node.met (Some d))) (Takes m ∷ node.met) in
-        taken_far m (if_new node.met (Some d)) [] (subst (λ b. Known s.me b tape) apart known) (subst (λ b. Locals Far s tape b (take_by m (Some d)).notes) apart locals) shown opens
-        (subst (Each Quiet) (sym (append_nil (reply_to s.cluster s.me node.met m))) (plain_quiet _ (reply_plain s.cluster s.me node.met m)))
+        taken_far m (if_new node.met (Some d)) [] (subst (λ b. Known s.me b tape) apart known) (subst (λ b. Locals Far s tape b (take_by s node m (map (hears_message s (clock_of node.met) m) node.open_operations) (Some d)).notes) apart locals) shown opens
+        (subst (Each Quiet) (sym (append-nil (reply_to s.cluster s.me node.met m))) (plain_quiet _ (reply_plain s.cluster s.me node.met m)))
     take_far m None known locals shown opens =
         let d = if_new node.met (first_settled (map (hears_message s (clock_of node.met) m) node.open_operations)) in
         let apart = onto_append (told_notes s node.met m.from m.body) (decision_note d) (Takes m ∷ node.met) in
-        taken_far m d (news s d) (subst (λ b. Known s.me b tape) apart known) (subst (λ b. Locals Far s tape b (take_by m None).notes) apart locals) shown opens
+        taken_far m d (news s d) (subst (λ b. Known s.me b tape) apart known) (subst (λ b. Locals Far s tape b (take_by s node m (map (hears_message s (clock_of node.met) m) node.open_operations) None).notes) apart locals) shown opens
         (each_both Quiet (reply_to s.cluster s.me node.met m) (news s d) (plain_quiet _ (reply_plain s.cluster s.me node.met m)) (plain_quiet _ (news_plain s d)))
 
     pub step_far : (event : Event) → Known s.me (base_of s node event) tape → Locals Far s tape (base_of s node event) (step s node event).notes → Shown event → Opens node.open_operations

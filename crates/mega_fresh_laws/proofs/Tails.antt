@@ -1,6 +1,7 @@
 -- What a step notes behind its first notes and its decision ends the validity of no group; and which validate makes one valid.
 use Rattle.std.proofs.Common.{◌≡◌, ◌⊎◌, inl, inr, ℕ, ◌==◌, ◌&&◌, Bool, true, false, cond, List, [], ◌∷◌, ◌++◌, map, flat_map, Option, Some, None, refl, sym, ap, ◌∙◌}
 use Rattle.std.specs.Prelude.{is_none}
+use Rattle.std.proofs.lemmas.Bool.{and_from}
 use Rattle.mega_base.specs.declared.names.Epoch.{Epoch}
 use Rattle.mega_base.specs.declared.names.GroupId.{GroupId}
 use Rattle.mega_cluster.specs.declared.cluster.Cluster.{Cluster}
@@ -107,10 +108,6 @@ module _ (c : Cluster) (group : GroupId) where
 
   -- what the tape shows
   module _ (nodes : ℕ → Node) (me : ℕ) where
-    joined : (a b : Bool) → a ≡ true → b ≡ true → (a && b) ≡ true
-    joined true b h k = k
-    joined false b h k = cc
-
     if_valid : (t : Bool) (v : Bool) → v ≡ true → cond t true v ≡ true
     if_valid true v h = refl
     if_valid false v h = h
@@ -127,7 +124,7 @@ module _ (c : Cluster) (group : GroupId) where
     tail_still (_ ∷ notes) t each h = absurd each.0
 
     hit_here : (g : GroupId) (p : ℕ) (t : List Item) → same_group g group ≡ true → valid_on (Valid (number me) g (record { 0 = p }) ∷ t) me group ≡ true
-    hit_here g p t same = if_hit (me == me && same_group g group) (valid_on t me group) (joined (me == me) (same_group g group) (number_self me) same)
+    hit_here g p t same = if_hit (me == me && same_group g group) (valid_on t me group) (and_from (me == me) (same_group g group) (number_self me) same)
 
     pub hit_shows : (notes : List Met) (t : List Item) (g : GroupId) (p : ℕ) → Each IsTail notes → In (Validates g p) notes → same_group g group ≡ true → valid_on (with_items c nodes t (flat_map (shown me) notes)) me group ≡ true
     hit_shows [] t g p each i same = absurd i

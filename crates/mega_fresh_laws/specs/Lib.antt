@@ -1,3 +1,4 @@
+pub mod FarEnough
 pub mod Covering
 pub mod Stale
 pub use Rattle.mega_leased_laws.specs as of_leased_laws

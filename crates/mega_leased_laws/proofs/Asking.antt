@@ -1,8 +1,9 @@
 -- The operations of a node act one after another: each that noted an epoch began its poll while that epoch served, and asked no group before that it
 -- did not read.
-use Rattle.std.proofs.Common.{ℕ, ◌≡◌, ◌⊎◌, inl, inr, zero, suc, ◌+◌, ◌==◌, ◌&&◌, ◌||◌, ◌≤◌, ◌<◌, nat_le, nat_lt, Bool, true, false, cond, List, [], ◌∷◌, ◌++◌, length, map, fold, Option, Some, None, refl, sym, ap, ◌∙◌, subst, arith}
+use Rattle.std.proofs.Common.{ℕ, ◌≡◌, ◌⊎◌, inl, inr, zero, suc, ◌+◌, ◌==◌, ◌||◌, ◌≤◌, ◌<◌, nat_le, nat_lt, Bool, true, false, cond, List, [], ◌∷◌, ◌++◌, length, map, fold, Option, Some, None, refl, sym, ap, ◌∙◌, subst, arith}
 use Rattle.std.proofs.lemmas.Bool.Decides.{nat_tests}
 use Rattle.std.specs.List.{list_any}
+use Rattle.std.proofs.lemmas.Bool.{or_parts, and_parts, or_from, and_left, and_right}
 use Rattle.mega_base.specs.declared.names.Epoch.{Epoch}
 use Rattle.mega_base.specs.declared.names.GroupId.{GroupId}
 use Rattle.mega_base.specs.declared.names.OpId.{OpId}
@@ -54,26 +55,10 @@ abbrev pub polls_in : List Message → OpId → GroupId → Bool
 polls_in [] op group = false
 polls_in (m ∷ ms) op group = asks_end op group m.body || polls_in ms op group
 
-pub either_false : (a b : Bool) → a ≡ false → b ≡ false → (a || b) ≡ false
-either_false true b h k = h
-either_false false b h k = k
-
-neither : (a b : Bool) → (a || b) ≡ false → (a ≡ false) × (b ≡ false)
-neither true b h = cc
-neither false b h = (refl, h)
-
-pub first_false : (a b : Bool) → a ≡ false → (a && b) ≡ false
-first_false true b h = cc
-first_false false b h = refl
-
-pub second_false : (a b : Bool) → b ≡ false → (a && b) ≡ false
-second_false true b h = h
-second_false false b h = refl
-
 pub polls_both : (xs ys : List Message) (op : OpId) (group : GroupId) → polls_in xs op group ≡ false → polls_in ys op group ≡ false → polls_in (xs ++ ys) op group ≡ false
 polls_both [] ys op group h k = k
-polls_both (m ∷ xs) ys op group h k = let parts = neither (asks_end op group m.body) (polls_in xs op group) h in
-    either_false (asks_end op group m.body) (polls_in (xs ++ ys) op group) parts.0 (polls_both xs ys op group parts.1 k)
+polls_both (m ∷ xs) ys op group h k = let parts = or_parts (asks_end op group m.body) (polls_in xs op group) h in
+    or_from (asks_end op group m.body) (polls_in (xs ++ ys) op group) parts.0 (polls_both xs ys op group parts.1 k)
 
 -- of this operation, whatever the group
 abbrev pub OpBody : OpId → Body → Type 0
@@ -93,19 +78,19 @@ ends_one op group ms h = each_on (EndsOf op group) (OfOne op) (λ m e. by m.body
 -- another operation's messages ask nothing for this one
 polls_apart : (op x : OpId) (g : GroupId) (ms : List Message) → same_op op x ≡ false → Each (OfOne op) ms → polls_in ms x g ≡ false
 polls_apart op x g [] apart h = refl
-polls_apart op x g (m ∷ ms) apart h = either_false (asks_end x g m.body) (polls_in ms x g) (by m.body h.0) (polls_apart op x g ms apart h.1)
+polls_apart op x g (m ∷ ms) apart h = or_from (asks_end x g m.body) (polls_in ms x g) (by m.body h.0) (polls_apart op x g ms apart h.1)
   where
     by : (body : Body) → OpBody op body → asks_end x g body ≡ false
-    by (Where asking group) is = first_false (same_op asking x) (same_group group g) (ap (λ y. same_op y x) is ∙ apart)
+    by (Where asking group) is = and_left (same_op asking x) (same_group group g) (ap (λ y. same_op y x) is ∙ apart)
     by _ is = refl
 
 -- nor those about another group for this one
 polls_elsewhere : (op : OpId) (group g : GroupId) (ms : List Message) → same_group group g ≡ false → Each (EndsOf op group) ms → polls_in ms op g ≡ false
 polls_elsewhere op group g [] apart h = refl
-polls_elsewhere op group g (m ∷ ms) apart h = either_false (asks_end op g m.body) (polls_in ms op g) (by m.body h.0) (polls_elsewhere op group g ms apart h.1)
+polls_elsewhere op group g (m ∷ ms) apart h = or_from (asks_end op g m.body) (polls_in ms op g) (by m.body h.0) (polls_elsewhere op group g ms apart h.1)
   where
     by : (body : Body) → EndsBody op group body → asks_end op g body ≡ false
-    by (Where asking other) is = second_false (same_op asking op) (same_group other g) (ap (λ y. same_group y g) is.1 ∙ apart)
+    by (Where asking other) is = and_right (same_op asking op) (same_group other g) (ap (λ y. same_group y g) is.1 ∙ apart)
     by _ is = refl
 
 -- a message of this node: where it asks, it is of an operation with a lower number
@@ -136,10 +121,10 @@ less_not a b less same = omega (arith, less, same)
 -- messages of operations with lower numbers ask nothing for a later one
 below_silent : (me k : ℕ) (x : OpId) (g : GroupId) (ms : List Message) → k ≤ x.number → Each (Own me k) ms → polls_in ms x g ≡ false
 below_silent me k x g [] le own = refl
-below_silent me k x g (m ∷ ms) le own = either_false (asks_end x g m.body) (polls_in ms x g) (by m.body own.0) (below_silent me k x g ms le own.1)
+below_silent me k x g (m ∷ ms) le own = or_from (asks_end x g m.body) (polls_in ms x g) (by m.body own.0) (below_silent me k x g ms le own.1)
   where
     by : (body : Body) → OwnBody me k body → asks_end x g body ≡ false
-    by (Where op group) h = first_false (same_op op x) (same_group group g) (numbers_apart op x (less_not op.number x.number (let less = h.1 in omega (arith, less, le))))
+    by (Where op group) h = and_left (same_op op x) (same_group group g) (numbers_apart op x (less_not op.number x.number (let less = h.1 in omega (arith, less, le))))
     by _ h = refl
 
 -- ---- groups that were read
@@ -148,9 +133,9 @@ abbrev pub seen : List GroupId → GroupId → Bool
 seen visited group = list_any (same_group group) visited
 
 pub seen_before : (visited : List GroupId) (group g : GroupId) → seen (visited ++ group ∷ []) g ≡ false → (seen visited g ≡ false) × (same_group g group ≡ false)
-seen_before [] group g h = (refl, (neither (same_group g group) false h).0)
+seen_before [] group g h = (refl, (or_parts (same_group g group) false h).0)
 seen_before (one ∷ visited) group g h =
-    let parts = neither (same_group g one) (seen (visited ++ group ∷ []) g) h in let rest = seen_before visited group g parts.1 in (either_false (same_group g one) (seen visited g) parts.0 rest.0, rest.1)
+    let parts = or_parts (same_group g one) (seen (visited ++ group ∷ []) g) h in let rest = seen_before visited group g parts.1 in (or_from (same_group g one) (seen visited g) parts.0 rest.0, rest.1)
 
 pub seen_now : (visited : List GroupId) (group : GroupId) → seen (visited ++ group ∷ []) group ≡ true
 seen_now [] group = ap (λ t. t || false) (same_group_self group)
@@ -272,12 +257,8 @@ record Lawful (now : Option Epoch) (least p : ℕ) (noted : Epoch) : Type 0 wher
   above : least ≤ p
 
 pub same_is : (a b : Epoch) → is_same a b ≡ true → a ≡ b
-same_is a b h = let parts = both (a.start == b.start) (a.count == b.count) h in λ i. record { start = is_number a.start b.start parts.0 i; count = is_number a.count b.count parts.1 i }
+same_is a b h = let parts = and_parts (a.start == b.start) (a.count == b.count) h in λ i. record { start = is_number a.start b.start parts.0 i; count = is_number a.count b.count parts.1 i }
   where
-    both : (x y : Bool) → (x && y) ≡ true → (x ≡ true) × (y ≡ true)
-    both true y k = (refl, k)
-    both false y k = cc
-
     is_number : (x y : ℕ) → (x == y) ≡ true → x ≡ y
     is_number x y k = grind (arith, nat_tests)
 

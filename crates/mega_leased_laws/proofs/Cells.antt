@@ -1,6 +1,7 @@
 -- In every run of a cluster of at most nine nodes a cell that says that it holds nothing for a node holds nothing.
-use Rattle.std.proofs.Common.{◌≡◌, ◌⊎◌, inl, inr, ℕ, zero, suc, ◌+◌, ◌==◌, ◌&&◌, ◌≤◌, nat_le, nat_lt, Bool, true, false, cond, List, [], ◌∷◌, ◌++◌, filter, flat_map, length, map, Option, Some, None, is_some, refl, sym, ap, ◌∙◌, subst, arith}
+use Rattle.std.proofs.Common.{◌≡◌, ◌⊎◌, inl, inr, ℕ, zero, suc, ◌+◌, ◌==◌, ◌&&◌, ◌≤◌, nat_le, nat_lt, Bool, true, false, cond, List, [], ◌∷◌, ◌++◌, filter, flat_map, length, map, Option, Some, None, is_some, refl, sym, ap, ◌∙◌, subst, arith, append-nil}
 use Rattle.std.proofs.lemmas.Bool.Decides.{nat_tests}
+use Rattle.std.proofs.lemmas.Bool.{and_parts}
 use Rattle.mega_base.specs.declared.names.Epoch.{Epoch}
 use Rattle.mega_base.specs.declared.names.GroupId.{GroupId}
 use Rattle.mega_base.specs.declared.names.NodeId.{NodeId}
@@ -291,10 +292,6 @@ event_marks s met k (Tick now) = lapse_marks (lapse_for (cell_calls s.cluster s.
 event_marks s met k (Take m) = asked_marks s met k m.from m.body
 event_marks s met k (Begin request text) = []
 
-both : (a b : Bool) → (a && b) ≡ true → (a ≡ true) × (b ≡ true)
-both true b h = (refl, h)
-both false b h = cc
-
 granted_marks : (k from : ℕ) (epoch : Epoch) (a : Asked) → marks_for k (grant_note from epoch a) ≡ cond (from == k) (grant_marks epoch a) []
 granted_marks k from epoch Granted = refl
 granted_marks k from epoch Renewed = same_if (from == k) []
@@ -303,7 +300,7 @@ granted_marks k from epoch (Over greatest) = same_if (from == k) []
 
 module _ (s : Setting) (met : List Met) (k : ℕ) (cell_is : is_cell s.cluster s.me ≡ true) where
   housed : nat_le s.me s.cluster.cells ≡ true
-  housed = (both (nat_le 1 s.me) (nat_le s.me s.cluster.cells) cell_is).1
+  housed = (and_parts (nat_le 1 s.me) (nat_le s.me s.cluster.cells) cell_is).1
 
   told_marks : (from : ℕ) (body : Body) → marks_for k (told_notes s met from body) ≡ asked_marks s met k from body
   told_marks from (Acquire cell epoch clock) = by (cell == s.me)
@@ -319,10 +316,6 @@ module _ (s : Setting) (met : List Met) (k : ℕ) (cell_is : is_cell s.cluster s
   lapses_marks : (now : ℕ) → In k lock_nodes → marks_for k (lapse_notes s met now) ≡ lapse_marks (lapse_for (cell_calls s.cluster s.me met) now (keep_of s.cluster) k)
   lapses_marks now is = ap (λ t. marks_for k (cond t (lapses_at s.cluster s.me met now) [])) housed ∙ lapses_are k (λ node. lapse_for (cell_calls s.cluster s.me met) now (keep_of s.cluster) node) is
 
-append_nil : {X : Type 0} (xs : List X) → xs ++ [] ≡ xs
-append_nil [] = refl
-append_nil (x ∷ xs) = ap (λ ys. x ∷ ys) (append_nil xs)
-
 module _ (s : Setting) (node : Node) (k : ℕ) (is : In k lock_nodes) (cell_is : is_cell s.cluster s.me ≡ true) where
   front_marks : (event : Event) → marks_for k (fronts s node event) ≡ event_marks s node.met k event
   front_marks (Tick now) = marks_both k (lease_notes s node.met now) (lapse_notes s node.met now)
@@ -335,7 +328,7 @@ module _ (s : Setting) (node : Node) (k : ℕ) (is : In k lock_nodes) (cell_is :
   step_marks event = let parts = step_parts s node event in
       ap (marks_for k) parts.is ∙ marks_both k (fronts s node event) parts.rest
       ∙ ap (λ ms. marks_for k (fronts s node event) ++ ms) (unmarked k parts.rest (rest_unmarked parts.rest parts.each))
-      ∙ append_nil (marks_for k (fronts s node event)) ∙ front_marks event
+      ∙ append-nil (marks_for k (fronts s node event)) ∙ front_marks event
 
 -- each note of a step tells the cell nothing more
 told_still : (s : Setting) (met : List Met) (from : ℕ) (body : Body) → Each IsStill (told_notes s met from body)
@@ -475,7 +468,7 @@ step_match s node event k is cell_is h =
 
     last_is : last_grant (made.node).met k ≡ last_after (event_marks s node.met k event) (last_grant node.met k)
     last_is = ap (λ met. last_grant met k) whole ∙ last_onto k (made.notes ++ map Sends made.sends) first
-        ∙ ap (λ ms. last_after ms (last_grant first k)) (marks_both k made.notes (map Sends made.sends) ∙ ap (λ ms. marks_for k made.notes ++ ms) (unmarked k (map Sends made.sends) (sends_unmarked made.sends)) ∙ append_nil (marks_for k made.notes) ∙ step_marks s node k is cell_is event)
+        ∙ ap (λ ms. last_after ms (last_grant first k)) (marks_both k made.notes (map Sends made.sends) ∙ ap (λ ms. marks_for k made.notes ++ ms) (unmarked k (map Sends made.sends) (sends_unmarked made.sends)) ∙ append-nil (marks_for k made.notes) ∙ step_marks s node k is cell_is event)
         ∙ ap (last_after (event_marks s node.met k event)) (own_last s node.met event k)
 
 -- ---- standings
@@ -568,8 +561,8 @@ least a b h = grind (arith, nat_tests)
 
 pub full_nine : (c : Cluster) (node : ℕ) → length c.nodes ≤ 9 → is_full c node ≡ true → In node lock_nodes
 full_nine c node few full =
-    let is = (both (is_node c node) _ full).0 in
-    let parts = both (nat_le 1 node) (nat_le node (length c.nodes)) is in
+    let is = (and_parts (is_node c node) _ full).0 in
+    let parts = and_parts (nat_le 1 node) (nat_le node (length c.nodes)) is in
     let one = least 1 node parts.0 in let most = least node (length c.nodes) parts.1 in
     in_nine node one (omega (arith, most, few))
 
@@ -611,7 +604,7 @@ module _ (c : Cluster) (few : length c.nodes ≤ 9) (tape : List Item) (nodes : 
   })
     where
       parts : ((cell == me) ≡ true) × (is_cell c me ≡ true)
-      parts = both (cell == me) (is_cell c me) cell_is
+      parts = and_parts (cell == me) (is_cell c me) cell_is
 
       own : cell ≡ me
       own = number_is cell me parts.0
@@ -804,7 +797,7 @@ filtered P (one ∷ notes) f = by (is_durable one) refl (filtered P notes f)
     by true e rest = (f one e, rest)
     by false e rest = rest
 
-filtered_each : (P : Met → Type 0) (notes : List Met) → Each P notes → Each P (filter is_durable notes)
+pub filtered_each : (P : Met → Type 0) (notes : List Met) → Each P notes → Each P (filter is_durable notes)
 filtered_each P [] h = tt
 filtered_each P (one ∷ notes) h = by (is_durable one) (filtered_each P notes h.1)
   where
@@ -948,7 +941,7 @@ module _ (c : Cluster) (few : length c.nodes ≤ 9) (h : Meanings) (now : Standi
     kept_marks : (k : ℕ) → In k lock_nodes → is_cell c me ≡ true → marks_for k (owing true) ≡ event_marks s (now.node me).met k event
     kept_marks k is cell_is = marks_both k (filter is_durable (made event).notes) (map Unsends (replies_in c me (now.node me).met event))
         ∙ (λ i. durable_marks k (made event).notes i ++ unmarked k (map Unsends (replies_in c me (now.node me).met event)) (unsent_unmarked (replies_in c me (now.node me).met event)) i)
-        ∙ append_nil (marks_for k (made event).notes) ∙ step_marks s (now.node me) k is cell_is event
+        ∙ append-nil (marks_for k (made event).notes) ∙ step_marks s (now.node me) k is cell_is event
 
     finds_by : (kept : Bool) (k : ℕ) → is_cell c me ≡ true → In k lock_nodes → Matches (lock_after (marks_for k (owing kept)) (lock_of (reopenings node2.met) k)) (last_after (marks_for k (owing kept)) (last_grant node2.met k))
     finds_by true k cell_is is = coe 1 0 (i. Matches (lock_after (kept_marks k is cell_is i) (lock_of (own_reopens s (now.node me).met event i) k)) (last_after (kept_marks k is cell_is i) (own_last s (now.node me).met event k i)))
@@ -993,7 +986,7 @@ module _ (c : Cluster) (h : Meanings) (now : Standing) (me count : ℕ) (q : Cel
   applied_unmarked = rest_unmarked applied_notes (start_rest begun (onto (now.owed me) (Starts count ∷ (now.node me).met)))
 
   opened_marks : (k : ℕ) → marks_for k (now.owed me ++ applied_notes) ≡ marks_for k (now.owed me)
-  opened_marks k = marks_both k (now.owed me) applied_notes ∙ ap (λ ms. marks_for k (now.owed me) ++ ms) (unmarked k applied_notes applied_unmarked) ∙ append_nil (marks_for k (now.owed me))
+  opened_marks k = marks_both k (now.owed me) applied_notes ∙ ap (λ ms. marks_for k (now.owed me) ++ ms) (unmarked k applied_notes applied_unmarked) ∙ append-nil (marks_for k (now.owed me))
 
   opened_locks : (k : ℕ) → is_cell c me ≡ true → In k lock_nodes → Matches (lock_of (cell_calls c me fresh.met) k) (last_grant fresh.met k)
   opened_locks k cell_is is = coe 1 0 (i. Matches (lock_is i) (last_is i)) ((q.cell me).finds k cell_is is)

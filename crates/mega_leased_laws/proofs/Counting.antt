@@ -5,6 +5,7 @@ use Rattle.std.specs.List.{range_with_len}
 use Rattle.std.specs.Option.{option_map_or}
 use Rattle.std.proofs.lemmas.Bool.Decides.{nat_tests}
 use Rattle.std.proofs.lemmas.List.Sums.{sum_by-cons}
+use Rattle.std.proofs.lemmas.Bool.{and_from}
 use Rattle.mega_base.specs.declared.names.Epoch.{Epoch}
 use Rattle.mega_cluster.specs.declared.cluster.Cluster.{Cluster}
 use Rattle.mega_coordinator.specs.declared.answers.Counted.{Counted}
@@ -394,11 +395,7 @@ module _ (s : Setting) (full : is_full s.cluster s.me ≡ true) (few : (s.cluste
       no_answer false e = cc
 
       same_self : (x : Epoch) → is_same_epoch x x ≡ true
-      same_self x = joined (x.start == x.start) (x.count == x.count) (number_self x.start) (number_self x.count)
-        where
-          joined : (a b : Bool) → a ≡ true → b ≡ true → (a && b) ≡ true
-          joined true b p q = q
-          joined false b p q = cc
+      same_self x = and_from (x.start == x.start) (x.count == x.count) (number_self x.start) (number_self x.count)
 
       -- the slot of the cell
       here : (was : Bool) → is_some (counted_by lease cell) ≡ was → 0 < cell → epoch ≡ e → cond was (is_some (get_or lease.until i None)) (cond (cell == suc i && is_same_epoch epoch e) true (is_some (get_or lease.until i None))) ≡ cond (cell - 1 == i) true (is_some (get_or lease.until i None))
@@ -492,11 +489,7 @@ module _ (s : Setting) (full : is_full s.cluster s.me ≡ true) (few : (s.cluste
   forgets_of cell e (other ∷ those) x = forgets_of cell e those (cond (other == cell && is_same_epoch e e) false x) ∙ by (other == cell) (is_same_epoch e e) (same_self e) (has cell those)
     where
       same_self : (y : Epoch) → is_same_epoch y y ≡ true
-      same_self y = joined (y.start == y.start) (y.count == y.count) (number_self y.start) (number_self y.count)
-        where
-          joined : (a b : Bool) → a ≡ true → b ≡ true → (a && b) ≡ true
-          joined true b p q = q
-          joined false b p q = cc
+      same_self y = and_from (y.start == y.start) (y.count == y.count) (number_self y.start) (number_self y.count)
 
       by : (t u : Bool) → u ≡ true → (w : Bool) → cond w false (cond (t && u) false x) ≡ cond (t || w) false x
       by true true at true = refl

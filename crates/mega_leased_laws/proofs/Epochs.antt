@@ -1,8 +1,8 @@
 -- In every run no epoch is granted above one that serves, a cell is counted that granted the epoch while none serves, and an epoch serves once, with none
 -- above it.
 use Rattle.std.proofs.Common.{◌≡◌, ◌⊎◌, inl, inr, ℕ, ◌+◌, ◌==◌, ◌&&◌, ◌||◌, ◌≤◌, ◌<◌, nat_le, Bool, true, false, not, cond, List, [], ◌∷◌, ◌++◌, filter, flat_map, length, map, Option, Some, None, is_some, refl, sym, ap, ◌∙◌, subst, arith}
-use Rattle.std.specs.Prelude.{option_map}
-use Rattle.std.specs.Option.{option_map_or}
+use Rattle.std.proofs.lemmas.Bool.{not-true, and_parts}
+use Rattle.std.proofs.lemmas.List.Concat.{flat_map-append}
 use Rattle.mega_base.specs.declared.names.Epoch.{Epoch}
 use Rattle.mega_base.specs.declared.names.NodeId.{NodeId}
 use Rattle.mega_cluster.specs.declared.cluster.Cluster.{Cluster}
@@ -57,6 +57,7 @@ use Rattle.mega_valid_laws.proofs.Epochs.{Shown, granted_shown, serving_stands}
 use Rattle.mega_valid_laws.proofs.Folds.{IsOwn, tells_serving}
 use Rattle.mega_valid_laws.proofs.Shows.{ShownAt, nothing_shown, shown_keeps}
 use Rattle.mega_valid_laws.proofs.Walked.{AgreesAt, step_agrees}
+use Rattle.mega_valid_laws.proofs.Agreeing.{present_is}
 use Rattle.mega_lease_laws.proofs.of_run_laws.AnswerKinds.{IsHeldAnswer, IsLogAnswer, answer_kind}
 use Rattle.mega_leased_laws.specs.Items.{Are}
 use Rattle.mega_leased_laws.specs.Serving.{IsServing}
@@ -66,7 +67,7 @@ use Rattle.mega_leased_laws.proofs.Notes.{IsRest, Origin, step_origins, step_par
 use Rattle.mega_leased_laws.proofs.Tapes.{Follows, IsFree, are_items, are_sent, both_follow, free_follows, free_notes}
 use Rattle.mega_leased_laws.proofs.Told.{step_met}
 use Rattle.mega_leased_laws.proofs.Locks.{IsOwed, IsStill, Matches}
-use Rattle.mega_leased_laws.proofs.Cells.{AskedFor, AskedFull, Celling, EventAsks, GrantNote, at_me, by_node, celling_holds, full_nine, nothing_celling, occurs_own, of_asked, rest_given, sends_still, start_owed, start_rest, step_granted, step_still}
+use Rattle.mega_leased_laws.proofs.Cells.{AskedFor, AskedFull, Celling, EventAsks, GrantNote, at_me, by_node, celling_holds, full_nine, nothing_celling, occurs_own, of_asked, rest_given, sends_still, start_owed, start_rest, step_granted, step_still, filtered_each}
 use Rattle.mega_leased_laws.proofs.Reached.{Grown, IsPresent, IsWithin, Reached, asked_present, grown_onto, not_above, present_before, present_reached, reached_grown, reached_start, serving_grown, serving_present}
 
 -- ---- tapes
@@ -83,14 +84,6 @@ are_at : (P : List Item → Item → Type 0) (tape : List Item) (item : Item) �
 are_at P [] item h s = absurd s
 are_at P (other ∷ before) item h (inl same) = record { before = before; holds = subst (P before) same h.0 }
 are_at P (other ∷ before) item h (inr s) = let a = are_at P before item h.1 s in record { before = a.before; holds = a.holds }
-
-flat_both : {X Y : Type 0} (f : X → List Y) (xs ys : List X) → flat_map f (xs ++ ys) ≡ flat_map f xs ++ flat_map f ys
-flat_both f [] ys = refl
-flat_both f (x ∷ xs) ys = ap (λ zs. f x ++ zs) (flat_both f xs ys) ∙ grouped (f x) (flat_map f xs) (flat_map f ys)
-  where
-    grouped : {Y : Type 0} (a b d : List Y) → a ++ (b ++ d) ≡ (a ++ b) ++ d
-    grouped [] b d = refl
-    grouped (y ∷ a) b d = ap (λ zs. y ∷ zs) (grouped a b d)
 
 -- ---- what holds of each item
 
@@ -256,7 +249,7 @@ quiet_serve F notes h = each_on IsQuiet (ServeNote F) one notes h
     one (Serves epoch) is = absurd is
     one _ is = tt
 
-still_within : (notes : List Met) → Each IsStill notes → Each IsWithin notes
+pub still_within : (notes : List Met) → Each IsStill notes → Each IsWithin notes
 still_within notes h = each_on IsStill IsWithin one notes h
   where
     one : (note : Met) → IsStill note → IsWithin note
@@ -269,7 +262,7 @@ still_up (Starts start ∷ notes) met h = absurd h.0
 still_up (Crashes ∷ notes) met h = absurd h.0
 still_up (one ∷ notes) met h = still_up notes (one ∷ met) h.1
 
-owed_within : (notes : List Met) → Each IsOwed notes → Each IsWithin notes
+pub owed_within : (notes : List Met) → Each IsOwed notes → Each IsWithin notes
 owed_within notes h = each_on IsOwed IsWithin one notes h
   where
     one : (note : Met) → IsOwed note → IsWithin note
@@ -329,30 +322,14 @@ tick_serve F s met now = quiet_serve F (lease_notes s met now ++ lapse_notes s m
 
 -- ---- a cell that is counted
 
-both : (a b : Bool) → (a && b) ≡ true → (a ≡ true) × (b ≡ true)
-both true b h = (refl, h)
-both false b h = cc
-
 left_of : (a b : Bool) → (a && b) ≡ true → a ≡ true
 left_of true b h = refl
 left_of false b h = h
-
--- the epoch for which a cell counts is the present one
-present_is : (start : ℕ) (lease : Lease) (e : Epoch) → is_present start lease e ≡ true → epoch_of start lease ≡ Some e
-present_is start lease e h = by lease.count h
-  where
-    by : (o : Option ℕ) → option_map_or (λ count. e.start == start && e.count == count) o false ≡ true → option_map (λ count. record { start = start; count = count }) o ≡ Some e
-    by None h = cc
-    by (Some count) h = let parts = both (e.start == start) (e.count == count) h in λ i. Some (record { start = sym (number_is e.start start parts.0) i; count = sym (number_is e.count count parts.1) i })
 
 -- a cell that was not counted is so while nothing serves
 idle_of : (serves was : Bool) → (not serves || was) ≡ true → was ≡ false → serves ≡ false
 idle_of true was h none = let both_ways = sym h ∙ none in cc
 idle_of false was h none = refl
-
-not_is : (t : Bool) → not t ≡ true → t ≡ false
-not_is true h = cc
-not_is false h = refl
 
 -- an epoch begins to serve where none does
 record Begins_at (start : ℕ) (lease : Lease) (epoch : Epoch) : Type 0 where
@@ -378,7 +355,7 @@ module _ (start cells : ℕ) (lease : Lease) (cell : ℕ) (epoch : Epoch) (until
   answer_serves h = by (counts start cells lease cell epoch until now) refl (not lease.serves && is_majority cells (until_with lease cell until)) refl h
     where
       by : (t : Bool) → counts start cells lease cell epoch until now ≡ t → (u : Bool) → (not lease.serves && is_majority cells (until_with lease cell until)) ≡ u → cond t (cond u ServingAnswer Yes) No ≡ ServingAnswer → Begins_at start lease epoch
-      by true k true j i = record { idle = not_is lease.serves (left_of (not lease.serves) _ j); present = counts_present k }
+      by true k true j i = record { idle = not-true lease.serves (left_of (not lease.serves) _ j); present = counts_present k }
       by true k false j i = cc
       by false k u j i = cc
 
@@ -417,14 +394,6 @@ grants_then F G f notes h = each_on (GrantNote F) (GrantNote G) one notes h
     one : (note : Met) → GrantNote F note → GrantNote G note
     one (Grants node epoch) k = f node epoch k
     one _ k = tt
-
-filtered_each : (P : Met → Type 0) (notes : List Met) → Each P notes → Each P (filter is_durable notes)
-filtered_each P [] h = tt
-filtered_each P (one ∷ notes) h = by (is_durable one) (filtered_each P notes h.1)
-  where
-    by : (t : Bool) → Each P (filter is_durable notes) → Each P (cond t (one ∷ filter is_durable notes) (filter is_durable notes))
-    by true rest = (h.0, rest)
-    by false rest = rest
 
 unsent_granted : (F : ℕ → Epoch → Type 0) (ms : List Message) → Each (GrantNote F) (map Unsends ms)
 unsent_granted F [] = tt
@@ -648,13 +617,13 @@ module _ (c : Cluster) (few : length c.nodes ≤ 9) (h : Meanings) (now : Standi
     }
       where
         parts : ((cell == me) ≡ true) × (is_cell c me ≡ true)
-        parts = both (cell == me) (is_cell c me) at
+        parts = and_parts (cell == me) (is_cell c me) at
 
         own : cell ≡ me
         own = number_is cell me parts.0
 
         both_are : (cell == me && nat_le me c.cells) ≡ true
-        both_are = ap (λ t. t && nat_le me c.cells) parts.0 ∙ (both (nat_le 1 me) (nat_le me c.cells) parts.1).1
+        both_are = ap (λ t. t && nat_le me c.cells) parts.0 ∙ (and_parts (nat_le 1 me) (nat_le me c.cells) parts.1).1
     acquire_tells from cell epoch clock m full to true at Renewed asked k = record {
       come = subst (AskedFor (Come c nodes) m.from) (some_is (GrantedBody cell epoch clock) m.body k) tt;
       tells = subst (Tells (behind (cond (cell == me && nat_le me c.cells) [] [])) m.to) (some_is (GrantedBody cell epoch clock) m.body k)
@@ -663,7 +632,7 @@ module _ (c : Cluster) (few : length c.nodes ≤ 9) (h : Meanings) (now : Standi
     }
       where
         parts : ((cell == me) ≡ true) × (is_cell c me ≡ true)
-        parts = both (cell == me) (is_cell c me) at
+        parts = and_parts (cell == me) (is_cell c me) at
 
         own : cell ≡ me
         own = number_is cell me parts.0
@@ -841,7 +810,7 @@ module _ (c : Cluster) (few : length c.nodes ≤ 9) (h : Meanings) (now : Standi
 
   notes_follow : (item : Item) (event : Event) → IsOwn item → Occurs now.tape s met item event → Follows IsServing (λ t. tt) c (nodes' event) (item ∷ now.tape) (items event)
   notes_follow item event own_is o = let parts = step_parts s (now.node me) event in
-      subst (Follows IsServing (λ t. tt) c (nodes' event) (item ∷ now.tape)) (sym (ap (flat_map (shown me)) parts.is ∙ flat_both (shown me) (fronts s (now.node me) event) parts.rest))
+      subst (Follows IsServing (λ t. tt) c (nodes' event) (item ∷ now.tape)) (sym (ap (flat_map (shown me)) parts.is ∙ flat_map-append (shown me) (fronts s (now.node me) event) parts.rest))
       (both_follow IsServing (λ t. tt) c (nodes' event) (flat_map (shown me) (fronts s (now.node me) event)) (flat_map (shown me) parts.rest) (item ∷ now.tape) (fronts_follow item event own_is o)
       (quiet_follow me c (nodes' event) parts.rest (with_items c (nodes' event) (item ∷ now.tape) (flat_map (shown me) (fronts s (now.node me) event))) (rest_quiet parts.rest parts.each)))
 

@@ -1,7 +1,8 @@
 -- As long as leases are safe an epoch that serves is held, and so what a node has of a group that is valid there covers each decision.
-use Rattle.std.proofs.Common.{◌≡◌, ◌⊎◌, inl, inr, ℕ, zero, suc, ◌+◌, nat_le, ◌==◌, ◌&&◌, ◌≤◌, ◌<◌, Bool, true, false, cond, List, [], ◌∷◌, filter, length, Some, refl, sym, ap, ◌∙◌, subst, arith}
+use Rattle.std.proofs.Common.{◌≡◌, ◌⊎◌, inl, inr, ℕ, zero, suc, ◌+◌, nat_le, ◌==◌, ◌≤◌, ◌<◌, Bool, true, false, cond, List, [], ◌∷◌, filter, length, Some, refl, sym, ap, ◌∙◌, subst, arith}
 use Rattle.std.specs.List.{range_with_len}
 use Rattle.std.proofs.lemmas.Bool.Decides.{nat_tests}
+use Rattle.std.proofs.lemmas.Bool.{and_parts}
 use Rattle.mega_base.specs.declared.names.Epoch.{Epoch}
 use Rattle.mega_base.specs.declared.names.GroupId.{GroupId}
 use Rattle.mega_base.specs.declared.names.NodeId.{NodeId}
@@ -105,12 +106,8 @@ in_range x base (suc n) low high = by (base == x) refl (λ next. in_range x (bas
     by true at again = inl (is_number base x at)
     by false at again = inr (again (apart base x at low))
 
-both : (a b : Bool) → (a && b) ≡ true → (a ≡ true) × (b ≡ true)
-both true b h = (refl, h)
-both false b h = cc
-
 pub full_in : (c : Cluster) (node : ℕ) → is_full c node ≡ true → In node (full_nodes c)
-full_in c node full = let parts = both _ _ (both _ _ full).0 in in_filter (is_full c) node (nodes c) full (in_range node 1 (length c.nodes) (low node parts.0) (high node (length c.nodes) parts.1))
+full_in c node full = let parts = and_parts _ _ (and_parts _ _ full).0 in in_filter (is_full c) node (nodes c) full (in_range node 1 (length c.nodes) (low node parts.0) (high node (length c.nodes) parts.1))
   where
     low : (a : ℕ) → nat_le 1 a ≡ true → 1 ≤ a
     low a h = grind (arith, nat_tests)

@@ -17,8 +17,9 @@ use Rattle.mega_lease_laws.proofs.of_node_laws.Acting.{background_hold, news_hol
 use Rattle.mega_lease_laws.proofs.of_node_laws.Walk.{AllSent, IsHeard, all_act_it as all_ask, all_heard_hold, all_ticked_it as all_ticked_ask, begun_it as begun_ask, sent_lasts}
 use Rattle.mega_lease_laws.proofs.Acting.{Acquires, acquires_are, asks_act, asks_cover}
 use Rattle.mega_lease_laws.proofs.of_run_laws.Turns.{each_on}
+use Rattle.mega_lease_laws.proofs.of_run_laws.Whole.{take_by}
 use Rattle.mega_leased_laws.proofs.Tapes.{each_all}
-use Rattle.mega_leased_laws.proofs.Tails.{IsTail, Parted, decision_in, front_of, fronts, step_parted, take_by}
+use Rattle.mega_leased_laws.proofs.Tails.{IsTail, Parted, decision_in, front_of, fronts, step_parted}
 
 -- ---- notes
 
@@ -106,7 +107,7 @@ module _ (s : Setting) (node : Node) where
       ts : List Heard
       ts = map (hears_message s (clock_of node.met) m) node.open_operations
 
-      by : (told : Option Decision) → Each (Origin s node.met (Take m)) (take_by s node m told).sends
+      by : (told : Option Decision) → Each (Origin s node.met (Take m)) (take_by s node m ts told).sends
       by (Some d) = taken_origins m ts (if_new node.met (Some d)) [] (all_heard_hold Asks s (asks_act s) (clock_of node.met) m node.open_operations) (All-nil Asks)
       by None = taken_origins m ts (if_new node.met (first_settled ts)) (news s (if_new node.met (first_settled ts))) (all_heard_hold Asks s (asks_act s) (clock_of node.met) m node.open_operations) (news_hold Asks s (asks_act s) (if_new node.met (first_settled ts)))
   step_origins (Tick clock) =

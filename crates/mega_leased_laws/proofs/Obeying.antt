@@ -152,7 +152,7 @@ module _ (c : Cluster) (h : Meanings) (now : Standing) (me : ℕ) (q : Are IsObe
       (each_on IsSilent (IsFree IsObeyed (λ t. tt) c (nodes' event)) (λ one is t. silent_obeyed t one is) (items event) (notes_silent me (made event).notes)))
       (silent_obeyed now.tape item (own_silent item (occurs_own now.tape s (now.node me).met item event o)), q))
 
-mark_silent : (item : Item) → IsMark item → IsSilent item
+pub mark_silent : (item : Item) → IsMark item → IsSilent item
 mark_silent (Sent key m) h = absurd h
 mark_silent _ h = tt
 

@@ -2,6 +2,7 @@
 -- position through which it reads, whatever it completes then.
 use Rattle.std.proofs.Common.{◌≡◌, ◌⊎◌, inl, inr, ℕ, ◌+◌, max, ◌==◌, ◌&&◌, ◌||◌, ◌≤◌, Bool, true, false, not, cond, List, [], ◌∷◌, ◌++◌, map, length, Option, Some, None, refl, ap, ◌∙◌, subst, arith}
 use Rattle.std.specs.List.{list_all}
+use Rattle.std.proofs.lemmas.Bool.{and_parts, or_parts, not-false}
 use Rattle.mega_base.specs.declared.names.Epoch.{Epoch}
 use Rattle.mega_base.specs.declared.names.GroupId.{GroupId}
 use Rattle.mega_base.specs.declared.names.OpId.{OpId}
@@ -24,22 +25,10 @@ use Rattle.mega_lease_laws.specs.of_run_laws.of_tape_laws.of_promises.of_rules.M
 use Rattle.mega_lease_laws.specs.of_run_laws.of_tape_laws.Lawful.{Heard, message}
 use Rattle.mega_lease_laws.specs.of_run_laws.of_tape_laws.Places.{Took, count}
 use Rattle.mega_lease_laws.specs.of_run_laws.of_tape_laws.Polls.{IsPolled}
-use Rattle.mega_lease_laws.proofs.of_run_laws.of_tape_laws.Ballots.{number_is, number_self}
-use Rattle.mega_lease_laws.proofs.of_run_laws.Counted.{count_more, majority_is}
+use Rattle.mega_lease_laws.proofs.of_run_laws.of_tape_laws.Ballots.{number_is}
+use Rattle.mega_lease_laws.proofs.of_run_laws.Counted.{count_more, majority_is, push_last}
 use Rattle.mega_lease_laws.proofs.of_run_laws.Reading.{who}
 use Rattle.mega_lease_laws.proofs.of_run_laws.Sending.{Stood, took_on}
-
-both : (a b : Bool) → (a && b) ≡ true → (a ≡ true) × (b ≡ true)
-both true b h = (refl, h)
-both false b h = cc
-
-neither : (a b : Bool) → (a || b) ≡ false → (a ≡ false) × (b ≡ false)
-neither true b h = cc
-neither false b h = (refl, h)
-
-not_false : (t : Bool) → not t ≡ false → t ≡ true
-not_false true h = refl
-not_false false h = cc
 
 -- the last of a list
 has_push : (node from : ℕ) (nodes : List ℕ) → has node (nodes ++ from ∷ []) ≡ true → (has node nodes ≡ true) ⊎ (from ≡ node)
@@ -61,14 +50,6 @@ has_still node from (x ∷ nodes) h = by (x == node) (has_still node from nodes)
     by : (t : Bool) → (has node nodes ≡ true → has node (nodes ++ from ∷ []) ≡ true) → (t || has node nodes) ≡ true → (t || has node (nodes ++ from ∷ [])) ≡ true
     by true again k = refl
     by false again k = again k
-
-has_last : (from : ℕ) (nodes : List ℕ) → has from (nodes ++ from ∷ []) ≡ true
-has_last from [] = ap (λ t. t || false) (number_self from)
-has_last from (x ∷ nodes) = by (x == from) (has_last from nodes)
-  where
-    by : (t : Bool) → has from (nodes ++ from ∷ []) ≡ true → (t || has from (nodes ++ from ∷ [])) ≡ true
-    by true k = refl
-    by false k = k
 
 push_length : (from : ℕ) (nodes : List ℕ) → length (nodes ++ from ∷ []) ≡ length nodes + 1
 push_length from [] = omega arith
@@ -96,7 +77,7 @@ module _ (c : Cluster) (tape : List Item) (op : OpId) (group : GroupId) where
   one_top from top heard best t told is_voter is_new = record {
     each = λ voter h. by voter (has_push voter from heard h);
     counted = (let le = t.counted in let is = push_length from heard in
-        let more = count_more (λ v. has v heard) (λ v. has v (heard ++ from ∷ [])) from (voters c) (λ v. has_still v from heard) is_new (has_last from heard) is_voter in omega (arith, le, is, more));
+        let more = count_more (λ v. has v heard) (λ v. has v (heard ++ from ∷ [])) from (voters c) (λ v. has_still v from heard) is_new (push_last from heard) is_voter in omega (arith, le, is, more));
   }
     where
       by : (voter : ℕ) → (has voter heard ≡ true) ⊎ (from ≡ voter) → ToldAtMost voter (max best top.0)
@@ -142,13 +123,13 @@ module _ (c : Cluster) (tape : List Item) (op : OpId) (group : GroupId) where
           by : (b : Bool) → (has from heard || not (has from (voters c))) ≡ b
               → ReadPolls (cond {A = ReadMove} b (record { reading = r; sends = [] }) (cond (is_majority (length (voters c)) (length heard + 1)) (move r (Catching (max best top.0) None) []) (move r (Polling (heard ++ from ∷ []) (max best top.0) at) [])))
           by true e = (n, t)
-          by false e = let parts = neither (has from heard) (not (has from (voters c))) e in counts parts.0 (not_false (has from (voters c)) parts.1) (is_majority (length (voters c)) (length heard + 1)) refl
+          by false e = let parts = or_parts (has from heard) (not (has from (voters c))) e in counts parts.0 (not-false (has from (voters c)) parts.1) (is_majority (length (voters c)) (length heard + 1)) refl
 
       hears_by : (stage : Stage) (from now : ℕ) (body : Body) → StagePolls noted stage → Took tape (message from op.node.0 body) → ReadPolls (hears (who c op group) (at_stage stage) from now body)
       hears_by (Polling heard best at) from now (Top o g top) t took = by (same_op op o && same_group group g) refl
         where
           by : (b : Bool) → (same_op op o && same_group group g) ≡ b → ReadPolls (cond b (topped (who c op group) (at_stage (Polling heard best at)) from top.0 heard best at) (record { reading = at_stage (Polling heard best at); sends = [] }))
-          by true e = let parts = both (same_op op o) (same_group group g) e in
+          by true e = let parts = and_parts (same_op op o) (same_group group g) e in
               topped_polls from top heard best at t.0 t.1
               (coe 1 0 (i. Took tape (message from op.node.0 (Top (same_op_equal op o parts.0 i) (same_group_equal group g parts.1 i) top))) took)
           by false e = t

@@ -42,7 +42,7 @@ use Rattle.mega_lease_laws.specs.of_run_laws.of_tape_laws.of_promises.of_rules.S
 use Rattle.mega_lease_laws.specs.of_run_laws.of_tape_laws.Places.{Place}
 use Rattle.mega_lease_laws.specs.of_run_laws.Justified.{Chosen as HeardChosen, Each, Knows, Justified, sent}
 use Rattle.mega_lease_laws.proofs.of_run_laws.Opened.{Backed, BackedStage, at_place}
-use Rattle.mega_lease_laws.proofs.of_run_laws.Runs.{IsMark, nobody}
+use Rattle.mega_lease_laws.proofs.of_run_laws.Runs.{nobody}
 use Rattle.mega_lease_laws.proofs.of_run_laws.Standing.{Good}
 use Rattle.mega_lease_laws.proofs.of_run_laws.Turns.{Held, each_on}
 use Rattle.mega_valid_laws.specs.of_settled_laws.Covering.{Earlier}
@@ -58,11 +58,13 @@ use Rattle.mega_lease_laws.proofs.of_node_laws.Walk.{begun_hold}
 use Rattle.mega_valid_laws.specs.Leases.{WasChosen}
 use Rattle.mega_valid_laws.proofs.Joint.{chosen_on, vote_heard}
 use Rattle.mega_lease_laws.proofs.of_run_laws.AnswerKinds.{IsAnswer, answer_kind}
+use Rattle.mega_lease_laws.proofs.of_run_laws.Whole.{take_by}
 use Rattle.mega_leased_laws.specs.Items.{Are}
 use Rattle.mega_leased_laws.specs.Invalidations.{IsPressed, Presses}
 use Rattle.mega_leased_laws.proofs.Forms.{Anything, Holds, Occurs, any_keeps, run_holds, stepped}
 use Rattle.mega_leased_laws.proofs.Tapes.{IsFree, each_all, are_items, are_sent, free_follows}
 use Rattle.mega_leased_laws.proofs.Cells.{occurs_own, own_silent}
+use Rattle.mega_leased_laws.proofs.Obeying.{mark_silent}
 
 -- ---- what was chosen
 
@@ -215,17 +217,13 @@ module _ (s : Setting) (tape : List Item) where
       base : List Met
       base = onto (decision_note d) (onto (told_notes s node.met m.from m.body) (Takes m ∷ node.met))
 
-  abbrev take_by : Node → Message → List Heard → Option Decision → Step
-  take_by node m ts (Some d) = taken s node m (told_notes s node.met m.from m.body) ts (if_new node.met (Some d)) (reply_to s.cluster s.me node.met m) []
-  take_by node m ts None = taken s node m (told_notes s node.met m.from m.body) ts (if_new node.met (first_settled ts)) (reply_to s.cluster s.me node.met m) (news s (if_new node.met (first_settled ts)))
-
   step_says : (node : Node) (event : Event) → Each (λ (o : Operation). Backed s.cluster tape node.met o.id o.phase) node.open_operations → Each (Says s.cluster tape) (step s node event).sends
   step_says node (Take m) backed = by (told_decision m.body)
     where
       ts : List Heard
       ts = map (hears_message s (clock_of node.met) m) node.open_operations
 
-      by : (told : Option Decision) → Each (Says s.cluster tape) (take_by node m ts told).sends
+      by : (told : Option Decision) → Each (Says s.cluster tape) (take_by s node m ts told).sends
       by (Some d) = taken_says node m (if_new node.met (Some d)) [] (All-nil Mild)
       by None = taken_says node m (if_new node.met (first_settled ts)) (news s (if_new node.met (first_settled ts))) (news_hold Mild s (mild_act s) (if_new node.met (first_settled ts)))
   step_says node (Tick clock) backed = each_both (Says s.cluster tape) (acquires_at s.cluster s.me node.met clock ++ _) (background s node.met clock)
@@ -243,10 +241,6 @@ module _ (s : Setting) (tape : List Item) where
 silent_pressed : (c : Cluster) (t : List Item) (item : Item) → IsSilent item → IsPressed c t item
 silent_pressed c t (Sent key m) h = absurd h
 silent_pressed c t _ h = tt
-
-mark_silent : (item : Item) → IsMark item → IsSilent item
-mark_silent (Sent key m) h = absurd h
-mark_silent _ h = tt
 
 abbrev Pressing : Cluster → List Item → (ℕ → Node) → (ℕ → List Met) → Type 0
 Pressing c tape nodes owed = Are (IsPressed c) tape

@@ -1,5 +1,6 @@
 -- As long as leases are safe no node counts a cell under an epoch that the cell lapsed.
 use Rattle.std.proofs.Common.{◌≡◌, ◌⊎◌, inl, inr, ℕ, zero, suc, ◌+◌, ◌-◌, ◌==◌, ◌&&◌, ◌||◌, ◌≤◌, ◌<◌, not, Bool, true, false, cond, List, [], ◌∷◌, ◌++◌, flat_map, get_or, map, Some, None, is_some, refl, sym, ap, ◌∙◌, subst, arith}
+use Rattle.std.proofs.lemmas.Bool.{and_from, false_from_ne_true}
 use Rattle.mega_base.specs.declared.names.Epoch.{Epoch}
 use Rattle.mega_cluster.specs.declared.cluster.Cluster.{Cluster}
 use Rattle.mega_coordinator.specs.Groups.{is_same}
@@ -26,18 +27,18 @@ use Rattle.mega_lease_laws.proofs.of_run_laws.of_tape_laws.Ballots.{number_is, n
 use Rattle.mega_lease_laws.specs.of_run_laws.Justified.{Each, sent}
 use Rattle.mega_lease_laws.proofs.of_run_laws.Events.{each_append as each_both, onto_append}
 use Rattle.mega_lease_laws.proofs.of_run_laws.Runs.{IsMark}
-use Rattle.mega_lease_laws.proofs.of_run_laws.Turns.{each_on}
 use Rattle.mega_valid_laws.specs.Leases.{counted_on}
 use Rattle.mega_valid_laws.proofs.Folds.{IsOwn, IsOwnNote, Told, with_told, same_if}
 use Rattle.mega_leased_laws.proofs.Forms.{Holds, down, stepped}
 use Rattle.mega_leased_laws.proofs.Told.{cuts_told, falls_told, marks_told, starts_told, step_met, steps_told}
-use Rattle.mega_leased_laws.proofs.Locks.{IsOwed, IsStill}
+use Rattle.mega_leased_laws.proofs.Locks.{IsOwed}
 use Rattle.mega_leased_laws.proofs.Cells.{by_node, occurs_own, own_noted, sends_still, start_owed, step_still}
 use Rattle.mega_leased_laws.proofs.Reached.{Grown, IsWithin, Reached, asked_present, grown_onto, present_before, present_reached, reached_grown, reached_start}
 use Rattle.mega_leased_laws.proofs.Asking.{same_is}
 use Rattle.mega_valid_laws.proofs.NoCalls.{Uncalled, uncalled_all}
 use Rattle.mega_leased_laws.proofs.Counting.{CountNote, Counting, CountsAt, CountsNow, counted_met, counted_then, lease_at, next_counted, none_slot, present_at, step_counted, step_counts, tells_counted}
 use Rattle.mega_leased_laws.proofs.Validating.{Ruled, owed_no_call}
+use Rattle.mega_leased_laws.proofs.Epochs.{still_within}
 
 -- ---- what lapsed
 
@@ -51,11 +52,7 @@ next_lapsed node epoch (Lapses to e) x = (to == node && is_same e epoch) || x
 next_lapsed node epoch _ x = x
 
 same_self : (e : Epoch) → is_same e e ≡ true
-same_self e = joined (e.start == e.start) (e.count == e.count) (number_self e.start) (number_self e.count)
-  where
-    joined : (a b : Bool) → a ≡ true → b ≡ true → (a && b) ≡ true
-    joined true b h k = k
-    joined false b h k = cc
+same_self e = and_from (e.start == e.start) (e.count == e.count) (number_self e.start) (number_self e.count)
 
 module _ (node : ℕ) (epoch : Epoch) where
   pub lapse_stands : (cell : ℕ) (tape : List Item) → Stands (Lapse cell (number node) epoch) tape → lapsed_on node epoch tape cell ≡ true
@@ -211,10 +208,6 @@ pub record Saving (c : Cluster) (tape : List Item) (nodes : ℕ → Node) (owed 
 clash : {X : Type 0} (t : Bool) → t ≡ true → t ≡ false → X
 clash t h k = absurd (let both = sym h ∙ k in cc)
 
-false_of : (t : Bool) → (t ≡ true → ⊥) → t ≡ false
-false_of true h = absurd (h refl)
-false_of false h = refl
-
 counted_each : (cell : ℕ) (e : Epoch) (one : Met) (met : List Met) → counted_met (one ∷ met) cell e ≡ next_counted cell e one (counted_met met cell e)
 counted_each cell e one met = refl
 
@@ -239,13 +232,6 @@ no_counts_in G (m ∷ ms) = (tt, no_counts_in G ms)
 no_lapses_in : (F : ℕ → Epoch → Type 0) (ms : List Message) → Each (LapseNote F) (map Sends ms)
 no_lapses_in F [] = tt
 no_lapses_in F (m ∷ ms) = (tt, no_lapses_in F ms)
-
-still_within : (notes : List Met) → Each IsStill notes → Each IsWithin notes
-still_within notes h = each_on IsStill IsWithin one notes h
-  where
-    one : (note : Met) → IsStill note → IsWithin note
-    one (Starts start) is = absurd is
-    one _ is = tt
 
 -- what was present is so as long as it is present later
 present_then : (c : Cluster) (met later : List Met) (e : Epoch) → Grown c met later → Reached c met e → present_at c later ≡ Some e → present_at c met ≡ Some e
@@ -306,7 +292,7 @@ module _ (c : Cluster) (few : c.cells ≤ 5) (h : Meanings) (now : Standing) (me
 
   counting_then : (event : Event) → is_full c me ≡ true → Counting c ((made event).node).met
   counting_then event full = record {
-    none = λ e. false_of (counted_met ((made event).node).met 0 e) (λ is. elim (counted_now (CountsNow c met) event (step_counted s (now.node me) event) 0 e is) [ inl n ↦ (let less = n.above in omega (arith, less)) | inr was ↦ clash (counted_met met 0 e) was ((q.counting me full).none e) ]);
+    none = λ e. false_from_ne_true (counted_met ((made event).node).met 0 e) (λ is. elim (counted_now (CountsNow c met) event (step_counted s (now.node me) event) 0 e is) [ inl n ↦ (let less = n.above in omega (arith, less)) | inr was ↦ clash (counted_met met 0 e) was ((q.counting me full).none e) ]);
     reach = λ cell e is. elim (counted_now (CountsNow c met) event (step_counted s (now.node me) event) cell e is) [
       | inl n ↦ reached_grown c met ((made event).node).met e (grown event) (present_reached c met e (asked_present (start_of met) c.cells _ e n.present))
       | inr was ↦ reached_grown c met ((made event).node).met e (grown event) ((q.counting me full).reach cell e was)
@@ -328,7 +314,7 @@ module _ (c : Cluster) (few : c.cells ≤ 5) (h : Meanings) (now : Standing) (me
         (λ full still. step_counts s full few (now.node me) event (q.counting me full) (q.counts me full up)) (λ v apart. q.counts v)
 
     safe_then : is_unsafe second ≡ false → IsSafe c those
-    safe_then un v full still e present cell is = false_of (has_lapsed (those cell).met v e) (λ has. never has (lapsed_cases has))
+    safe_then un v full still e present cell is = false_from_ne_true (has_lapsed (those cell).met v e) (λ has. never has (lapsed_cases has))
       where
         parts : (is_unsafe (item ∷ now.tape) ≡ false) × Each (IsUnbroken c those) (flat_map (shown me) (made event).notes)
         parts = safe_items c those (flat_map (shown me) (made event).notes) (item ∷ now.tape) un
@@ -393,13 +379,6 @@ module _ (c : Cluster) (few : c.cells ≤ 5) (h : Meanings) (now : Standing) (me
 
 -- ---- starts, crashes and marks
 
-owed_within : (notes : List Met) → Each IsOwed notes → Each IsWithin notes
-owed_within notes h = each_on IsOwed IsWithin one notes h
-  where
-    one : (note : Met) → IsOwed note → IsWithin note
-    one (Starts start) is = absurd is
-    one _ is = tt
-
 owed_counted : (notes met : List Met) → Each IsOwed notes → (cell : ℕ) (e : Epoch) → counted_met (onto notes met) cell e ≡ counted_met met cell e
 owed_counted [] before h cell e = refl
 owed_counted (Grants to epoch ∷ notes) before h cell e = owed_counted notes (Grants to epoch ∷ before) h.1 cell e
@@ -439,7 +418,7 @@ module _ (c : Cluster) (h : Meanings) (now : Standing) (me count : ℕ) (less : 
 
   -- nothing is counted under the epochs of this start
   none_new : is_full c me ≡ true → (e : Epoch) → present_at c fresh.met ≡ Some e → (cell : ℕ) → counted_met was cell e ≡ false
-  none_new full e present cell = false_of (counted_met was cell e) (λ is. never (reached_start c was count e less ((q.counting me full).reach cell e is)) ((asked_present (start_of fresh.met) c.cells (coordinator_calls c fresh.met) e present).0 ∙ fresh_start))
+  none_new full e present cell = false_from_ne_true (counted_met was cell e) (λ is. never (reached_start c was count e less ((q.counting me full).reach cell e is)) ((asked_present (start_of fresh.met) c.cells (coordinator_calls c fresh.met) e present).0 ∙ fresh_start))
     where
       never : e.start < count → e.start ≡ count → ⊥
       never k same = omega (arith, k, same)
@@ -457,7 +436,7 @@ module _ (c : Cluster) (h : Meanings) (now : Standing) (me count : ℕ) (less : 
   all_shown = flat_map (shown me) (Starts count ∷ shows)
 
   safe_started : is_unsafe (with_items c begun_nodes now.tape all_shown) ≡ false → IsSafe c begun_nodes
-  safe_started un v full still e present cell is = false_of (has_lapsed (begun_nodes cell).met v e) (λ has. never (lapsed_cases has))
+  safe_started un v full still e present cell is = false_from_ne_true (has_lapsed (begun_nodes cell).met v e) (λ has. never (lapsed_cases has))
     where
       parts : (is_unsafe now.tape ≡ false) × Each (IsUnbroken c begun_nodes) all_shown
       parts = safe_items c begun_nodes all_shown now.tape un

@@ -10,11 +10,11 @@ use Rattle.mega_lease_laws.specs.of_run_laws.of_tape_laws.of_promises.of_rules.M
 use Rattle.mega_lease_laws.specs.of_run_laws.of_tape_laws.of_promises.of_rules.Met.{Answers, Applies, Begins, Decides, Met, Validates}
 use Rattle.mega_lease_laws.specs.of_run_laws.of_tape_laws.of_promises.of_rules.Operations.{Node, Now, Setting}
 use Rattle.mega_lease_laws.specs.of_run_laws.of_tape_laws.of_promises.of_rules.Acting.{validated_by}
-use Rattle.mega_lease_laws.specs.of_run_laws.of_tape_laws.of_promises.of_rules.Steps.{Begin, Decision, Event, Heard, Step, Take, Tick, all_act, applied_at, apply_note, apply_notes, at_first, at_open, decision_note, first_settled, hears_message, if_new, lapse_notes, lease_notes, new_operation, news, op_of, portion_of, refusal, step, stored_after, taken, told_decision, told_notes}
-use Rattle.mega_lease_laws.specs.of_run_laws.of_tape_laws.of_promises.of_rules.Replies.{reply_to}
+use Rattle.mega_lease_laws.specs.of_run_laws.of_tape_laws.of_promises.of_rules.Steps.{Begin, Decision, Event, Heard, Take, Tick, all_act, applied_at, apply_note, apply_notes, at_first, at_open, decision_note, first_settled, hears_message, if_new, lapse_notes, lease_notes, new_operation, op_of, portion_of, refusal, step, stored_after, told_decision, told_notes}
 use Rattle.mega_lease_laws.specs.of_run_laws.Justified.{Each}
 use Rattle.mega_lease_laws.proofs.of_run_laws.Noting.{Lasts, all_act_it, begun_it, ticked_it}
 use Rattle.mega_lease_laws.proofs.of_run_laws.Events.{each_append as each_both}
+use Rattle.mega_lease_laws.proofs.of_run_laws.Whole.{take_by}
 
 -- what a step notes of cell and coordinator
 abbrev pub fronts : Setting → Node → Event → List Met
@@ -89,11 +89,6 @@ module _ (s : Setting) (node : Node) where
   none_yet : (met : List Met) (stored : GroupId → ℕ) → Tails (at_first met stored)
   none_yet met stored = record { valid = tt; answers = tt }
 
-  abbrev pub take_by : Message → Option Decision → Step
-  take_by m (Some d) = taken s node m (told_notes s node.met m.from m.body) (map (hears_message s (clock_of node.met) m) node.open_operations) (if_new node.met (Some d)) (reply_to s.cluster s.me node.met m) []
-  take_by m None = taken s node m (told_notes s node.met m.from m.body) (map (hears_message s (clock_of node.met) m) node.open_operations) (if_new node.met (first_settled (map (hears_message s (clock_of node.met) m) node.open_operations)))
-      (reply_to s.cluster s.me node.met m) (news s (if_new node.met (first_settled (map (hears_message s (clock_of node.met) m) node.open_operations))))
-
   pub step_parted : (event : Event) → Parted (front_of s node event) (step s node event).notes
   step_parted (Tick clock) = parted (lease_notes s node.met clock ++ lapse_notes s node.met clock) _ (ticked_it Tails tails_last s clock node.open_operations (at_first _ (portion_of s node.met node.stored)) (none_yet _ (portion_of s node.met node.stored)))
   step_parted (Begin request text) = parted [] _ (begun_it Tails tails_last s (at_open (at_first (Begins (op_of s node.met) text ∷ node.met) node.stored) node.open_operations) (new_operation (op_of s node.met) request (clock_of node.met)) (refusal s node request) (record { valid = tt; answers = tt }))
@@ -105,7 +100,7 @@ module _ (s : Setting) (node : Node) where
       acted : (d : Option Decision) (base : List Met) → Tails (all_act s (at_first base (stored_after s base node.stored d)) ts)
       acted d base = all_act_it Tails tails_last s ts (at_first base (stored_after s base node.stored d)) (none_yet base (stored_after s base node.stored d))
 
-      by : (told : Option Decision) → Parted (told_notes s node.met m.from m.body ++ decision_note (decision_in s node m told)) (take_by m told).notes
+      by : (told : Option Decision) → Parted (told_notes s node.met m.from m.body ++ decision_note (decision_in s node m told)) (take_by s node m ts told).notes
       by (Some d) = parted (told_notes s node.met m.from m.body ++ decision_note (if_new node.met (Some d))) _ (acted (if_new node.met (Some d)) _)
       by None = parted (told_notes s node.met m.from m.body ++ decision_note (if_new node.met (first_settled ts))) _ (acted (if_new node.met (first_settled ts)) _)
 

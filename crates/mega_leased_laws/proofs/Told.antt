@@ -1,38 +1,19 @@
 -- What a tape tells of a node, item by item, is what the node met, in each form that an event takes.
-use Rattle.std.proofs.Common.{◌≡◌, ℕ, ◌+◌, ◌==◌, Bool, true, false, cond, List, [], ◌∷◌, map, flat_map, Option, Some, None, refl, sym, ap, ◌∙◌}
+use Rattle.std.proofs.Common.{◌≡◌, ℕ, ◌+◌, ◌==◌, Bool, true, false, cond, List, [], ◌∷◌, map, flat_map, refl, sym, ap, ◌∙◌}
 use Rattle.mega_cluster.specs.declared.cluster.Cluster.{Cluster}
-use Rattle.mega_wire.specs.declared.message.Message.{Message}
 use Rattle.mega_lease_laws.specs.of_run_laws.of_tape_laws.of_promises.of_transcript.declared.item.Item.{Item}
 use Rattle.mega_lease_laws.specs.of_run_laws.of_tape_laws.of_promises.of_transcript.declared.item.Item.TheVariants.{Crash, Cut as CutItem, Dropped}
 use Rattle.mega_lease_laws.specs.of_run_laws.of_tape_laws.of_promises.of_transcript.Tape.{sent_count}
 use Rattle.mega_lease_laws.specs.of_run_laws.of_tape_laws.of_promises.Items.{number, shown}
-use Rattle.mega_lease_laws.specs.of_run_laws.of_tape_laws.of_promises.Runs.{met_in, set_at, with_items}
-use Rattle.mega_lease_laws.specs.of_run_laws.of_tape_laws.of_promises.of_rules.Met.{Met, Crashes, Sends, Takes}
-use Rattle.mega_lease_laws.specs.of_run_laws.of_tape_laws.of_promises.of_rules.Clock.{clock_of}
-use Rattle.mega_lease_laws.specs.of_run_laws.of_tape_laws.of_promises.of_rules.Operations.{Node, Setting}
-use Rattle.mega_lease_laws.specs.of_run_laws.of_tape_laws.of_promises.of_rules.Replies.{reply_to}
-use Rattle.mega_lease_laws.specs.of_run_laws.of_tape_laws.of_promises.of_rules.Steps.{Begin, Decision, Event, Heard, Step, Take, Tick, first_settled, hears_message, if_new, news, onto, step, taken, told_decision, told_notes}
+use Rattle.mega_lease_laws.specs.of_run_laws.of_tape_laws.of_promises.Runs.{set_at, with_items}
+use Rattle.mega_lease_laws.specs.of_run_laws.of_tape_laws.of_promises.of_rules.Met.{Met, Crashes, Sends}
+use Rattle.mega_lease_laws.specs.of_run_laws.of_tape_laws.of_promises.of_rules.Operations.{Node}
+use Rattle.mega_lease_laws.specs.of_run_laws.of_tape_laws.of_promises.of_rules.Steps.{Step, onto}
 use Rattle.mega_lease_laws.proofs.of_run_laws.of_tape_laws.Ballots.{number_is}
 use Rattle.mega_lease_laws.proofs.of_run_laws.Runs.{IsMark}
 use Rattle.mega_valid_laws.proofs.Folds.{IsOwn, IsOwnNote, Told, after, notes_told, sends_after, sends_told}
+pub use Rattle.mega_valid_laws.proofs.Shows.{step_met}
 use Rattle.mega_leased_laws.proofs.Forms.{stepped}
-
-abbrev take_by : Setting → Node → Message → List Heard → Option Decision → Step
-take_by s node m ts (Some d) = taken s node m (told_notes s node.met m.from m.body) ts (if_new node.met (Some d)) (reply_to s.cluster s.me node.met m) []
-take_by s node m ts None = taken s node m (told_notes s node.met m.from m.body) ts (if_new node.met (first_settled ts)) (reply_to s.cluster s.me node.met m) (news s (if_new node.met (first_settled ts)))
-
--- what a step met: its own item, its notes, and what it sends
-pub step_met : (s : Setting) (node : Node) (event : Event) → ((step s node event).node).met ≡ onto (map Sends (step s node event).sends) (onto (step s node event).notes (met_in s node.met event ∷ node.met))
-step_met s node (Tick clock) = refl
-step_met s node (Begin request text) = refl
-step_met s node (Take m) = by (told_decision m.body)
-  where
-    ts : List Heard
-    ts = map (hears_message s (clock_of node.met) m) node.open_operations
-
-    by : (d : Option Decision) → ((take_by s node m ts d).node).met ≡ onto (map Sends (take_by s node m ts d).sends) (onto (take_by s node m ts d).notes (Takes m ∷ node.met))
-    by (Some d) = refl
-    by None = refl
 
 module _ {X : Type 0} (on : List Item → ℕ → X) (next : Met → X → X) (told : Told X on next) (met_of : List Met → X) (each : (one : Met) (met : List Met) → met_of (one ∷ met) ≡ next one (met_of met)) where
   pub met_after : (notes met : List Met) → met_of (onto notes met) ≡ after on next told notes (met_of met)

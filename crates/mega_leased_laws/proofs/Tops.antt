@@ -50,7 +50,7 @@ if_grows : (t : Bool) (a b : ℕ) → b ≤ cond t (max a b) b
 if_grows true a b = omega arith
 if_grows false a b = omega arith
 
-max_grows : (a b : ℕ) → b ≤ max a b
+pub max_grows : (a b : ℕ) → b ≤ max a b
 max_grows a b = omega arith
 
 pub max_first : (a b : ℕ) → a ≤ max a b

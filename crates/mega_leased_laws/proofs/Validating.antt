@@ -1,8 +1,10 @@
 -- In every run a group is valid by a poll that began while the present epoch served, through a decided position, above each that was invalidated since.
-use Rattle.std.proofs.Common.{◌≡◌, ◌⊎◌, inl, inr, ℕ, ◌+◌, ◌-◌, ◌==◌, ◌&&◌, ◌||◌, ◌≤◌, ◌<◌, min, nat_le, nat_lt, not, Bool, true, false, cond, List, [], ◌∷◌, ◌++◌, flat_map, fold, length, map, Option, Some, None, refl, sym, ap, ◌∙◌, subst, arith}
+use Rattle.std.proofs.Common.{◌≡◌, ◌⊎◌, inl, inr, ℕ, ◌+◌, ◌-◌, ◌==◌, ◌&&◌, ◌≤◌, ◌<◌, min, nat_le, nat_lt, not, Bool, true, false, cond, List, [], ◌∷◌, ◌++◌, flat_map, fold, length, map, Option, Some, None, refl, sym, ap, ◌∙◌, subst, arith, append-nil}
 use Rattle.std.proofs.lemmas.Bool.Decides.{nat_tests}
 use Rattle.std.specs.List.{All}
 use Rattle.std.proofs.lemmas.List.Elements.{All-head, All-tail}
+use Rattle.std.proofs.lemmas.Bool.{or_from, or_parts, and_parts}
+use Rattle.std.proofs.lemmas.List.Concat.{flat_map-append}
 use Rattle.mega_base.specs.declared.names.Epoch.{Epoch}
 use Rattle.mega_base.specs.declared.names.GroupId.{GroupId}
 use Rattle.mega_base.specs.declared.names.NodeId.{NodeId}
@@ -15,8 +17,6 @@ use Rattle.mega_handler.specs.Named.{Meanings}
 use Rattle.mega_coordinator.specs.declared.answers.NotValid.{NotValid}
 use Rattle.mega_locks.specs.declared.asked.Asked.{Asked}
 use Rattle.mega_locks.specs.declared.asked.Asked.TheVariants.{Granted, Renewed, Taken as TakenBy, Over}
-use Rattle.mega_outcome.specs.declared.answer.Answer.{Answer}
-use Rattle.mega_outcome.specs.declared.answer.Answer.TheVariants.{Worn}
 use Rattle.mega_outcome.specs.declared.request.Request.{Request}
 use Rattle.mega_lease_laws.specs.of_run_laws.of_tape_laws.of_promises.of_rules.of_read.of_propose.Members.{others}
 use Rattle.mega_wal.specs.Acceptor.{accept_answer, promise_answer}
@@ -58,12 +58,14 @@ use Rattle.mega_lease_laws.proofs.of_run_laws.Noting.{Lasts, all_act_it, begun_i
 use Rattle.mega_lease_laws.proofs.of_run_laws.Runs.{IsMark, Keeps, nobody}
 use Rattle.mega_lease_laws.proofs.of_run_laws.Sending.{took_on}
 use Rattle.mega_lease_laws.proofs.of_run_laws.Standing.{Good}
-use Rattle.mega_lease_laws.proofs.of_run_laws.Steps.{never_asked}
+use Rattle.mega_lease_laws.proofs.of_run_laws.Steps.{never_asked, not_worn}
 use Rattle.mega_lease_laws.proofs.of_run_laws.Turns.{Held, IsRising, Known, each_on}
 use Rattle.mega_valid_laws.specs.of_settled_laws.Covering.{Earlier}
 use Rattle.mega_lease_laws.proofs.of_run_laws.Shown.{IsSilent, notes_silent}
 use Rattle.mega_valid_laws.proofs.of_settled_laws.Tapes.{earlier_stood, items_later, now_is, one_later, sent_later, then_later}
 use Rattle.mega_lease_laws.proofs.Acting.{Acquires, acquires_are}
+use Rattle.mega_lease_laws.proofs.of_run_laws.Whole.{take_by}
+use Rattle.mega_lease_laws.proofs.of_run_laws.Noted.{with_append}
 use Rattle.mega_valid_laws.specs.Leases.{asks_end, has_polled, serving_on}
 use Rattle.mega_valid_laws.specs.Showing.{next_serving, serving_met}
 use Rattle.mega_valid_laws.proofs.Folds.{IsOwn, tells_serving}
@@ -83,6 +85,7 @@ use Rattle.mega_leased_laws.proofs.Epochs.{Before, Epoching, IsTold, Tells, epoc
 use Rattle.mega_leased_laws.proofs.Asking.{AllActed, Kept, MayNote, OpenAt, Own, OwnBody, ValidNote, all_heard_acted, all_ticked_acted, begins_acted, phase_on, polls_both, polls_in}
 use Rattle.mega_valid_laws.proofs.NoCalls.{IsNoCall, Uncalled, uncalled_all}
 use Rattle.mega_leased_laws.proofs.Beating.{Beats, IsIdle, NoGrant, NoGrantBody, beaten_at, beaten_met, beaten_on, fronts_beat, fronts_no_call, idle_none, invalid_most, next_beaten, step_beats, step_idle, step_unchanged, tells_beaten, uncalled_idle, uncalled_serves, own_idle}
+use Rattle.mega_leased_laws.proofs.Obeying.{mark_silent}
 
 -- ---- what a node sends by itself, and its reply, asks no end of a log and proposes nothing
 
@@ -101,17 +104,9 @@ plain_own me k m h = by m.body h
     by (Where op group) none = absurd none
     by _ none = tt
 
-either_false : (a b : Bool) → a ≡ false → b ≡ false → (a || b) ≡ false
-either_false true b h k = h
-either_false false b h k = k
-
-neither : (a b : Bool) → (a || b) ≡ false → (a ≡ false) × (b ≡ false)
-neither true b h = cc
-neither false b h = (refl, h)
-
 plain_silent : (ms : List Message) (op : OpId) (group : GroupId) → Each Plain ms → polls_in ms op group ≡ false
 plain_silent [] op group h = refl
-plain_silent (m ∷ ms) op group h = either_false (asks_end op group m.body) (polls_in ms op group) (by m.body h.0) (plain_silent ms op group h.1)
+plain_silent (m ∷ ms) op group h = or_from (asks_end op group m.body) (polls_in ms op group) (by m.body h.0) (plain_silent ms op group h.1)
   where
     by : (body : Body) → NoRequest body → asks_end op group body ≡ false
     by (Where asking g) none = absurd none
@@ -278,10 +273,6 @@ record StepKnows (s : Setting) (tape : List Item) (node : Node) (event : Event) 
   opens : Each (Kept s.cluster tape made.sends s.me k) (made.node).open_operations
   own : Each (Own s.me k) made.sends
 
-append_nil : {X : Type 0} (xs : List X) → xs ++ [] ≡ xs
-append_nil [] = refl
-append_nil (x ∷ xs) = ap (λ ys. x ∷ ys) (append_nil xs)
-
 module _ (s : Setting) (tape : List Item) (node : Node) where
   abbrev Shows : List Met → Type 0
   Shows base = (e : Epoch) → serves_at s.cluster base ≡ Some e → serving_on tape s.me ≡ Some e
@@ -349,17 +340,13 @@ module _ (s : Setting) (tape : List Item) (node : Node) where
       besides : Each Plain (reply_to s.cluster s.me node.met m ++ told_news)
       besides = each_both Plain (reply_to s.cluster s.me node.met m) told_news (reply_plain s.cluster s.me node.met m) plain
 
-  abbrev take_by : Message → List HeardBy → Option Decision → Step
-  take_by m ts (Some d) = taken s node m (told_notes s node.met m.from m.body) ts (if_new node.met (Some d)) (reply_to s.cluster s.me node.met m) []
-  take_by m ts None = taken s node m (told_notes s node.met m.from m.body) ts (if_new node.met (first_settled ts)) (reply_to s.cluster s.me node.met m) (news s (if_new node.met (first_settled ts)))
-
   take_knows : (m : Message) → Took tape (message m.from s.me m.body) → IsRising 0 node.open_operations → Each (OpenAt s.cluster tape s.me) node.open_operations → Shows (behind_fronts s node (Take m)) → StepKnows s tape node (Take m) (take_step s node m)
   take_knows m took rising opens shows = by (told_decision m.body)
     where
       ts : List HeardBy
       ts = map (hears_message s (clock_of node.met) m) node.open_operations
 
-      by : (told : Option Decision) → StepKnows s tape node (Take m) (take_by m ts told)
+      by : (told : Option Decision) → StepKnows s tape node (Take m) (take_by s node m ts told)
       by (Some d) = taken_knows m (if_new node.met (Some d)) [] took rising opens tt shows
       by None = taken_knows m (if_new node.met (first_settled ts)) (news s (if_new node.met (first_settled ts))) took rising opens (news_plain s (if_new node.met (first_settled ts))) shows
 
@@ -368,7 +355,7 @@ module _ (s : Setting) (tape : List Item) (node : Node) where
     durable = [];
     only = tt;
     more = (applies ++ now.valid) ++ now.answers;
-    is = front_apart (leases ++ lapses) applies now.valid now.answers ∙ ap (λ front. front ++ ((applies ++ now.valid) ++ now.answers)) (sym (append_nil (leases ++ lapses)));
+    is = front_apart (leases ++ lapses) applies now.valid now.answers ∙ ap (λ front. front ++ ((applies ++ now.valid) ++ now.answers)) (sym (append-nil (leases ++ lapses)));
     each = subst (λ met. Each (RestNote s.cluster tape s.me met) ((applies ++ now.valid) ++ now.answers)) (sym apart) (each_both (RestNote s.cluster tape s.me base) (applies ++ now.valid) now.answers
         (each_both (RestNote s.cluster tape s.me base) applies now.valid (applies_rest s.cluster tape s.me base s node.met node.stored now.met now.stored) (valid_rest s.cluster tape s.me base now.valid (all.acted).valid))
         (answers_rest s.cluster tape s.me base now.answers (ticked_it Answering answering_lasts s clock node.open_operations (at_first base (portion_of s node.met node.stored)) tt)));
@@ -536,13 +523,9 @@ module _ (c : Cluster) (nodes' : ℕ → Node) (me : ℕ) where
   known_one : (g : GroupId) (n : ℕ) (entry : Content) (base : List Met) (tape : List Item) → Known me base tape → Known me (Decides g n entry ∷ base) (Decide (number me) g (record { 0 = n }) entry ∷ tape)
   known_one g n entry base tape known h m x = by (same_group g h && n == m) refl
     where
-      both : (a b : Bool) → (a && b) ≡ true → (a ≡ true) × (b ≡ true)
-      both true b k = (refl, k)
-      both false b k = cc
-
       first : (same_group g h && n == m) ≡ true → (o : Option Content) → decided base h m ≡ o → first_of o entry ≡ Some x → Stands (Decide (number me) h (record { 0 = m }) x) (Decide (number me) g (record { 0 = n }) entry ∷ tape)
       first at (Some y) is k = inr (known h m x (is ∙ k))
-      first at None is k = let parts = both (same_group g h) (n == m) at in
+      first at None is k = let parts = and_parts (same_group g h) (n == m) at in
           inl (λ i. Decide (number me) (same_group_equal g h parts.0 i) (record { 0 = number_is n m parts.1 i }) (some_is entry x k i))
 
       by : (t : Bool) → (same_group g h && n == m) ≡ t → cond t (first_of (decided base h m) entry) (decided base h m) ≡ Some x → Stands (Decide (number me) h (record { 0 = m }) x) (Decide (number me) g (record { 0 = n }) entry ∷ tape)
@@ -604,14 +587,14 @@ module _ (c : Cluster) (nodes' : ℕ → Node) where
 
 sent_polled : (n : ℕ) (ms : List Message) (tape : List Item) (op : OpId) (group : GroupId) → polls_in ms op group ≡ false → has_polled tape op group ≡ false → has_polled (sent n ms tape) op group ≡ false
 sent_polled n [] tape op group h k = k
-sent_polled n (m ∷ ms) tape op group h k = let parts = neither (asks_end op group m.body) (polls_in ms op group) h in
-    sent_polled (n + 1) ms (Sent n m ∷ tape) op group parts.1 (either_false (asks_end op group m.body) (has_polled tape op group) parts.0 k)
+sent_polled n (m ∷ ms) tape op group h k = let parts = or_parts (asks_end op group m.body) (polls_in ms op group) h in
+    sent_polled (n + 1) ms (Sent n m ∷ tape) op group parts.1 (or_from (asks_end op group m.body) (has_polled tape op group) parts.0 k)
 
 -- who asked nothing asked about no group
 pub unasked_unpolled : (tape : List Item) (op : OpId) (group : GroupId) → has_asked tape op ≡ false → has_polled tape op group ≡ false
 unasked_unpolled [] op group h = refl
-unasked_unpolled (Sent key m ∷ tape) op group h = let parts = neither (is_asking op m.body) (has_asked tape op) h in
-    either_false (asks_end op group m.body) (has_polled tape op group) (by m.body parts.0) (unasked_unpolled tape op group parts.1)
+unasked_unpolled (Sent key m ∷ tape) op group h = let parts = or_parts (is_asking op m.body) (has_asked tape op) h in
+    or_from (asks_end op group m.body) (has_polled tape op group) (by m.body parts.0) (unasked_unpolled tape op group parts.1)
   where
     by : (body : Body) → is_asking op body ≡ false → asks_end op group body ≡ false
     by (Where asking g) is = ap (λ t. t && same_group g group) is
@@ -621,7 +604,7 @@ unasked_unpolled (_ ∷ tape) op group h = unasked_unpolled tape op group h
 -- a node asks nothing for operations of others
 polls_foreign : (me k : ℕ) (x : OpId) (group : GroupId) (ms : List Message) → (me == x.node.0) ≡ false → Each (Own me k) ms → polls_in ms x group ≡ false
 polls_foreign me k x group [] apart own = refl
-polls_foreign me k x group (m ∷ ms) apart own = either_false (asks_end x group m.body) (polls_in ms x group) (by m.body own.0) (polls_foreign me k x group ms apart own.1)
+polls_foreign me k x group (m ∷ ms) apart own = or_from (asks_end x group m.body) (polls_in ms x group) (by m.body own.0) (polls_foreign me k x group ms apart own.1)
   where
     other : (op : OpId) → op.node.0 ≡ me → same_op op x ≡ false
     other op node = within (same_op op x) refl
@@ -670,10 +653,6 @@ granted_full c j m (item ∷ before) told given (inr s) = granted_full c j m bef
 clash : {X : Type 0} (t : Bool) → t ≡ true → t ≡ false → X
 clash t h k = absurd (let both = sym h ∙ k in cc)
 
-pub not_worn : (t : Bool) (o : Option Answer) → cond t (Some Worn) o ≡ None → t ≡ false
-not_worn true o h = cc
-not_worn false o h = refl
-
 less_is : (a b : ℕ) → nat_le a b ≡ false → b < a
 less_is a b h = grind (arith, nat_tests)
 
@@ -693,12 +672,12 @@ plain_decided (Invalidates group position ∷ notes) met h g n = plain_decided n
 plain_decided (Applies group position ∷ notes) met h g n = plain_decided notes (Applies group position ∷ met) h.1 g n
 plain_decided (_ ∷ notes) met h g n = absurd h.0
 
-fronts_plain : (s : Setting) (node : Node) (event : Event) → Each IsPlain (fronts s node event)
+pub fronts_plain : (s : Setting) (node : Node) (event : Event) → Each IsPlain (fronts s node event)
 fronts_plain s node (Tick clock) = each_both IsPlain (lease_notes s node.met clock) (lapse_notes s node.met clock) (lease_plain s node.met clock) (lapses_plain s node.met clock)
 fronts_plain s node (Take m) = told_plain s node.met m.from m.body
 fronts_plain s node (Begin request text) = tt
 
-own_decided : (s : Setting) (met : List Met) (event : Event) (g : GroupId) (n : ℕ) → decided (met_in s met event ∷ met) g n ≡ decided met g n
+pub own_decided : (s : Setting) (met : List Met) (event : Event) (g : GroupId) (n : ℕ) → decided (met_in s met event ∷ met) g n ≡ decided met g n
 own_decided s met (Tick clock) g n = refl
 own_decided s met (Take m) g n = refl
 own_decided s met (Begin request text) g n = refl
@@ -710,18 +689,6 @@ own_item _ h = tt
 own_free : (c : Cluster) (t : List Item) (item : Item) → IsOwn item → IsByPoll c t item
 own_free c t (Valid node group p) h = absurd h
 own_free c t _ h = tt
-
-flat_both : {X Y : Type 0} (f : X → List Y) (xs ys : List X) → flat_map f (xs ++ ys) ≡ flat_map f xs ++ flat_map f ys
-flat_both f [] ys = refl
-flat_both f (x ∷ xs) ys = ap (λ zs. f x ++ zs) (flat_both f xs ys) ∙ grouped (f x) (flat_map f xs) (flat_map f ys)
-  where
-    grouped : {Y : Type 0} (a b d : List Y) → a ++ (b ++ d) ≡ (a ++ b) ++ d
-    grouped [] b d = refl
-    grouped (y ∷ a) b d = ap (λ zs. y ∷ zs) (grouped a b d)
-
-with_both : (c : Cluster) (nodes' : ℕ → Node) (xs ys t : List Item) → with_items c nodes' t (xs ++ ys) ≡ with_items c nodes' (with_items c nodes' t xs) ys
-with_both c nodes' [] ys t = refl
-with_both c nodes' (x ∷ xs) ys t = with_both c nodes' xs ys (with_item c nodes' t x)
 
 serving_each : (one : Met) (met : List Met) → serving_met (one ∷ met) ≡ next_serving one (serving_met met)
 serving_each one met = refl
@@ -853,7 +820,7 @@ module _ (c : Cluster) (h : Meanings) (now : Standing) (me : ℕ) (up : is_up (n
     notes_follow = subst (Follows (IsByPoll c) (λ t. tt) c nodes' first) (sym spread)
         (both_follow (IsByPoll c) (λ t. tt) c nodes' (fronts_shown ++ durable_shown) more_shown first
         (both_follow (IsByPoll c) (λ t. tt) c nodes' fronts_shown durable_shown first (no_call_follow c nodes' me (fronts s node event) first (fronts_no_call s node event)) (no_call_follow c nodes' me knows.durable behind (decision_no_call knows.durable knows.only)))
-        (subst (λ t. Follows (IsByPoll c) (λ x. tt) c nodes' t more_shown) (sym (with_both c nodes' fronts_shown durable_shown first))
+        (subst (λ t. Follows (IsByPoll c) (λ x. tt) c nodes' t more_shown) (sym (with_append c nodes' fronts_shown durable_shown first))
         (rest_follow c nodes' me behind (onto knows.durable base) knows.more (with_items c nodes' behind durable_shown) (durable_ready c nodes' me behind knows.durable base behind knows.only ready) knows.each)))
       where
         fronts_shown : List Item
@@ -866,7 +833,7 @@ module _ (c : Cluster) (h : Meanings) (now : Standing) (me : ℕ) (up : is_up (n
         more_shown = flat_map (shown me) knows.more
 
         spread : flat_map (shown me) (made event).notes ≡ (fronts_shown ++ durable_shown) ++ more_shown
-        spread = ap (flat_map (shown me)) knows.is ∙ flat_both (shown me) (fronts s node event ++ knows.durable) knows.more ∙ ap (λ xs. xs ++ more_shown) (flat_both (shown me) (fronts s node event) knows.durable)
+        spread = ap (flat_map (shown me)) knows.is ∙ flat_map-append (shown me) (fronts s node event ++ knows.durable) knows.more ∙ ap (λ xs. xs ++ more_shown) (flat_map-append (shown me) (fronts s node event) knows.durable)
 
     second_rules : Are (IsByPoll c) second
     second_rules = are_items (IsByPoll c) (λ t. tt) c nodes' (flat_map (shown me) (made event).notes) first notes_follow (own_free c now.tape item own_is, q.rules)
@@ -882,7 +849,7 @@ module _ (c : Cluster) (h : Meanings) (now : Standing) (me : ℕ) (up : is_up (n
     second_later = items_later c nodes' (flat_map (shown me) (made event).notes) first
 
     behind_second : Earlier behind second
-    behind_second = subst (Earlier behind) (sym (ap (with_items c nodes' first) spread ∙ with_both c nodes' fronts_shown rest_shown first)) (items_later c nodes' rest_shown behind)
+    behind_second = subst (Earlier behind) (sym (ap (with_items c nodes' first) spread ∙ with_append c nodes' fronts_shown rest_shown first)) (items_later c nodes' rest_shown behind)
       where
         fronts_shown : List Item
         fronts_shown = flat_map (shown me) (fronts s node event)
@@ -891,7 +858,7 @@ module _ (c : Cluster) (h : Meanings) (now : Standing) (me : ℕ) (up : is_up (n
         rest_shown = flat_map (shown me) (step_parts s node event).rest
 
         spread : flat_map (shown me) (made event).notes ≡ fronts_shown ++ rest_shown
-        spread = ap (flat_map (shown me)) (step_parts s node event).is ∙ flat_both (shown me) (fronts s node event) (step_parts s node event).rest
+        spread = ap (flat_map (shown me)) (step_parts s node event).is ∙ flat_map-append (shown me) (fronts s node event) (step_parts s node event).rest
 
     second_third : Earlier second third
     second_third = sent_later (sent_count now.tape + 1) (made event).sends second
@@ -1020,10 +987,6 @@ marks_validating c tape nodes owed item is q = record {
   told = λ group. marks_told (λ t v. beaten_on t v group) (next_beaten group) (tells_beaten group) (λ met. beaten_met met group) (beaten_each group) c tape nodes (q.told group) item is;
 }
   where
-    mark_silent : (x : Item) → IsMark x → IsSilent x
-    mark_silent (Sent key m) k = absurd k
-    mark_silent _ k = tt
-
     mark_free : (x : Item) → IsMark x → IsByPoll c tape x
     mark_free (Valid who group p) k = absurd k
     mark_free _ k = tt

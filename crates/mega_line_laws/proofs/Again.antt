@@ -1,7 +1,8 @@
 -- The compact text of a line's object is read as the same object.
-use Rattle.std.proofs.Common.{◌≡◌, ℕ, zero, suc, ◌+◌, ◌^◌, ◌<◌, ◌≤◌, ◌||◌, cond, max, pos, negsuc, Bool, true, false, Option, Some, None, Result, Ok, Err, List, refl, sym, ◌∙◌, ap, subst, arith}
+use Rattle.std.proofs.Common.{◌≡◌, ℕ, zero, suc, ◌+◌, ◌^◌, ◌<◌, ◌≤◌, cond, max, pos, negsuc, Bool, true, false, Option, Some, None, Result, Ok, Err, List, sym, ◌∙◌, ap, subst, arith}
 use Rattle.std.specs.Prelude.{is_some, if◌then◌else◌}
 use Rattle.std.specs.Str.{is_utf8}
+use Rattle.std.proofs.lemmas.Bool.{or_parts}
 use Rattle.serde_json.specs.Data.{Num, unsigned, negative, float, Data, null, boolean, number, string, array, object, Items, no_items, item, Members, no_members, member, depth, items_depth, members_depth}
 use Rattle.serde_json.specs.Find.{as_object, is_float}
 use Rattle.serde_json.specs.Read.{max_depth, read as read_json}
@@ -21,10 +22,6 @@ use Rattle.mega_json_laws.specs.Whole.{AreWholeItems, AreWholeMembers, IsWhole, 
 use Rattle.mega_json_laws.proofs.Whole.{read_whole}
 use Rattle.mega_line_laws.specs.Meanings.{asked_in, meaning_in}
 use Rattle.mega_line_laws.proofs.Spelled.{Spelled, spelled}
-
-neither : (a b : Bool) → a || b ≡ false → (a ≡ false) × (b ≡ false)
-neither false b e = (refl, e)
-neither true b e = absurd (cc)
 
 number_sound : (x : Num) → IsWholeNumber x → is_float x ≡ false → IsSoundNumber x
 number_sound (unsigned n) whole plain = whole
@@ -46,16 +43,16 @@ mutual
   items_sound : (n : ℕ) (ds : Items) → AreWholeItems ds → items_depth ds ≤ n → items_have_float ds ≡ false → AreSoundItems n ds
   items_sound n no_items whole deep plain = tt
   items_sound n (item d ds) whole deep plain =
-      let p = neither (has_float d) (items_have_float ds) plain in
+      let p = or_parts (has_float d) (items_have_float ds) plain in
       (sound n d whole.0 (omega (arith, deep)) p.0, items_sound n ds whole.1 (omega (arith, deep)) p.1)
 
   members_sound : (n : ℕ) (ms : Members) → AreWholeMembers ms → members_depth ms ≤ n → members_have_float ms ≡ false → AreSoundMembers n ms
   members_sound n no_members whole deep plain = tt
   members_sound n (member k d no_members) whole deep plain =
-      let p = neither (has_float d) (members_have_float no_members) plain in
+      let p = or_parts (has_float d) (members_have_float no_members) plain in
       (whole.0, (sound n d whole.1.0 (omega (arith, deep)) p.0, (tt, tt)))
   members_sound n (member k d (member l e ms)) whole deep plain =
-      let p = neither (has_float d) (members_have_float (member l e ms)) plain in
+      let p = or_parts (has_float d) (members_have_float (member l e ms)) plain in
       (whole.0, (sound n d whole.1.0 (omega (arith, deep)) p.0, (whole.1.1.0, members_sound n (member l e ms) whole.1.1.1 (omega (arith, deep)) p.1)))
 
 pub whole_data : (schema : Schema) (line : List ℕ) (event : WorldEvent) (s : Spelled schema line event) → IsWhole s.json

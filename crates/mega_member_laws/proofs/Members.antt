@@ -1,8 +1,9 @@
 -- Voters, full nodes and cells are nodes of the cluster.
-use Rattle.std.proofs.Common.{◌≡◌, ℕ, zero, suc, ◌+◌, ◌&&◌, ◌≤◌, Bool, true, false, List, [], ◌∷◌, length, flat_map, arith}
+use Rattle.std.proofs.Common.{◌≡◌, ℕ, zero, suc, ◌+◌, ◌≤◌, true, List, [], ◌∷◌, length, flat_map, arith}
 use Rattle.std.specs.Prelude.{nat_le, slice_get}
 use Rattle.std.specs.List.{range_with_len}
 use Rattle.std.proofs.lemmas.Bool.Decides.{nat_tests}
+use Rattle.std.proofs.lemmas.Bool.{and_from}
 use Rattle.mega_base.specs.Codec.{IsOption}
 use Rattle.mega_cluster.specs.declared.cluster.Cluster.{Cluster}
 use Rattle.mega_format_laws.specs.of_rules.Members.{cells, full_nodes, is_full, is_voter, nodes, voters}
@@ -10,15 +11,11 @@ use Rattle.mega_format_laws.specs.Rounds.{Each}
 use Rattle.mega_format_laws.proofs.Each.{each_both, each_filter}
 use Rattle.mega_member_laws.specs.Messages.{IsHere}
 
-both_true : (a b : Bool) → a ≡ true → b ≡ true → (a && b) ≡ true
-both_true true b x y = y
-both_true false b x y = x
-
 at_least : (a b : ℕ) → a ≤ b → nat_le a b ≡ true
 at_least a b le = grind (arith, nat_tests)
 
 here : (c : Cluster) (n : ℕ) → 1 ≤ n → n ≤ length c.nodes → IsHere c n
-here c n low high = both_true (nat_le 1 n) (nat_le n (length c.nodes)) (at_least 1 n low) (at_least n (length c.nodes) high)
+here c n low high = and_from (nat_le 1 n) (nat_le n (length c.nodes)) (at_least 1 n low) (at_least n (length c.nodes) high)
 
 -- numbers from 1 on, as many as there are nodes at most
 pub each_numbered : (c : Cluster) (a n : ℕ) → 1 ≤ a → a + n ≤ length c.nodes + 1 → Each (IsHere c) (range_with_len a n)

@@ -1,6 +1,7 @@
 -- A round sends only to nodes of its cluster, and its entries name only such.
 use Rattle.std.proofs.Common.{◌≡◌, ℕ, ◌+◌, ◌==◌, ◌&&◌, max, not, cond, nat_le, List, [], ◌∷◌, ◌++◌, length, map, Option, Some, None, subst}
 use Rattle.std.specs.List.{list_all, list_any}
+use Rattle.std.proofs.lemmas.Option.{same_Some}
 use Rattle.mega_ballot.specs.declared.ballot.Ballot.{Ballot}
 use Rattle.mega_ballot.specs.Order.{zero_ballot}
 use Rattle.mega_entry.specs.declared.content.Content.{Content}
@@ -21,9 +22,6 @@ use Rattle.mega_format_laws.proofs.Each.{each_both, each_filter, each_flat, each
 use Rattle.mega_member_laws.specs.Messages.{AreWithin, CarriesHere, IsHere, IsWithin, NamesHere, VotesHere}
 use Rattle.mega_member_laws.specs.Rounds.{MoveWithin, ProposalWithin, ReportsHere, RoundWithin, SiteWithin}
 use Rattle.mega_member_laws.proofs.Members.{first_numbered}
-
-some_is : {X : Type 0} (x y : X) → Some x ≡ Some y → x ≡ y
-some_is x y e = cc
 
 -- ---- messages
 
@@ -201,7 +199,7 @@ pub completes_within : (c : Cluster) (s : Site) (own : Content) (now : ℕ) → 
 completes_within c s own now h entry = prepares_within c s (record { own = own; seen = 0; round = Waiting }) now h entry
 
 settled_round : (c : Cluster) (own entry : Content) (seen : ℕ) (round : Round) → RoundWithin c round → settled (record { own = own; seen = seen; round = round }) ≡ Some entry → NamesHere c entry
-settled_round c own entry seen (Settled found told) h e = subst (NamesHere c) (some_is found entry e) h
+settled_round c own entry seen (Settled found told) h e = subst (NamesHere c) (same_Some found entry e) h
 settled_round c own entry seen (Asking leader sent) h e = cc
 settled_round c own entry seen (Preparing ballot reports sent) h e = cc
 settled_round c own entry seen (Accepting ballot found voted sent) h e = cc

@@ -3,6 +3,7 @@ use Rattle.std.proofs.Common.{◌≡◌, ℕ, zero, suc, ◌+◌, ◌≤◌, ◌
 use Rattle.std.specs.Prelude.{find}
 use Rattle.std.specs.List.{range_with_len}
 use Rattle.std.proofs.lemmas.Bool.Decides.{nat_tests}
+use Rattle.std.proofs.lemmas.Bool.{and_parts, not-false}
 use Rattle.mega_cluster.specs.declared.cluster.Cluster.{Cluster}
 use Rattle.mega_disk.specs.declared.pair.Device.TheVariants.{Log, Data}
 use Rattle.mega_handler.specs.Named.{Meanings}
@@ -40,10 +41,6 @@ handed_reached c h cuts now j (Some m) cluster handlers is receives reached = λ
     let f = reached (at_back HoldsItem c h now m.to (Taken j ∷ []) (Take m) (cuts now m.to) held) in
     at_formed c h now m.to (Taken j ∷ []) (Take m) (cuts now m.to) cluster handlers f (f.members m.to receives) (message_formed c.schema now.tape j m f.items is) (tt, tt)
 
-both_true : (a b : Bool) → (a && b) ≡ true → (a ≡ true) × (b ≡ true)
-both_true true b h = (refl, h)
-both_true false b h = cc
-
 some_same : (x y : ℕ) → Some x ≡ Some y → x ≡ y
 some_same x y h = cc
 
@@ -58,7 +55,7 @@ found test (x ∷ xs) j h = go (test x) refl h (found test xs j)
 deliverable_reached : (c : Cluster) (h : Meanings) (cuts : Cuts) (now : Standing) (j : ℕ) → IsCluster c → AreHandlers h → next_delivery (up now) now.tape ≡ Some j → Reached c now → Reached c (delivered c h cuts now j)
 deliverable_reached c h cuts now j cluster handlers e reached =
     handed_reached c h cuts now j (message_of now.tape j) cluster handlers refl
-    (both_true (not (is_taken now.tape j) && not (is_dropped now.tape j)) (receiver_up (up now) (message_of now.tape j)) (found (is_deliverable (up now) now.tape) _ j e)).1 reached
+    (and_parts (not (is_taken now.tape j) && not (is_dropped now.tape j)) (receiver_up (up now) (message_of now.tape j)) (found (is_deliverable (up now) now.tape) _ j e)).1 reached
 
 drained_reached : (c : Cluster) (h : Meanings) (cuts : Cuts) (most : ℕ) (now : Standing) → IsCluster c → AreHandlers h → Reached c now → Reached c (drained c h cuts now most)
 drained_reached c h cuts zero now cluster handlers reached = go (next_delivery (up now) now.tape)
@@ -77,18 +74,14 @@ not_because : (t : Bool) (why : ℕ) (other : Option ℕ) → because t why othe
 not_because true why other h = cc
 not_because false why other h = (refl, h)
 
-not_false : (t : Bool) → not t ≡ false → t ≡ true
-not_false true h = refl
-not_false false h = cc
-
 delivered_reached : (c : Cluster) (h : Meanings) (cuts : Cuts) (now : Standing) (j : ℕ) (o : Option Message) → IsCluster c → AreHandlers h → message_of now.tape j ≡ o → receiver_down now o ≡ false → Reached c now → Reached c (handed c h cuts now j o)
 delivered_reached c h cuts now j None cluster handlers is r reached = reached
-delivered_reached c h cuts now j (Some m) cluster handlers is r reached = handed_reached c h cuts now j (Some m) cluster handlers is (not_false (up now m.to) r) reached
+delivered_reached c h cuts now j (Some m) cluster handlers is r reached = handed_reached c h cuts now j (Some m) cluster handlers is (not-false (up now m.to) r) reached
 
 event_reached : (c : Cluster) (h : Meanings) (cuts : Cuts) (now : Standing) (event : WorldEvent) → IsCluster c → AreHandlers h → IsAsked event → refusal c now event ≡ None → Reached c now → Reached c (after_event c h cuts now event)
 event_reached c h cuts now (TickEvent node clock) cluster handlers asked r reached = λ held.
     let first = not_because (not (is_node c node.0)) 6 _ r in
-    at_formed c h now node.0 (shown node.0 (Ticks clock)) (Tick clock) (cuts now node.0) cluster handlers (reached (at_back HoldsItem c h now node.0 (shown node.0 (Ticks clock)) (Tick clock) (cuts now node.0) held)) (not_false (is_node c node.0) first.0) asked (tt, tt)
+    at_formed c h now node.0 (shown node.0 (Ticks clock)) (Tick clock) (cuts now node.0) cluster handlers (reached (at_back HoldsItem c h now node.0 (shown node.0 (Ticks clock)) (Tick clock) (cuts now node.0) held)) (not-false (is_node c node.0) first.0) asked (tt, tt)
 event_reached c h cuts now (Deliver j) cluster handlers asked r reached =
     let second = (not_because (not (is_sent now.tape j)) 3 _ r).1 in let third = (not_because (is_dropped now.tape j) 4 _ second).1 in
     delivered_reached c h cuts now j (message_of now.tape j) cluster handlers refl (not_because (receiver_down now (message_of now.tape j)) 1 None third).0 reached
@@ -97,13 +90,13 @@ event_reached c h cuts now (Drain most) cluster handlers asked r reached = drain
 event_reached c h cuts now (CrashEvent node) cluster handlers asked r reached = λ held. crash_reached c now node.0 (reached held.1)
 event_reached c h cuts now (StartEvent node) cluster handlers asked r reached =
     let first = not_because (not (is_node c node.0)) 6 _ r in
-    start_reached c h now node.0 (fate_by now node.0 (cuts now node.0) (start_calls c node.0)) (not_false (is_node c node.0) first.0) reached
+    start_reached c h now node.0 (fate_by now node.0 (cuts now node.0) (start_calls c node.0)) (not-false (is_node c node.0) first.0) reached
 event_reached c h cuts now (FuseEvent node calls image Log) cluster handlers asked r reached = λ held. let f = reached held in record { nodes = f.nodes; marks = f.marks; owed = f.owed; members = f.members; items = f.items }
 event_reached c h cuts now (FuseEvent node calls image Data) cluster handlers asked r reached = λ held. let f = reached held in record { nodes = f.nodes; marks = f.marks; owed = f.owed; members = f.members; items = f.items }
 event_reached c h cuts now (BeginEvent node request text) cluster handlers asked r reached = λ held.
     let first = not_because (not (is_node c node.0)) 6 _ r in
     at_formed c h now node.0 (shown node.0 (Begins (op_of (setting c h node.0) (now.node node.0).met) text)) (Begin request text) (cuts now node.0) cluster handlers
-    (reached (at_back HoldsItem c h now node.0 (shown node.0 (Begins (op_of (setting c h node.0) (now.node node.0).met) text)) (Begin request text) (cuts now node.0) held)) (not_false (is_node c node.0) first.0) asked.0 (asked.1, tt)
+    (reached (at_back HoldsItem c h now node.0 (shown node.0 (Begins (op_of (setting c h node.0) (now.node node.0).met) text)) (Begin request text) (cuts now node.0) held)) (not-false (is_node c node.0) first.0) asked.0 (asked.1, tt)
 
 events_reached : (c : Cluster) (cuts : Cuts) (events : List Happening) (now : Standing) → IsCluster c → AreFormed events → Reached c now → Reached c (goes_on c cuts now events)
 events_reached c cuts [] now cluster formed reached = reached

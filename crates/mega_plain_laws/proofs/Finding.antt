@@ -5,6 +5,7 @@ use Rattle.std.specs.List.{AllByRecursion}
 use Rattle.std.specs.BTreeMap.{insert_entry}
 use Rattle.std.specs.Ordering.{match_ordering}
 use Rattle.std.proofs.lemmas.Bool.Decides.{nat_tests}
+use Rattle.std.proofs.lemmas.Bool.{and_parts, and_from, or_left}
 use Rattle.mega_base.specs.declared.names.GroupId.{GroupId}
 use Rattle.mega_base.specs.declared.values.Cell.{Cell}
 use Rattle.mega_base.specs.declared.values.Kind.{Kind}
@@ -32,21 +33,13 @@ use Rattle.mega_rules.specs.Met.{Met}
 use Rattle.mega_transcript.specs.PlainRows.{are_marks, is_alone}
 use Rattle.mega_plain_laws.specs.Answers.{AreOfKinds, IsFit, IsFound, IsFoundIn}
 
-both_true : (a b : Bool) → (a && b) ≡ true → (a ≡ true) × (b ≡ true)
-both_true true b h = (refl, h)
-both_true false b h = cc
-
-both_are : (a b : Bool) → a ≡ true → b ≡ true → (a && b) ≡ true
-both_are true b g h = h
-both_are false b g h = g
-
 -- ---- cells that are stored
 
 lower : (ps : List Property) (low at : ℕ) (cells : List Cell) → low ≤ at → cells_fit ps at cells ≡ true → cells_fit ps low cells ≡ true
 lower ps low at [] le fit = refl
 lower ps low at (c ∷ cs) le fit =
-    let parts = both_true (nat_lt at c.property) (cell_fits (numbered ps c.property) c.values && cells_fit ps c.property cs) fit in
-    both_are (nat_lt low c.property) (cell_fits (numbered ps c.property) c.values && cells_fit ps c.property cs) (less low at c.property le parts.0) parts.1
+    let parts = and_parts (nat_lt at c.property) (cell_fits (numbered ps c.property) c.values && cells_fit ps c.property cs) fit in
+    and_from (nat_lt low c.property) (cell_fits (numbered ps c.property) c.values && cells_fit ps c.property cs) (less low at c.property le parts.0) parts.1
   where
     less : (low at n : ℕ) → low ≤ at → nat_lt at n ≡ true → nat_lt low n ≡ true
     less low at n le lt = grind (arith, nat_tests)
@@ -59,13 +52,13 @@ filtered_fit ps test low [] fit = refl
 filtered_fit ps test low (c ∷ cs) fit = by (test c) (filtered_fit ps test c.property cs more.1)
   where
     parts : (nat_lt low c.property ≡ true) × ((cell_fits (numbered ps c.property) c.values && cells_fit ps c.property cs) ≡ true)
-    parts = both_true (nat_lt low c.property) (cell_fits (numbered ps c.property) c.values && cells_fit ps c.property cs) fit
+    parts = and_parts (nat_lt low c.property) (cell_fits (numbered ps c.property) c.values && cells_fit ps c.property cs) fit
 
     more : (cell_fits (numbered ps c.property) c.values ≡ true) × (cells_fit ps c.property cs ≡ true)
-    more = both_true (cell_fits (numbered ps c.property) c.values) (cells_fit ps c.property cs) parts.1
+    more = and_parts (cell_fits (numbered ps c.property) c.values) (cells_fit ps c.property cs) parts.1
 
     by : (t : Bool) → cells_fit ps c.property (filter test cs) ≡ true → cells_fit ps low (cond t (c ∷ filter test cs) (filter test cs)) ≡ true
-    by true rest = both_are (nat_lt low c.property) (cell_fits (numbered ps c.property) c.values && cells_fit ps c.property (filter test cs)) parts.0 (both_are (cell_fits (numbered ps c.property) c.values) (cells_fit ps c.property (filter test cs)) more.0 rest)
+    by true rest = and_from (nat_lt low c.property) (cell_fits (numbered ps c.property) c.values && cells_fit ps c.property (filter test cs)) parts.0 (and_from (cell_fits (numbered ps c.property) c.values) (cells_fit ps c.property (filter test cs)) more.0 rest)
     by false rest = lower ps low c.property (filter test cs) (above low c.property parts.0) rest
 
 -- ---- key values
@@ -102,12 +95,12 @@ faultless kinds values bytes ok = by (misplaced kinds values 0) refl ok
 row_found : (s : Schema) (x : Index) (t : Table) (row : Row) → numbered s.tables x.table ≡ Some t → row_fits s x.table t row ≡ true → IsFound s (found_of x t row)
 row_found s x t row at fits =
     subst (λ (o : Option Table). IsFoundIn s x.table o (key_values t.primary row) (row_with x.storing row)) (sym at) (
-      filtered_fit t.properties (λ (c : Cell). is_listed x.storing c.property) 0 row.cells (both_true (cells_fit t.properties 0 row.cells) (has_required 1 t.properties row) place.0).0,
+      filtered_fit t.properties (λ (c : Cell). is_listed x.storing c.property) 0 row.cells (and_parts (cells_fit t.properties 0 row.cells) (has_required 1 t.properties row) place.0).0,
       faultless (key_kinds (shape_of s x.table t)) (key_values t.primary row) (row_bytes (shape_of s x.table t) (key_values t.primary row)) place.1,
     )
   where
     place : (properties_fit t row ≡ true) × (is_ok (key_of s x.table t (key_values t.primary row)) ≡ true)
-    place = both_true (properties_fit t row) (is_ok (key_of s x.table t (key_values t.primary row))) (both_true (has_place s x.table t row) (is_none (long_key s x.table t row)) fits).0
+    place = and_parts (properties_fit t row) (is_ok (key_of s x.table t (key_values t.primary row))) (and_parts (has_place s x.table t row) (is_none (long_key s x.table t row)) fits).0
 
 abbrev AreFound : Schema → List (List ℕ × Found) → Type 0
 AreFound s entries = AllByRecursion (λ (e : List ℕ × Found). IsFound s e.1) entries
@@ -130,7 +123,7 @@ one_row s number x None entries one at are = are
 one_row s number x (Some t) entries one at are = by (stands_in s x.table (Some t) one.0 one.1) refl
   where
     fits : stands_in s x.table (Some t) one.0 one.1 ≡ true → row_fits s x.table t one.1 ≡ true
-    fits h = (both_true _ (row_fits s x.table t one.1) h).1
+    fits h = (and_parts _ (row_fits s x.table t one.1) h).1
 
     by : (b : Bool) → stands_in s x.table (Some t) one.0 one.1 ≡ b → AreFound s (cond b (with_row s number x t entries one.1) entries)
     by true is = all_placed s (found_of x t one.1) (entry_keys number x (group_bytes_of s x.table t one.1) (key_values t.primary one.1) one.1) entries (row_found s x t one.1 at (fits is)) are
@@ -180,8 +173,4 @@ local_fit s request p listed = find_fit s request (group_marks request.group p) 
 
 pub global_fit : (s : Schema) (met : List Met) (request : FindRequest) → are_marks (refreshed_marks met) ≡ true → IsFit s (global_found s met request)
 global_fit s met request fit =
-    find_fit s request (refreshed_marks met) [] (flat_map (rows_through met) (refreshed_marks met)) (numbered s.indexes request.index) (or_so (are_marks (refreshed_marks met)) (is_alone (refreshed_marks met)) fit)
-  where
-    or_so : (a b : Bool) → a ≡ true → (a || b) ≡ true
-    or_so true b h = refl
-    or_so false b h = cc
+    find_fit s request (refreshed_marks met) [] (flat_map (rows_through met) (refreshed_marks met)) (numbered s.indexes request.index) (or_left (are_marks (refreshed_marks met)) (is_alone (refreshed_marks met)) fit)

@@ -3,6 +3,7 @@ use Rattle.std.proofs.Common.{◌≡◌, ◌&&◌, nat_lt, Bool, true, false, co
 use Rattle.std.specs.Prelude.{filter_map}
 use Rattle.std.specs.List.{AllByRecursion, cons_option}
 use Rattle.std.specs.List.Sorted.{IsStrictlySortedBy}
+use Rattle.std.proofs.lemmas.Bool.{and_from}
 use Rattle.mega_base.specs.declared.names.GroupId.{GroupId}
 use Rattle.mega_schema.specs.declared.schema.Schema.{Schema}
 use Rattle.mega_outcome.specs.declared.answer.Answer.TheVariants.{Refreshed}
@@ -31,11 +32,7 @@ AreBelow (Some mark) groups = AllByRecursion (λ group. group_cmp mark.group gro
 
 follows_it : (before : Option Mark) (mark : Mark) → nat_lt 0 (mark.position).0 ≡ true → IsBelow before mark.group → follows before mark ≡ true
 follows_it None mark at below = at
-follows_it (Some other) mark at below = both (nat_lt 0 (mark.position).0) (is_lt (group_cmp other.group mark.group)) at (ap is_lt below)
-  where
-    both : (a b : Bool) → a ≡ true → b ≡ true → (a && b) ≡ true
-    both true b g h = h
-    both false b g h = g
+follows_it (Some other) mark at below = and_from (nat_lt 0 (mark.position).0) (is_lt (group_cmp other.group mark.group)) at (ap is_lt below)
 
 first_below : (before : Option Mark) (group : GroupId) (groups : List GroupId) → AreBelow before (group ∷ groups) → IsBelow before group
 first_below None group groups h = tt

@@ -1,8 +1,9 @@
 -- An item that is held and of the format is plain, where it shows no rows of a read.
-use Rattle.std.proofs.Common.{◌≡◌, ◌&&◌, ℕ, ◌<◌, ◌==◌, nat_lt, Bool, false, true, cond, List, [], ◌∷◌, length, Option, Some, None, Result, Ok, Err, refl, arith}
+use Rattle.std.proofs.Common.{◌≡◌, ◌&&◌, ℕ, ◌<◌, ◌==◌, nat_lt, false, true, cond, List, [], ◌∷◌, length, Option, Some, None, Result, Ok, Err, refl, arith}
 use Rattle.std.specs.Prelude.{All}
 use Rattle.std.specs.List.{AllByRecursion, list_all}
 use Rattle.std.proofs.lemmas.Bool.Decides.{nat_tests}
+use Rattle.std.proofs.lemmas.Bool.{and_from, and_parts}
 use Rattle.mega_base.specs.declared.values.Cell.{Cell}
 use Rattle.mega_base.specs.declared.values.Kind.{Kind}
 use Rattle.mega_base.specs.declared.values.Row.{Row}
@@ -43,14 +44,6 @@ use Rattle.mega_plain_laws.proofs.Events.{run_spelled}
 
 -- ---- what is found
 
-pub both_true : (a b : Bool) → (a && b) ≡ true → (a ≡ true) × (b ≡ true)
-both_true true b h = (refl, h)
-both_true false b h = cc
-
-both_are : (a b : Bool) → a ≡ true → b ≡ true → (a && b) ≡ true
-both_are true b g h = h
-both_are false b g h = g
-
 above : (low n : ℕ) → nat_lt low n ≡ true → low < n
 above low n lt = grind (arith, nat_tests)
 
@@ -62,14 +55,14 @@ counted Repeated n h = h
 plain_cell : (ps : List Property) (cell : Cell) (o : Option Property) → ((property : Property) → o ≡ Some property → names_property ps cell.property property.name ≡ true) → cell_fits o cell.values ≡ true → AllByRecursion IsHeld cell.values → IsPlainCell ps o cell
 plain_cell ps cell None named fits held = cc
 plain_cell ps cell (Some property) named fits held =
-    let parts = both_true (is_count property.need (length cell.values)) (list_all (has_kind property.kind) cell.values) fits in
-    (named property refl, (both_are (list_all (has_kind property.kind) cell.values) (cond (is_repeated property.need) (nat_lt 0 (length cell.values)) (length cell.values == 1)) parts.1 (counted property.need (length cell.values) parts.0), held))
+    let parts = and_parts (is_count property.need (length cell.values)) (list_all (has_kind property.kind) cell.values) fits in
+    (named property refl, (and_from (list_all (has_kind property.kind) cell.values) (cond (is_repeated property.need) (nat_lt 0 (length cell.values)) (length cell.values == 1)) parts.1 (counted property.need (length cell.values) parts.0), held))
 
 pub plain_cells : (ps : List Property) (low : ℕ) (cells : List Cell) → ((n : ℕ) (property : Property) → numbered ps n ≡ Some property → names_property ps n property.name ≡ true) → cells_fit ps low cells ≡ true → AllByRecursion HoldsCell cells → ArePlainCells ps low cells
 plain_cells ps low [] named fits held = tt
 plain_cells ps low (c ∷ cs) named fits held =
-    let parts = both_true (nat_lt low c.property) (cell_fits (numbered ps c.property) c.values && cells_fit ps c.property cs) fits in
-    let more = both_true (cell_fits (numbered ps c.property) c.values) (cells_fit ps c.property cs) parts.1 in
+    let parts = and_parts (nat_lt low c.property) (cell_fits (numbered ps c.property) c.values && cells_fit ps c.property cs) fits in
+    let more = and_parts (cell_fits (numbered ps c.property) c.values) (cells_fit ps c.property cs) parts.1 in
     (above low c.property parts.0, (plain_cell ps c (numbered ps c.property) (named c.property) more.0 (held.0).1, plain_cells ps c.property cs named more.1 held.1))
 
 plain_key : (kinds : List Kind) (values : List Value) → AreOfKinds kinds values → AllByRecursion IsHeld values → HaveKinds kinds values
@@ -93,7 +86,7 @@ plain_finds k named (found ∷ finds) are held = (plain_found k named found are.
 
 -- ---- why one is turned
 
-plain_turn : (turn : Turn) → HoldsTurn turn → IsWord turn → IsPlainTurn turn
+pub plain_turn : (turn : Turn) → HoldsTurn turn → IsWord turn → IsPlainTurn turn
 plain_turn (OtherGroup item) held word = held
 plain_turn (BadRow item) held word = held
 plain_turn (CheckFailed item) held word = held

@@ -5,6 +5,7 @@ use Rattle.std.specs.List.{list_all}
 use Rattle.std.proofs.lemmas.Bool.Decides.{nat_tests}
 use Rattle.std.proofs.lemmas.Str.{is_utf8-from_IsUtf8}
 use Rattle.std.specs.Str.{is_utf8}
+use Rattle.std.proofs.lemmas.Bool.{and_from}
 use Rattle.hex.specs.Hex.{IsBytes}
 use Rattle.mega_base.specs.Codec.{number_text}
 use Rattle.mega_base.specs.declared.values.Kind.TheVariants.{Int64, Str}
@@ -36,10 +37,6 @@ asked = (record { handlers = tt; asked = (omega arith, omega arith) }, tt)
 
 -- ---- names
 
-and_is : (a b : Bool) → a ≡ true → b ≡ true → (a && b) ≡ true
-and_is true b g h = h
-and_is false b g h = g
-
 text : (bytes : List ℕ) → is_name bytes ≡ true → is_utf8 bytes ≡ true
 text bytes name = is_utf8-from_IsUtf8 bytes (name_text bytes name)
 
@@ -61,17 +58,17 @@ table_named : (n : ℕ) (table : Table) → numbered (users ∷ []) n ≡ Some t
 table_named zero table at = cc
 table_named (suc zero) table at =
     let same : users ≡ table = cc in
-    subst (λ (t : Table). names_table (users ∷ []) 1 t.name ≡ true) same (and_is (is_utf8 users.name) (table_number (users ∷ []) users.name == 1) (text users.name refl) refl)
+    subst (λ (t : Table). names_table (users ∷ []) 1 t.name ≡ true) same (and_from (is_utf8 users.name) (table_number (users ∷ []) users.name == 1) (text users.name refl) refl)
 table_named (suc (suc n)) table at = absurd (past (users ∷ []) (suc n) table (omega arith) at)
 
 property_named : (k : ℕ) (property : Property) → numbered users.properties k ≡ Some property → names_property users.properties k property.name ≡ true
 property_named zero property at = cc
 property_named (suc zero) property at =
     let same : record { name = codes "user_id"; need = Required; kind = Int64 } ≡ property = cc in
-    subst (λ (p : Property). names_property users.properties 1 p.name ≡ true) same (and_is (is_utf8 (codes "user_id")) (property_number users.properties (codes "user_id") == 1) (text (codes "user_id") refl) refl)
+    subst (λ (p : Property). names_property users.properties 1 p.name ≡ true) same (and_from (is_utf8 (codes "user_id")) (property_number users.properties (codes "user_id") == 1) (text (codes "user_id") refl) refl)
 property_named (suc (suc zero)) property at =
     let same : record { name = codes "name"; need = Required; kind = Str } ≡ property = cc in
-    subst (λ (p : Property). names_property users.properties 2 p.name ≡ true) same (and_is (is_utf8 (codes "name")) (property_number users.properties (codes "name") == 2) (text (codes "name") refl) refl)
+    subst (λ (p : Property). names_property users.properties 2 p.name ≡ true) same (and_from (is_utf8 (codes "name")) (property_number users.properties (codes "name") == 2) (text (codes "name") refl) refl)
 property_named (suc (suc (suc k))) property at = absurd (past users.properties (suc (suc k)) property (omega arith) at)
 
 of_users : (n : ℕ) (table : Table) → numbered (users ∷ []) n ≡ Some table → users ≡ table

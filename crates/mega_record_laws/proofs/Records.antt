@@ -1,7 +1,7 @@
 -- A record is read back from its text, a front of the text as a front of the record, and what is read has this text.
 use Rattle.std.proofs.Common.{◌≡◌, ℕ, zero, suc, ◌≤◌, ◌==◌, Bool, true, false, not, All, List, [], ◌∷◌, ◌++◌, length, take, refl, sym, ap, ◌∙◌, subst, Option, Some, None, arith, append_assoc}
 use Rattle.std.specs.Prelude.{if◌then◌else◌}
-use Rattle.std.proofs.lemmas.Bool.{and_parts}
+use Rattle.std.proofs.lemmas.Bool.{and_parts, not-true}
 use Rattle.std.proofs.lemmas.Bool.Decides.{nat_tests}
 use Rattle.std.proofs.lemmas.List.{append-nil}
 use Rattle.std.proofs.lemmas.List.Elements.{All-cons, All-head, All-nil, All-tail}
@@ -18,15 +18,11 @@ use Rattle.mega_record_laws.proofs.Reading.{line_again, line_found}
 
 -- ---- lines that a line feed ends
 
-is_no : (t : Bool) → not t ≡ true → t ≡ false
-is_no true h = absurd (cc)
-is_no false h = refl
-
 line_ends : (front line rest : List ℕ) → NoEnd line → ended_after front (line ++ 10 ∷ rest) ≡ (front ++ line) ∷ ended_lines rest
 line_ends front [] rest h = ap (λ (l : List ℕ). l ∷ ended_lines rest) (sym (append-nil front))
 line_ends front (b ∷ line) rest h =
     let parts = and_parts (not (b == 10)) (lacks 10 line) h in
-    ap (λ (t : Bool). if t then front ∷ ended_after [] (line ++ 10 ∷ rest) else ended_after (front ++ b ∷ []) (line ++ 10 ∷ rest)) (is_no (b == 10) parts.0)
+    ap (λ (t : Bool). if t then front ∷ ended_after [] (line ++ 10 ∷ rest) else ended_after (front ++ b ∷ []) (line ++ 10 ∷ rest)) (not-true (b == 10) parts.0)
     ∙ line_ends (front ++ b ∷ []) line rest parts.1
     ∙ ap (λ (l : List ℕ). l ∷ ended_lines rest) (append_assoc front (b ∷ []) line)
 
@@ -36,7 +32,7 @@ no_line front line rest zero h low = refl
 no_line front [] rest (suc n) h low = absurd (omega arith)
 no_line front (b ∷ line) rest (suc n) h low =
     let parts = and_parts (not (b == 10)) (lacks 10 line) h in
-    ap (λ (t : Bool). if t then front ∷ ended_after [] (take n (line ++ rest)) else ended_after (front ++ b ∷ []) (take n (line ++ rest))) (is_no (b == 10) parts.0)
+    ap (λ (t : Bool). if t then front ∷ ended_after [] (take n (line ++ rest)) else ended_after (front ++ b ∷ []) (take n (line ++ rest))) (not-true (b == 10) parts.0)
     ∙ no_line (front ++ b ∷ []) line rest n parts.1 (omega arith)
 
 -- ---- what is written is read
@@ -121,7 +117,7 @@ no_end : (front bytes : List ℕ) → NoEnd bytes → ended_after front bytes �
 no_end front [] h = refl
 no_end front (b ∷ bytes) h =
     let parts = and_parts (not (b == 10)) (lacks 10 bytes) h in
-    ap (λ (t : Bool). if t then front ∷ ended_after [] bytes else ended_after (front ++ b ∷ []) bytes) (is_no (b == 10) parts.0)
+    ap (λ (t : Bool). if t then front ∷ ended_after [] bytes else ended_after (front ++ b ∷ []) bytes) (not-true (b == 10) parts.0)
     ∙ no_end (front ++ b ∷ []) bytes parts.1
 
 parted : (front text : List ℕ) → NoEnd front → Parted (front ++ text) (ended_after front text)

@@ -28,20 +28,13 @@ use Rattle.mega_node_laws.proofs.Ending.{step_met}
 use Rattle.mega_run_laws.proofs.Sending.{Stood}
 use Rattle.mega_run_laws.proofs.Standing.{sends_on}
 use Rattle.mega_run_laws.proofs.Turns.{Known}
-use Rattle.mega_run_laws.proofs.Whole.{in_left, in_right}
+use Rattle.mega_run_laws.proofs.Whole.{in_left, in_right, with_stood_one, in_shown, with_stands}
 
 -- ---- items that come onto a tape
 
-with_item_stood : (c : Cluster) (nodes : ℕ → Node) (tape : List Item) (item : Item) → Stood tape (with_item c nodes tape item)
-with_item_stood c nodes tape item other s = by (breaks c nodes item && not (is_unsafe tape))
-  where
-    by : (t : Bool) → Stands other (cond t (Unsafe ∷ item ∷ tape) (item ∷ tape))
-    by true = inr (inr s)
-    by false = inr s
-
 with_items_stood : (c : Cluster) (nodes : ℕ → Node) (items tape : List Item) → Stood tape (with_items c nodes tape items)
 with_items_stood c nodes [] tape other s = s
-with_items_stood c nodes (item ∷ items) tape other s = with_items_stood c nodes items (with_item c nodes tape item) other (with_item_stood c nodes tape item other s)
+with_items_stood c nodes (item ∷ items) tape other s = with_items_stood c nodes items (with_item c nodes tape item) other (with_stood_one c nodes tape item other s)
 
 item_stands : (c : Cluster) (nodes : ℕ → Node) (tape : List Item) (item : Item) → Stands item (with_item c nodes tape item)
 item_stands c nodes tape item = by (breaks c nodes item && not (is_unsafe tape))
@@ -49,18 +42,6 @@ item_stands c nodes tape item = by (breaks c nodes item && not (is_unsafe tape))
     by : (t : Bool) → Stands item (cond t (Unsafe ∷ item ∷ tape) (item ∷ tape))
     by true = inr (inl refl)
     by false = inl refl
-
-items_stand : (c : Cluster) (nodes : ℕ → Node) (items tape : List Item) (item : Item) → In item items → Stands item (with_items c nodes tape items)
-items_stand c nodes [] tape item i = absurd i
-items_stand c nodes (one ∷ items) tape item (inl same) =
-    with_items_stood c nodes items (with_item c nodes tape one) item (subst (λ x. Stands x (with_item c nodes tape one)) same (item_stands c nodes tape one))
-items_stand c nodes (one ∷ items) tape item (inr i) = items_stand c nodes items (with_item c nodes tape one) item i
-
-in_shown : (me : ℕ) (g : GroupId) (n : ℕ) (e : Content) (notes : List Met) → In (Decides g n e) notes → In (Decide (number me) g (record { 0 = n }) e) (flat_map (shown me) notes)
-in_shown me g n e [] i = absurd i
-in_shown me g n e (one ∷ notes) (inl same) = in_left (Decide (number me) g (record { 0 = n }) e) (shown me one) (flat_map (shown me) notes)
-    (subst (λ x. In (Decide (number me) g (record { 0 = n }) e) (shown me x)) (sym same) (inl refl))
-in_shown me g n e (one ∷ notes) (inr i) = in_right (Decide (number me) g (record { 0 = n }) e) (shown me one) (flat_map (shown me) notes) (in_shown me g n e notes i)
 
 -- ---- what comes to be decided
 
@@ -93,7 +74,7 @@ known_stood me met more old new same stood known g n e h = stood (Decide (number
 known_shown : (c : Cluster) (nodes : ℕ → Node) (me : ℕ) (met notes : List Met) (items tape : List Item)
     → ((item : Item) → In item (flat_map (shown me) notes) → In item items) → Known me met tape → Known me (onto notes met) (with_items c nodes tape items)
 known_shown c nodes me met notes items tape among known g n e h = elim (decided_among notes met g n e h) [
-  | inl i ↦ items_stand c nodes items tape (Decide (number me) g (record { 0 = n }) e) (among (Decide (number me) g (record { 0 = n }) e) (in_shown me g n e notes i))
+  | inl i ↦ with_stands c nodes items tape (Decide (number me) g (record { 0 = n }) e) (among (Decide (number me) g (record { 0 = n }) e) (in_shown me g n e notes i))
   | inr was ↦ with_items_stood c nodes items tape (Decide (number me) g (record { 0 = n }) e) (known g n e was)
 ]
 

@@ -1,6 +1,7 @@
 -- What a drain delivers is never refused, so a drain is a run of deliveries.
 use Rattle.std.proofs.Common.{◌≡◌, ◌≤◌, ◌<◌, ◌+◌, ◌&&◌, not, ℕ, zero, suc, cond, nat_le, Bool, true, false, [], ◌∷◌, refl, sym, ap, ◌∙◌, arith, le-leb, Option, Some, None}
 use Rattle.std.specs.List.{find, range_with_len}
+use Rattle.std.proofs.lemmas.Bool.{not-true}
 use Rattle.mega_cluster.specs.declared.cluster.Cluster.{Cluster}
 use Rattle.mega_wire.specs.declared.message.Message.{Message}
 use Rattle.mega_handler.specs.Named.{Meanings}
@@ -23,10 +24,6 @@ all_three true true c is = (refl, refl, is)
 all_three true false c is = cc
 all_three false b c is = cc
 
-not_true : (t : Bool) → not t ≡ true → t ≡ false
-not_true true is = cc
-not_true false is = refl
-
 not_down : (now : Standing) (o : Option Message) → receiver_up (up now) o ≡ true → receiver_down now o ≡ false
 not_down now None is = cc
 not_down now (Some message) is = ap not is
@@ -38,7 +35,7 @@ next_allowed c now k is =
     let high = found.2 in
     let sent : is_sent now.tape k ≡ true = ap (λ t. t && nat_le k (sent_count now.tape)) (le-leb 1 k found.1) ∙ le-leb k (sent_count now.tape) (omega (arith, high)) in
     ap (λ t. because (not t) 3 (because (is_dropped now.tape k) 4 (because (receiver_down now (message_of now.tape k)) 1 None))) sent
-    ∙ ap (λ t. because t 4 (because (receiver_down now (message_of now.tape k)) 1 None)) (not_true (is_dropped now.tape k) parts.1)
+    ∙ ap (λ t. because t 4 (because (receiver_down now (message_of now.tape k)) 1 None)) (not-true (is_dropped now.tape k) parts.1)
     ∙ ap (λ t. because t 1 None) (not_down now (message_of now.tape k) parts.2)
 
 pub drain_goes_on : (c : Cluster) (h : Meanings) (cuts : Cuts) (now : Standing) (k most : ℕ) → next_delivery (up now) now.tape ≡ Some k

@@ -1,5 +1,6 @@
 -- No key that is read as a row key of a table is that of an index entry.
 use Rattle.std.proofs.Common.{◌≡◌, inl, inr, ℕ, ◌+◌, Bool, true, false, ◌||◌, if◌then◌else◌, List, [], ◌∷◌, ◌++◌, drop, refl, sym, ap, ◌∙◌, arith, Option, Some, None, Result, Ok, Err, is_ok, is_none}
+use Rattle.std.proofs.lemmas.Bool.{and_parts}
 use Rattle.mega_base.specs.declared.values.Value.{Value}
 use Rattle.mega_base.specs.declared.values.Row.{Row}
 use Rattle.mega_schema.specs.declared.schema.Table.{Table}
@@ -15,11 +16,12 @@ use Rattle.mega_index.specs.Entries.{local_in, local_entries}
 use Rattle.mega_run_laws.specs.of_tape_laws.Indexed.{IsDeclared}
 use Rattle.mega_run_laws.proofs.of_tape_laws.Placed.{under}
 use Rattle.mega_run_laws.proofs.of_tape_laws.Spelled.{AreOf}
-use Rattle.mega_run_laws.proofs.of_tape_laws.RowKeys.{IsKeyOf, both, key_spelt, of_front, group_of_key, of_ok}
+use Rattle.mega_run_laws.proofs.of_tape_laws.RowKeys.{IsKeyOf, key_spelt, of_front, group_of_key, of_ok, root_reread}
 use Rattle.mega_run_laws.proofs.of_tape_laws.IndexKeys.{entry_key}
 use Rattle.mega_run_laws.proofs.of_tape_laws.IndexKept.{table_least}
 use Rattle.mega_run_laws.proofs.of_tape_laws.IndexEntries.{InLocal, local_from}
-use Rattle.mega_row_laws.proofs.Reading.{ReadParts, differ, neither, one_numbered, read_parts, root_of, root_reread, same_first}
+use Rattle.mega_run_laws.proofs.of_tape_laws.RootKeys.{root_of, same_first}
+use Rattle.mega_row_laws.proofs.Reading.{ReadParts, differ, neither, one_numbered, read_parts}
 
 -- ---- the key of an index entry
 
@@ -63,7 +65,7 @@ entry_front s n t row key w h = by (row_fits s n t row) refl h
     by : (b : Bool) → row_fits s n t row ≡ b → under (if b then local_in 1 (indexes_of s) n (group_bytes_of s n t row) values row [] else []) key ≡ Some w → EntryFront s t key
     by false e g = absurd (none g)
     by true e g =
-        let own = spelled (key_of s n t values) refl (both (properties_fit t row) (is_ok (key_of s n t values)) (both (has_place s n t row) (is_none (long_key s n t row)) e).0).1 in
+        let own = spelled (key_of s n t values) refl (and_parts (properties_fit t row) (is_ok (key_of s n t values)) (and_parts (has_place s n t row) (is_none (long_key s n t row)) e).0).1 in
         elim (local_from 1 (indexes_of s) n (group_bytes_of s n t row) values row [] key w g) [ inl f ↦ found own.0 own.1 f | inr f ↦ absurd (none f) ]
 
 -- ---- a key that is read

@@ -1,5 +1,5 @@
 -- The keys that a group's entries write under, and that items of the group name: no key is both one group's and named by an item of another.
-use Rattle.std.proofs.Common.{◌≡◌, ℕ, Bool, true, false, List, ◌∷◌, ◌++◌, drop, refl, sym, ap, ◌∙◌, Option, Some, None, Ok}
+use Rattle.std.proofs.Common.{◌≡◌, ℕ, Bool, true, false, List, ◌∷◌, ◌++◌, drop, sym, ap, ◌∙◌, Option, Some, None, Ok}
 use Rattle.mega_base.specs.declared.values.Value.{Value}
 use Rattle.mega_base.specs.declared.values.Row.{Row}
 use Rattle.mega_schema.specs.declared.schema.Table.{Table}
@@ -8,12 +8,12 @@ use Rattle.mega_schema.specs.Shaping.{shape_of}
 use Rattle.mega_keys.specs.Spelling.{spell_all, scattered, scatter_of, root_part, rest_part, group_bytes}
 use Rattle.mega_index.specs.Fits.{numbered, group_of, key_of}
 use Rattle.mega_index.specs.Entries.{local_entries}
-use Rattle.mega_outcome.specs.Places.{key_in, key_in_table}
+use Rattle.mega_outcome.specs.Places.{key_in}
 use Rattle.mega_run_laws.specs.of_tape_laws.Indexed.{IsDeclared}
 use Rattle.mega_run_laws.proofs.of_tape_laws.Placed.{under}
 use Rattle.mega_run_laws.proofs.of_tape_laws.Spelled.{Alike, SameKinds, same_kinds, values_split, alike_head}
 use Rattle.mega_run_laws.proofs.of_tape_laws.RowKeys.{IsKeyOf, group_spelt, key_spelt, of_front}
-use Rattle.mega_run_laws.proofs.of_tape_laws.Replacing.{key_in_at}
+use Rattle.mega_run_laws.proofs.of_tape_laws.Replacing.{key_in_at, key_in_table_of}
 use Rattle.mega_run_laws.proofs.of_tape_laws.RootKeys.{one_table, no_entry}
 use Rattle.mega_row_laws.proofs.Reading.{one_numbered, read_one_group, read_one_table}
 
@@ -45,19 +45,12 @@ spelled_one_group s n t vs ws key own other =
 
 -- ---- a key that an item of a group names
 
-table_named : (s : Schema) (group : List ℕ) (i n : ℕ) (values : List Value) (key : List ℕ) → key_in s group i n values ≡ Ok key → (t : Table) × (numbered s.tables n ≡ Some t)
-table_named s group i n values key h = by (numbered s.tables n) h
-  where
-    by : (o : Option Table) → key_in_table s group i n o values ≡ Ok key → (t : Table) × (o ≡ Some t)
-    by None g = absurd (cc)
-    by (Some t) g = (t, refl)
-
 -- is a key of no other group
 pub one_group : (s : Schema) → IsDeclared s → (group other : List ℕ) (i n : ℕ) (values : List Value) (key : List ℕ) → key_in s group i n values ≡ Ok key → KeyOf s other key → group ≡ other
 one_group s d group other i n values key names key_of_other = by key_of_other
   where
     found : (t : Table) × (numbered s.tables n ≡ Some t)
-    found = table_named s group i n values key names
+    found = key_in_table_of s group i n values key names
 
     t : Table
     t = found.0

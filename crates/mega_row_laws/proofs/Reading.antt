@@ -1,5 +1,5 @@
 -- A key that key values of one table spell, and that is read as a key of a table, is of that one table and of one group.
-use Rattle.std.proofs.Common.{◌≡◌, ℕ, ◌≤◌, cond, ltb, eqb, Bool, true, false, ◌||◌, if◌then◌else◌, List, [], ◌∷◌, ◌++◌, length, take, drop, refl, sym, ap, ◌∙◌, take_at, take_all, ltb-false, Some, Result, Ok, Err}
+use Rattle.std.proofs.Common.{◌≡◌, ℕ, Bool, true, false, ◌||◌, if◌then◌else◌, List, [], ◌∷◌, ◌++◌, length, drop, refl, sym, ap, ◌∙◌, take_at, Some, Ok}
 use Rattle.mega_base.specs.declared.values.Value.{Value}
 use Rattle.mega_base.specs.declared.values.Kind.{Kind}
 use Rattle.mega_base.specs.declared.values.Shape.{Shape}
@@ -7,45 +7,18 @@ use Rattle.mega_schema.specs.declared.schema.Table.{Table}
 use Rattle.mega_schema.specs.declared.schema.Schema.{Schema}
 use Rattle.mega_schema.specs.Lookup.{is_root_table}
 use Rattle.mega_schema.specs.Shaping.{root_kinds, shape_of, table_at}
-use Rattle.mega_keys.specs.declared.fault.KeyFault.{KeyFault}
-use Rattle.mega_keys.specs.declared.fault.KeyFault.TheVariants.{NotKey}
 use Rattle.mega_keys.specs.Spelling.{spell_all, scattered, scatter_of, root_part, rest_part, group_bytes}
 use Rattle.mega_keys.specs.Answers.{group_key_of}
-use Rattle.mega_keys.specs.Reading.{◌>>=◌, values_at, byte_at, marks_at, agree, root_at, key_front_at, key_at, answer_of, read_key_of}
+use Rattle.mega_keys.specs.Reading.{◌>>=◌, values_at, byte_at, marks_at, agree, root_at, key_front_at, read_key_of}
 use Rattle.mega_keys.proofs.Takes.{bind_ok, ok_parts}
 use Rattle.mega_keys.proofs.Keys.{byte_takes}
 use Rattle.mega_index.specs.Fits.{numbered, key_of}
 use Rattle.mega_run_laws.specs.of_tape_laws.Indexed.{IsDeclared}
-use Rattle.mega_run_laws.proofs.of_tape_laws.Spelled.{AreOf, RereadAll, values_pass, values_reread, alike_head}
-use Rattle.mega_run_laws.proofs.of_tape_laws.RowKeys.{IsKeyOf, group_spelt, key_spelt, of_front}
+use Rattle.mega_run_laws.proofs.of_tape_laws.Spelled.{AreOf, values_pass, alike_head}
+use Rattle.mega_run_laws.proofs.of_tape_laws.RowKeys.{IsKeyOf, group_spelt, key_spelt, of_front, read_front, root_reread}
+use Rattle.mega_run_laws.proofs.of_tape_laws.RootKeys.{root_of, same_first}
 
 -- ---- what reading a key tells of its bytes
-
--- what was read of a key, and of which bytes
-record ReadFront (shape : Shape) (key : List ℕ) (values : List Value) : Type 0 where
-  left : List ℕ
-  read : key_front_at shape key ≡ Ok (values, left)
-
-read_front : (shape : Shape) (key : List ℕ) (values : List Value) → read_key_of shape key ≡ Ok values → ReadFront shape key values
-unfolding key_at
-read_front shape key values h =
-    let a = answer_ok (key_at shape (take 1024 key)) h in
-    let all : take 1024 key ≡ key = take_all 1024 key a.1 in
-    let k = bind_ok (key_front_at shape (take 1024 key)) (λ key. cond (eqb (length key.1) 0) (Ok key.0) (Err (length key.1))) values a.0 in
-    let is = end_is (eqb (length (k.0).1) 0) (length (k.0).1) (k.0).0 k.2 in
-    record { left = (k.0).1; read = ap (key_front_at shape) (sym all) ∙ k.1 ∙ ap (λ x. Ok (x, (k.0).1)) is }
-  where
-    end_is : (t : Bool) (n : ℕ) (found : List Value) → cond {A = Result (List Value) ℕ} t (Ok found) (Err n) ≡ Ok values → found ≡ values
-    end_is true n found g = cc
-    end_is false n found g = absurd (cc)
-
-    answer_ok : (r : Result (List Value) ℕ) → answer_of key r ≡ Ok values → (r ≡ Ok values) × (length key ≤ 1024)
-    answer_ok (Ok found) g = by (ltb 1024 (length key)) refl g
-      where
-        by : (t : Bool) → ltb 1024 (length key) ≡ t → cond {A = Result (List Value) KeyFault} t (Err (NotKey 1024)) (Ok found) ≡ Ok values → (◌≡◌ {A = Result (List Value) ℕ} (Ok found) (Ok values)) × (length key ≤ 1024)
-        by true e f = absurd (cc)
-        by false e f = (let same : found ≡ values = cc in ap Ok same, ltb-false 1024 (length key) e)
-    answer_ok (Err n) g = absurd (cc)
 
 root_length : (s : Bool) (ks : List Kind) (bytes : List ℕ) (vs : List Value) (left : List ℕ) → root_at s ks bytes ≡ Ok (vs, left) → length vs ≡ length ks
 unfolding root_at marks_at scattered
@@ -57,16 +30,6 @@ root_length true ks (a ∷ b ∷ marked) vs left h =
     let g = bind_ok (agree (a ∷ b ∷ []) (scattered (r.0).0) (length (a ∷ b ∷ marked))) (λ _. Ok r.0) (vs, left) r.2 in
     let parts = ok_parts g.2 in
     ap length (sym parts.0) ∙ (values_pass ks marked (r.0).0 (r.0).1 r.1).count
-
--- what is read where the key values of a root were spelled is alike
-pub root_reread : (s : Bool) (ks : List Kind) (vs ws : List Value) (rest left : List ℕ) → AreOf ks vs → root_at s ks ((scatter_of s vs ++ spell_all vs) ++ rest) ≡ Ok (ws, left) → RereadAll vs ws rest left
-unfolding root_at marks_at scattered
-root_reread false ks vs ws rest left h e = values_reread ks vs ws rest left h e
-root_reread true ks vs ws rest left h e =
-    let r = bind_ok (values_at ks (spell_all vs ++ rest)) (λ root. agree (scattered vs) (scattered root.0) (length ((scattered vs ++ spell_all vs) ++ rest)) >>= λ _. Ok root) (ws, left) e in
-    let g = bind_ok (agree (scattered vs) (scattered (r.0).0) (length ((scattered vs ++ spell_all vs) ++ rest))) (λ _. Ok r.0) (ws, left) r.2 in
-    let parts = ok_parts g.2 in
-    values_reread ks vs ws rest left h (r.1 ∙ (λ i. Ok (parts.0 i, parts.1 i)))
 
 -- a first byte, the root's key values, of which the group is, and the table's number
 pub record ReadParts (shape : Shape) (key group : List ℕ) : Type 0 where
@@ -101,28 +64,12 @@ read_parts shape key group values read is =
       group_is = (group_spelt shape (root_part shape values) group is).is ∙ ap (group_bytes shape) root_is;
     }
 
--- ---- the root of a table
-
-pub record RootOf (s : Schema) (t : Table) : Type 0 where
-  pub root : Table
-  pub numbered_is : numbered s.tables t.root ≡ Some root
-  pub is_root : is_root_table root ≡ true
-  pub scatter_is : t.scatter ≡ root.scatter
-
-pub root_of : (s : Schema) → IsDeclared s → (n : ℕ) (t : Table) → numbered s.tables n ≡ Some t → RootOf s t
-root_of s d n t at = by (is_root_table t) refl
-  where
-    by : (b : Bool) → is_root_table t ≡ b → RootOf s t
-    by true e = record { root = t; numbered_is = ap (numbered s.tables) (d.roots n t at e) ∙ at; is_root = e; scatter_is = refl }
-    by false e = let o = d.others n t at e in record { root = o.0; numbered_is = o.1; is_root = o.2; scatter_is = o.3 }
+-- ---- the number of a table
 
 pub one_numbered : (s : Schema) (n m : ℕ) (t u : Table) → numbered s.tables n ≡ Some t → numbered s.tables m ≡ Some u → n ≡ m → t ≡ u
 one_numbered s n m t u at there same = let e : Some t ≡ Some u = sym at ∙ ap (numbered s.tables) same ∙ there in cc
 
 -- ---- a key that is spelled and read
-
-pub same_first : (x y : ℕ) (xs ys : List ℕ) → x ∷ xs ≡ y ∷ ys → x ≡ y
-same_first x y xs ys h = cc
 
 pub neither : (a b : Bool) → a || b ≡ false → a ≡ false
 neither true b h = cc

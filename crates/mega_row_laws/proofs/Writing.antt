@@ -46,7 +46,7 @@ WritesIn s group writes = Each (WriteOf s group) writes
 
 -- ---- the writes of index entries
 
-in_under : (es : Listed) (e : List ℕ × Row) → In e es → under es e.0 ≡ None → ⊥
+pub in_under : (es : Listed) (e : List ℕ × Row) → In e es → under es e.0 ≡ None → ⊥
 in_under [] e i none = absurd i
 in_under (d ∷ es) e i none = by (same_key e.0 d.0) refl (in_under es e) none i
   where

@@ -2,6 +2,7 @@
 use Rattle.std.proofs.Common.{◌≡◌, ◌⊎◌, inl, inr, ℕ, ◌+◌, ◌==◌, ◌≤◌, ◌<◌, ◌*◌, ◌||◌, Bool, true, false, cond, List, [], ◌∷◌, ◌++◌, length, Option, Some, None, refl, sym, ap, ◌∙◌, subst, arith}
 use Rattle.std.proofs.lemmas.Bool.Decides.{nat_tests}
 use Rattle.std.proofs.lemmas.List.{length_push}
+use Rattle.std.proofs.lemmas.Bool.{or_cases, or_left, or_right}
 use Rattle.mega_ballot.specs.declared.ballot.Ballot.{Ballot}
 use Rattle.mega_cluster.specs.declared.cluster.Cluster.{Cluster}
 use Rattle.mega_entry.specs.declared.content.Content.{Content}
@@ -18,22 +19,6 @@ use Rattle.mega_tape_laws.specs.Lawful.{Carries, Heard, greatest, own}
 use Rattle.mega_tape_laws.proofs.Ballots.{at_most_at_most, at_most_self, below_not, number_is, number_self}
 use Rattle.mega_tape_laws.proofs.Lists.{some_is}
 use Rattle.mega_run_laws.specs.Justified.{Accepters, Among, Chosen, Reported, is_reported, report_of}
-
-either : (a b : Bool) → (a || b) ≡ true → (a ≡ true) ⊎ (b ≡ true)
-either true b h = inl refl
-either false b h = inr h
-
-left : (a b : Bool) → a ≡ true → (a || b) ≡ true
-left true b h = refl
-left false b h = cc
-
-right : (a b : Bool) → b ≡ true → (a || b) ≡ true
-right true b h = refl
-right false b h = h
-
-neither : (a b : Bool) → (a || b) ≡ false → (a ≡ false) × (b ≡ false)
-neither true b h = cc
-neither false b h = (refl, h)
 
 -- counts
 
@@ -60,7 +45,7 @@ count_there false false m n h le = omega arith
 
 pub count_more : (t u : ℕ → Bool) (x : ℕ) (nodes : List ℕ) → ((v : ℕ) → t v ≡ true → u v ≡ true) → t x ≡ false → u x ≡ true → has x nodes ≡ true → count t nodes + 1 ≤ count u nodes
 count_more t u x [] h a b i = cc
-count_more t u x (node ∷ nodes) h a b i = elim (either (node == x) (has x nodes) i) [
+count_more t u x (node ∷ nodes) h a b i = elim (or_cases (node == x) (has x nodes) i) [
   | inl e ↦ let same = number_is node x e in count_here (t node) (u node) (count t nodes) (count u nodes) (ap t same ∙ a) (ap u same ∙ b) (count_most t u nodes h)
   | inr j ↦ count_there (t node) (u node) (count t nodes) (count u nodes) (h node) (count_more t u x nodes h a b j)
 ]
@@ -70,23 +55,23 @@ majority_is members n counted h le = let less : members < 2 * n = grind (arith, 
 
 -- nodes
 
-has_push : (x v : ℕ) (nodes : List ℕ) → has v (nodes ++ x ∷ []) ≡ true → (has v nodes ≡ true) ⊎ (x ≡ v)
-has_push x v [] h = elim (either (x == v) false h) [ inl e ↦ inr (number_is x v e) | inr k ↦ cc ]
-has_push x v (node ∷ nodes) h = elim (either (node == v) (has v (nodes ++ x ∷ [])) h) [
-  | inl e ↦ inl (left (node == v) (has v nodes) e)
-  | inr k ↦ elim (has_push x v nodes k) [ inl j ↦ inl (right (node == v) (has v nodes) j) | inr e ↦ inr e ]
+pub has_push : (x v : ℕ) (nodes : List ℕ) → has v (nodes ++ x ∷ []) ≡ true → (has v nodes ≡ true) ⊎ (x ≡ v)
+has_push x v [] h = elim (or_cases (x == v) false h) [ inl e ↦ inr (number_is x v e) | inr k ↦ cc ]
+has_push x v (node ∷ nodes) h = elim (or_cases (node == v) (has v (nodes ++ x ∷ [])) h) [
+  | inl e ↦ inl (or_left (node == v) (has v nodes) e)
+  | inr k ↦ elim (has_push x v nodes k) [ inl j ↦ inl (or_right (node == v) (has v nodes) j) | inr e ↦ inr e ]
 ]
 
-push_has : (x v : ℕ) (nodes : List ℕ) → has v nodes ≡ true → has v (nodes ++ x ∷ []) ≡ true
+pub push_has : (x v : ℕ) (nodes : List ℕ) → has v nodes ≡ true → has v (nodes ++ x ∷ []) ≡ true
 push_has x v [] h = cc
-push_has x v (node ∷ nodes) h = elim (either (node == v) (has v nodes) h) [
-  | inl e ↦ left (node == v) (has v (nodes ++ x ∷ [])) e
-  | inr k ↦ right (node == v) (has v (nodes ++ x ∷ [])) (push_has x v nodes k)
+push_has x v (node ∷ nodes) h = elim (or_cases (node == v) (has v nodes) h) [
+  | inl e ↦ or_left (node == v) (has v (nodes ++ x ∷ [])) e
+  | inr k ↦ or_right (node == v) (has v (nodes ++ x ∷ [])) (push_has x v nodes k)
 ]
 
-push_last : (x : ℕ) (nodes : List ℕ) → has x (nodes ++ x ∷ []) ≡ true
-push_last x [] = left (x == x) false (number_self x)
-push_last x (node ∷ nodes) = right (node == x) (has x (nodes ++ x ∷ [])) (push_last x nodes)
+pub push_last : (x : ℕ) (nodes : List ℕ) → has x (nodes ++ x ∷ []) ≡ true
+push_last x [] = or_left (x == x) false (number_self x)
+push_last x (node ∷ nodes) = or_right (node == x) (has x (nodes ++ x ∷ [])) (push_last x nodes)
 
 pub none_accepted : (c : Cluster) (tape : List Item) (op : OpId) (p : Place) (b : Ballot) (e : Content) → Accepters c tape op p b e []
 none_accepted c tape op p b e = record { heard = λ voter h. cc; counted = omega arith }
@@ -121,22 +106,22 @@ chosen_by c tape op p b e those a h = record {
 -- reports
 
 reported_push : (r : Report) (v : ℕ) (reports : List Report) → is_reported (reports ++ r ∷ []) v ≡ true → (is_reported reports v ≡ true) ⊎ (r.voter ≡ v)
-reported_push r v [] h = elim (either (r.voter == v) false h) [ inl e ↦ inr (number_is r.voter v e) | inr k ↦ cc ]
-reported_push r v (one ∷ reports) h = elim (either (one.voter == v) (is_reported (reports ++ r ∷ []) v) h) [
-  | inl e ↦ inl (left (one.voter == v) (is_reported reports v) e)
-  | inr k ↦ elim (reported_push r v reports k) [ inl j ↦ inl (right (one.voter == v) (is_reported reports v) j) | inr e ↦ inr e ]
+reported_push r v [] h = elim (or_cases (r.voter == v) false h) [ inl e ↦ inr (number_is r.voter v e) | inr k ↦ cc ]
+reported_push r v (one ∷ reports) h = elim (or_cases (one.voter == v) (is_reported (reports ++ r ∷ []) v) h) [
+  | inl e ↦ inl (or_left (one.voter == v) (is_reported reports v) e)
+  | inr k ↦ elim (reported_push r v reports k) [ inl j ↦ inl (or_right (one.voter == v) (is_reported reports v) j) | inr e ↦ inr e ]
 ]
 
 push_reported : (r : Report) (v : ℕ) (reports : List Report) → is_reported reports v ≡ true → is_reported (reports ++ r ∷ []) v ≡ true
 push_reported r v [] h = cc
-push_reported r v (one ∷ reports) h = elim (either (one.voter == v) (is_reported reports v) h) [
-  | inl e ↦ left (one.voter == v) (is_reported (reports ++ r ∷ []) v) e
-  | inr k ↦ right (one.voter == v) (is_reported (reports ++ r ∷ []) v) (push_reported r v reports k)
+push_reported r v (one ∷ reports) h = elim (or_cases (one.voter == v) (is_reported reports v) h) [
+  | inl e ↦ or_left (one.voter == v) (is_reported (reports ++ r ∷ []) v) e
+  | inr k ↦ or_right (one.voter == v) (is_reported (reports ++ r ∷ []) v) (push_reported r v reports k)
 ]
 
 last_reported : (r : Report) (reports : List Report) → is_reported (reports ++ r ∷ []) r.voter ≡ true
-last_reported r [] = left (r.voter == r.voter) false (number_self r.voter)
-last_reported r (one ∷ reports) = right (one.voter == r.voter) (is_reported (reports ++ r ∷ []) r.voter) (last_reported r reports)
+last_reported r [] = or_left (r.voter == r.voter) false (number_self r.voter)
+last_reported r (one ∷ reports) = or_right (one.voter == r.voter) (is_reported (reports ++ r ∷ []) r.voter) (last_reported r reports)
 
 -- a voter that reported keeps its report
 old_report : (r : Report) (v : ℕ) (reports : List Report) → is_reported reports v ≡ true → report_of (reports ++ r ∷ []) v ≡ report_of reports v
@@ -159,8 +144,8 @@ new_report r (one ∷ reports) h = go (one.voter == r.voter) h (new_report r rep
 
 pub among_reported : (r : Report) (reports : List Report) → Among r reports → is_reported reports r.voter ≡ true
 among_reported r [] i = absurd i
-among_reported r (one ∷ reports) (inl e) = left (one.voter == r.voter) (is_reported reports r.voter) (ap (λ (x : Report). x.voter == r.voter) e ∙ number_self r.voter)
-among_reported r (one ∷ reports) (inr i) = right (one.voter == r.voter) (is_reported reports r.voter) (among_reported r reports i)
+among_reported r (one ∷ reports) (inl e) = or_left (one.voter == r.voter) (is_reported reports r.voter) (ap (λ (x : Report). x.voter == r.voter) e ∙ number_self r.voter)
+among_reported r (one ∷ reports) (inr i) = or_right (one.voter == r.voter) (is_reported reports r.voter) (among_reported r reports i)
 
 pub among_push : (r one : Report) (reports : List Report) → Among one (reports ++ r ∷ []) → Among one reports ⊎ (r ≡ one)
 among_push r one [] (inl e) = inr e

@@ -1,5 +1,6 @@
 -- What becomes of a step or a start is what may become of it.
-use Rattle.std.proofs.Common.{◌≡◌, ℕ, ◌&&◌, ◌||◌, cond, not, Bool, true, false, Option, Some, None, refl, ap, ◌∙◌}
+use Rattle.std.proofs.Common.{◌≡◌, ℕ, ◌&&◌, cond, not, Bool, true, false, Option, Some, None, refl, ap, ◌∙◌}
+use Rattle.std.proofs.lemmas.Bool.{or_right}
 use Rattle.mega_tape_laws.specs.of_promises.Runs.{AsItWas, Calls, CutByData, CutByLog, Fate, Fuse, MayBecome, Standing, Whole, fate_of, is_burning, may_become}
 
 first_true : (a b : Bool) → (a && b) ≡ true → a ≡ true
@@ -10,15 +11,11 @@ second_true : (a b : Bool) → (a && b) ≡ true → b ≡ true
 second_true true b h = h
 second_true false b h = cc
 
-either_true : (a b : Bool) → b ≡ true → (a || b) ≡ true
-either_true true b h = refl
-either_true false b h = h
-
 -- where nothing else may be, it is whole, or is cut at its append
 else_may : (calls : Calls) (log rows : Option Fuse) (t : Bool) → (calls.appends && is_burning log) ≡ t → may_become calls log rows (cond t (CutByLog AsItWas) Whole) ≡ true
 else_may calls log rows false e = ap not e
 else_may calls None rows true e = absurd (let none = second_true calls.appends false e in cc)
-else_may calls (Some fuse) rows true e = either_true calls.compacts calls.appends (first_true calls.appends (is_burning (Some fuse)) e)
+else_may calls (Some fuse) rows true e = or_right calls.compacts calls.appends (first_true calls.appends (is_burning (Some fuse)) e)
 
 pub fate_may : (now : Standing) (me : ℕ) (calls : Calls) (cut : Fate) → MayBecome now me calls (fate_of now me calls cut)
 fate_may now me calls cut = by (may_become calls (now.log_fuse me) (now.data_fuse me) cut) refl

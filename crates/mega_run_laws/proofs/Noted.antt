@@ -1,6 +1,7 @@
 -- What a node notes comes onto the tape, and leaves what was made and moved as it was.
 use Rattle.std.proofs.Common.{◌≡◌, inl, inr, ℕ, ◌+◌, ◌==◌, ◌&&◌, Bool, true, false, not, cond, List, [], ◌∷◌, ◌++◌, flat_map, Option, Some, None, refl, sym, ap, ◌∙◌, subst, arith}
 use Rattle.std.specs.List.{cons_option}
+use Rattle.std.proofs.lemmas.Bool.{and_parts}
 use Rattle.mega_base.specs.declared.names.GroupId.{GroupId}
 use Rattle.mega_base.specs.declared.names.OpId.{OpId}
 use Rattle.mega_cluster.specs.declared.cluster.Cluster.{Cluster}
@@ -154,16 +155,12 @@ one_plain c me nodes tape met one item may no_move no_act no_ask poll write no_b
     let on = tape_with c nodes tape item may no_move no_act no_ask poll write in
     record { tape = on; begun = with_begun c nodes tape item no_begin; met_on = record { made = made; start = start; begun = begun; grew = prefix_more one met }; known = λ k. known_same me met (one ∷ met) tape (with_item c nodes tape item) on.stood same k }
 
-both : (a b : Bool) → (a && b) ≡ true → (a ≡ true) × (b ≡ true)
-both true b h = (refl, h)
-both false b h = cc
-
 known_decides : (c : Cluster) (me : ℕ) (nodes : ℕ → Node) (tape : List Item) (met : List Met) (g : GroupId) (n : ℕ) (e : Content) → Known me met tape → Stood tape (with_item c nodes tape (Decide (number me) g (record { 0 = n }) e))
     → Known me (Decides g n e ∷ met) (with_item c nodes tape (Decide (number me) g (record { 0 = n }) e))
 known_decides c me nodes tape met g n e k s h m d is = go (same_group g h && n == m) refl (decided met h m) refl is
   where
     here : (same_group g h && n == m) ≡ true → e ≡ d → Stands (Decide (number me) h (record { 0 = m }) d) (with_item c nodes tape (Decide (number me) g (record { 0 = n }) e))
-    here t same = let parts = both (same_group g h) (n == m) t in
+    here t same = let parts = and_parts (same_group g h) (n == m) t in
         coe 0 1 (i. Stands (Decide (number me) (same_group_equal g h parts.0 i) (record { 0 = number_is n m parts.1 i }) (same i)) (with_item c nodes tape (Decide (number me) g (record { 0 = n }) e)))
         (stands_with tape (Decide (number me) g (record { 0 = n }) e) (breaks c nodes (Decide (number me) g (record { 0 = n }) e) && not (is_unsafe tape)))
 

@@ -1,5 +1,6 @@
 -- An open operation is justified: its round, and that it moved nowhere else above what its node decided.
 use Rattle.std.proofs.Common.{◌≡◌, ◌⊎◌, inl, inr, ℕ, ◌+◌, ◌==◌, ◌&&◌, ◌≤◌, ◌<◌, Bool, true, false, List, [], ◌∷◌, Option, Some, None, refl, sym, ap, ◌∙◌, subst, arith}
+use Rattle.std.proofs.lemmas.Bool.{and_parts}
 use Rattle.mega_base.specs.declared.names.GroupId.{GroupId}
 use Rattle.mega_base.specs.declared.names.OpId.{OpId}
 use Rattle.mega_cluster.specs.declared.cluster.Cluster.{Cluster}
@@ -175,14 +176,10 @@ acts_free c tape met op phase ms free backed idle = record {
     beside : (n : ℕ) → Beside op tape (sent n ms tape)
     beside n = record { stood = stood_sent n ms tape; moved = λ q. free_moves op q n ms tape free }
 
-both : (a b : Bool) → (a && b) ≡ true → (a ≡ true) × (b ≡ true)
-both true b h = (refl, h)
-both false b h = cc
-
 same_place : (op : OpId) (p q : Place) → is_move_at op q op p.group p.position ≡ true → p ≡ q
 same_place op p q h =
-    let outer = both (same_op op op && same_group p.group q.group) (p.position.0 == q.position.0) h in
-    let inner = both (same_op op op) (same_group p.group q.group) outer.0 in
+    let outer = and_parts (same_op op op && same_group p.group q.group) (p.position.0 == q.position.0) h in
+    let inner = and_parts (same_op op op) (same_group p.group q.group) outer.0 in
     λ i. record { group = same_group_equal p.group q.group inner.1 i; position = record { 0 = number_is p.position.0 q.position.0 outer.1 i } }
 
 -- a round goes on, or begins where the operation had none

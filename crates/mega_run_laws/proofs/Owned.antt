@@ -135,7 +135,7 @@ owned_on schema usage old new o s h = record { began = began_on usage old new o.
 
 -- ---- the entries below
 
-entry_at : (met : List Met) (group : GroupId) (most n k : ℕ) (e : Content) → slice_get (decided_from met group most n) k ≡ Some e → decided met group (n + k) ≡ Some e
+pub entry_at : (met : List Met) (group : GroupId) (most n k : ℕ) (e : Content) → slice_get (decided_from met group most n) k ≡ Some e → decided met group (n + k) ≡ Some e
 entry_at met group zero n k e h = cc
 entry_at met group (suc most) n k e h = go (decided met group n) refl k (λ j is. entry_at met group most (n + 1) j e is) h
   where

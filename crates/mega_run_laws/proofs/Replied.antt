@@ -1,5 +1,6 @@
 -- The reply to a request that was taken is one that the rules of lawful tapes allow.
 use Rattle.std.proofs.Common.{◌≡◌, ℕ, ◌==◌, ◌&&◌, Bool, true, false, cond, List, Option, Some, None, refl, sym, ap, subst}
+use Rattle.std.proofs.lemmas.Bool.{and_parts}
 use Rattle.mega_base.specs.declared.names.OpId.{OpId}
 use Rattle.mega_ballot.specs.declared.ballot.Ballot.{Ballot}
 use Rattle.mega_ballot.specs.Order.{zero_ballot}
@@ -36,10 +37,6 @@ use Rattle.mega_run_laws.specs.Shows.{Shows}
 abbrev pub Fair : Cluster → List Item → Message → Body → Type 0
 Fair c tape m body = (MaySend c tape m body × MayMake tape m body) × ((x : OpId) (q : Place) → move_in x q body ≡ None)
 
-both : (a b : Bool) → (a && b) ≡ true → (a ≡ true) × (b ≡ true)
-both true b h = (refl, h)
-both false b h = cc
-
 -- an entry beside another is refused at ballot zero alone
 beside_zero : (t same : Bool) (greater : Ballot) (o : AcceptAnswer) (other : Content) → cond t (vote.Shown greater) (cond same o vote.Yes) ≡ vote.Other other → same ≡ true
 beside_zero true same greater o other h = cc
@@ -47,7 +44,7 @@ beside_zero false true greater o other h = refl
 beside_zero false false greater o other h = cc
 
 ballot_is : (a b : Ballot) → is_same_ballot a b ≡ true → a ≡ b
-ballot_is a b h = let parts = both (a.round == b.round) (same_op a.op b.op) h in λ i. record { round = number_is a.round b.round parts.0 i; op = same_op_equal a.op b.op parts.1 i }
+ballot_is a b h = let parts = and_parts (a.round == b.round) (same_op a.op b.op) h in λ i. record { round = number_is a.round b.round parts.0 i; op = same_op_equal a.op b.op parts.1 i }
 
 accept_fair : (c : Cluster) (tape : List Item) (me from : ℕ) (op : OpId) (p : Place) (b : Ballot) (e : Content) → Took tape (message from me (Accept op p.group p.position b e))
     → (a : AcceptAnswer) → accept_answer (acts_on tape me p) b e ≡ a → Fair c tape (message me from (vote_body op p.group p.position b e a)) (vote_body op p.group p.position b e a)

@@ -1,6 +1,7 @@
 -- A round that is justified does only what is allowed, whatever it takes and whenever it is due, and stays justified.
 use Rattle.std.proofs.Common.{◌≡◌, ℕ, ◌+◌, ◌==◌, ◌&&◌, ◌≤◌, max, Bool, true, false, not, cond, nat_le, List, [], ◌∷◌, ◌++◌, length, map, flat_map, Option, Some, refl, sym, subst, arith}
 use Rattle.std.specs.List.{list_all}
+use Rattle.std.proofs.lemmas.Bool.{and_parts, not-true}
 use Rattle.mega_base.specs.declared.names.GroupId.{GroupId}
 use Rattle.mega_base.specs.declared.names.OpId.{OpId}
 use Rattle.mega_base.specs.declared.names.Position.{Position}
@@ -32,16 +33,8 @@ use Rattle.mega_run_laws.proofs.Counted.{carried, chosen_by, majority_is, none_a
 use Rattle.mega_run_laws.proofs.Sending.{above_within, accept_moves, accepts_lawful, accepts_within, all_of, prepares_latest, prepares_lawful, prepares_within, spreads_lawful, within_more}
 use Rattle.mega_run_laws.proofs.Free.{AreFree, IsFree, each_both, each_flat, each_of, goes_free, goes_still}
 
-both : (a b : Bool) → (a && b) ≡ true → (a ≡ true) × (b ≡ true)
-both true b h = (refl, h)
-both false b h = cc
-
-negated : (t : Bool) → not t ≡ true → t ≡ false
-negated true h = cc
-negated false h = refl
-
 pub ballot_is : (a b : Ballot) → same_ballot a b ≡ true → a ≡ b
-ballot_is a b h = let parts = both (a.round == b.round) (same_op a.op b.op) h in λ i. record { round = number_is a.round b.round parts.0 i; op = same_op_equal a.op b.op parts.1 i }
+ballot_is a b h = let parts = and_parts (a.round == b.round) (same_op a.op b.op) h in λ i. record { round = number_is a.round b.round parts.0 i; op = same_op_equal a.op b.op parts.1 i }
 
 le_max : (a b : ℕ) → a ≤ max a b
 le_max a b = omega arith
@@ -53,8 +46,8 @@ newest_within seen (first ∷ ms) move h w = subst (λ m. round_of m ≤ seen) (
 pub here_is : (c : Cluster) (op : OpId) (p : Place) (asked : List ℕ) (o : OpId) (g : GroupId) (n : Position) → is_here (here c op p asked) o g n ≡ true
     → (o ≡ op) × (◌≡◌ {A = Place} (record { group = g; position = n }) p)
 here_is c op p asked o g n h =
-    let outer = both (same_op op o && same_group p.group g) (n.0 == p.position.0) h in
-    let inner = both (same_op op o) (same_group p.group g) outer.0 in
+    let outer = and_parts (same_op op o && same_group p.group g) (n.0 == p.position.0) h in
+    let inner = and_parts (same_op op o) (same_group p.group g) outer.0 in
     (sym (same_op_equal op o inner.0), (λ i. record { group = sym (same_group_equal p.group g inner.1) i; position = record { 0 = number_is n.0 p.position.0 outer.1 i } }))
 
 -- ---- a new ballot
@@ -144,8 +137,8 @@ accepted_goes c tape op p asked mine seen from now b e heard (Asking leader at) 
       sends = map (accept_to (here c op p asked) zero_ballot mine) (others leader (voters c));
     }) (stays (record { own = mine; seen = seen; round = Asking leader at })))
     go true h =
-        let outer = both (from == leader) (is_sent zero_ballot mine b e) h in
-        let inner = both (same_ballot zero_ballot b) (same_entry mine e) outer.1 in
+        let outer = and_parts (from == leader) (is_sent zero_ballot mine b e) h in
+        let inner = and_parts (same_ballot zero_ballot b) (same_entry mine e) outer.1 in
         spread (number_is from leader outer.0) (ballot_is zero_ballot b inner.0) (same_entry_equal mine e inner.1)
     go false h = goes_still c tape op p (record { own = mine; seen = seen; round = Asking leader at }) w k l
 accepted_goes c tape op p asked mine seen from now b e heard (Accepting ballot entry voted at) w k l = go (is_sent ballot entry b e && has from (voters c)) refl
@@ -155,8 +148,8 @@ accepted_goes c tape op p asked mine seen from now b e heard (Accepting ballot e
       sends = [];
     }) (stays (record { own = mine; seen = seen; round = Accepting ballot entry voted at })))
     go true h =
-        let outer = both (is_sent ballot entry b e) (has from (voters c)) h in
-        let inner = both (same_ballot ballot b) (same_entry entry e) outer.0 in
+        let outer = and_parts (is_sent ballot entry b e) (has from (voters c)) h in
+        let inner = and_parts (same_ballot ballot b) (same_entry entry e) outer.0 in
         let by_voter = coe 0 1 (i. Heard tape from op (Accepted op p.group p.position (sym (ballot_is ballot b inner.0) i) (sym (same_entry_equal entry e inner.1) i))) heard in
         goes_still c tape op p (record { own = mine; seen = seen; round = accepts (here c op p asked) ballot entry (with_node from voted) at }) w
         (accepts_knows c tape op p asked ballot entry (with_node from voted) at (with_one c tape op p ballot entry from voted k by_voter outer.1))
@@ -234,11 +227,11 @@ promised_goes c tape op p asked mine seen from now b vote heard (Preparing ballo
         (proposes (here c op p asked) (record { own = mine; seen = seen; round = Preparing ballot reports at }) ballot (reports ++ report ∷ []) at now)
         (stays (record { own = mine; seen = seen; round = Preparing ballot reports at })))
     go true h =
-        let outer = both (same_ballot ballot b && has from (voters c)) (not (is_reported reports from)) h in
-        let inner = both (same_ballot ballot b) (has from (voters c)) outer.0 in
+        let outer = and_parts (same_ballot ballot b && has from (voters c)) (not (is_reported reports from)) h in
+        let inner = and_parts (same_ballot ballot b) (has from (voters c)) outer.0 in
         let by_voter = subst (λ d. Heard tape from op (Promise op p.group p.position d vote)) (sym (ballot_is ballot b inner.0)) heard in
         proposes_goes c tape op p asked (record { own = mine; seen = seen; round = Preparing ballot reports at }) ballot (reports ++ report ∷ []) at now w k.0 (l from inner.1)
-        (one_report c tape op p ballot report reports k.1 by_voter inner.1 (negated (is_reported reports from) outer.1))
+        (one_report c tape op p ballot report reports k.1 by_voter inner.1 (not-true (is_reported reports from) outer.1))
     go false h = goes_still c tape op p (record { own = mine; seen = seen; round = Preparing ballot reports at }) w k l
 promised_goes c tape op p asked mine seen from now b vote heard (Asking leader at) w k l = goes_still c tape op p (record { own = mine; seen = seen; round = Asking leader at }) w k l
 promised_goes c tape op p asked mine seen from now b vote heard (Accepting ballot entry voted at) w k l = goes_still c tape op p (record { own = mine; seen = seen; round = Accepting ballot entry voted at }) w k l

@@ -43,6 +43,7 @@ use Rattle.mega_run_laws.proofs.Replied.{Fair, answer_fair}
 use Rattle.mega_run_laws.specs.Shows.{Shows}
 use Rattle.mega_run_laws.proofs.Turns.{Known}
 use Rattle.std.specs.List.{cons_option}
+use Rattle.std.proofs.lemmas.Bool.{and_parts, not-false}
 use Rattle.mega_tape_laws.specs.of_rules.Replies.{answer_to, reply_message, reply_to}
 use Rattle.mega_wire.specs.declared.message.Body.{Body}
 use Rattle.mega_tape_laws.specs.of_rules.Voting.{acts as acts_met}
@@ -61,10 +62,10 @@ old_failed users c now me g x node new = g.unfailed x (subst (λ w. IsNew (now.s
 old_asked : (users : Users) → (c : Cluster) (now : Standing) (me : ℕ) → Good users c now → (x : OpId) → x.node.0 ≡ me → IsNew (now.starts me) (now.node me).met x → has_asked now.tape x ≡ false
 old_asked users c now me g x node new = g.unasked x (subst (λ w. IsNew (now.starts w) (now.node w).met x) (sym node) new)
 
-at_self : {X : Type 0} (f : ℕ → X) (me : ℕ) (x : X) → set_at f me x me ≡ x
+pub at_self : {X : Type 0} (f : ℕ → X) (me : ℕ) (x : X) → set_at f me x me ≡ x
 at_self f me x = ap (λ t. cond t x (f me)) (number_self me)
 
-at_other : {X : Type 0} (f : ℕ → X) (me : ℕ) (x : X) (v : ℕ) → (me == v) ≡ false → set_at f me x v ≡ f v
+pub at_other : {X : Type 0} (f : ℕ → X) (me : ℕ) (x : X) (v : ℕ) → (me == v) ≡ false → set_at f me x v ≡ f v
 at_other f me x v h = ap (λ t. cond t x (f v)) h
 
 pub starts_plain : (s : Setting) (met : List Met) → Each IsPlain (start_notes s met)
@@ -423,10 +424,6 @@ marked_good users c now item on same answered failed g = record {
   owed = g.owed;
 }
 
-pub both_true : (a b : Bool) → (a && b) ≡ true → (a ≡ true) × (b ≡ true)
-both_true true b h = (refl, h)
-both_true false b h = cc
-
 pub found : (test : ℕ → Bool) (xs : List ℕ) (j : ℕ) → find test xs ≡ Some j → test j ≡ true
 found test [] j h = cc
 found test (x ∷ xs) j h = go (test x) refl h (found test xs j)
@@ -437,7 +434,7 @@ found test (x ∷ xs) j h = go (test x) refl h (found test xs j)
 
 deliverable_good : (users : Users) → (c : Cluster) (h : Meanings) → (users.fits → Brought users.usage h) → (cuts : Cuts) (now : Standing) (j : ℕ) → next_delivery (up now) now.tape ≡ Some j → Good users c now → Good users c (delivered c h cuts now j)
 deliverable_good users c h brought cuts now j e g = handed_good users c h brought cuts now j (message_of now.tape j) refl
-    (both_true (not (is_taken now.tape j) && not (is_dropped now.tape j)) (receiver_up (up now) (message_of now.tape j)) (found (is_deliverable (up now) now.tape) _ j e)).1 g
+    (and_parts (not (is_taken now.tape j) && not (is_dropped now.tape j)) (receiver_up (up now) (message_of now.tape j)) (found (is_deliverable (up now) now.tape) _ j e)).1 g
 
 drained_good : (users : Users) → (c : Cluster) (h : Meanings) → (users.fits → Brought users.usage h) → (cuts : Cuts) (most : ℕ) (now : Standing) → Good users c now → Good users c (drained c h cuts now most)
 drained_good users c h brought cuts zero now g = go (next_delivery (up now) now.tape)
@@ -456,18 +453,14 @@ pub not_because : (t : Bool) (why : ℕ) (other : Option ℕ) → because t why 
 not_because true why other h = cc
 not_because false why other h = (refl, h)
 
-pub not_false : (t : Bool) → not t ≡ false → t ≡ true
-not_false true h = refl
-not_false false h = cc
-
 delivered_good : (users : Users) → (c : Cluster) (h : Meanings) → (users.fits → Brought users.usage h) → (cuts : Cuts) (now : Standing) (j : ℕ) (o : Option Message) → message_of now.tape j ≡ o → receiver_down now o ≡ false → Good users c now → Good users c (handed c h cuts now j o)
 delivered_good users c h brought cuts now j None is r g = g
-delivered_good users c h brought cuts now j (Some m) is r g = handed_good users c h brought cuts now j (Some m) is (not_false (up now m.to) r) g
+delivered_good users c h brought cuts now j (Some m) is r g = handed_good users c h brought cuts now j (Some m) is (not-false (up now m.to) r) g
 
 event_good : (users : Users) → (c : Cluster) (h : Meanings) → (users.fits → Brought users.usage h) → (cuts : Cuts) (now : Standing) (event : WorldEvent) → (users.fits → IsMeant users.usage event) → refusal c now event ≡ None → Good users c now → Good users c (after_event c h cuts now event)
 event_good users c h brought cuts now (TickEvent node clock) meant r g =
     let second = (not_because (not (is_node c node.0)) 6 _ r).1 in let third = (not_because (not (up now node.0)) 1 _ second).0 in
-    tick_good users c h brought now node.0 clock (cuts now node.0) (not_false (up now node.0) third) g
+    tick_good users c h brought now node.0 clock (cuts now node.0) (not-false (up now node.0) third) g
 event_good users c h brought cuts now (Deliver j) meant r g =
     let second = (not_because (not (is_sent now.tape j)) 3 _ r).1 in let third = (not_because (is_dropped now.tape j) 4 _ second).1 in
     delivered_good users c h brought cuts now j (message_of now.tape j) refl (not_because (receiver_down now (message_of now.tape j)) 1 None third).0 g
@@ -479,7 +472,7 @@ event_good users c h brought cuts now (FuseEvent node calls image Log) meant r g
 event_good users c h brought cuts now (FuseEvent node calls image Data) meant r g = record { lawful = g.lawful; node = g.node; starts = g.starts; polls = g.polls; written = g.written; unbegun = g.unbegun; answered = g.answered; unfailed = g.unfailed; fresh = g.fresh; unasked = g.unasked; worn = g.worn; owes = g.owes; owed = g.owed }
 event_good users c h brought cuts now (BeginEvent node request text) meant r g =
     let second = (not_because (not (is_node c node.0)) 6 _ r).1 in let third = (not_because (not (up now node.0)) 1 _ second).0 in
-    begin_good users c h brought now node.0 request text (cuts now node.0) meant (not_false (up now node.0) third) g
+    begin_good users c h brought now node.0 request text (cuts now node.0) meant (not-false (up now node.0) third) g
 
 run_good : (users : Users) → (c : Cluster) (cuts : Cuts) (events : List Happening) (now : Standing) → (users.fits → Fits users.usage events) → Good users c now → Good users c (goes_on c cuts now events)
 run_good users c cuts [] now fits g = g
@@ -575,7 +568,7 @@ module _ (c : Cluster) (Q : Standing → Type 0) (k : Keeps c Q) where
 
   deliverable_kept : (h : Meanings) (cuts : Cuts) (now : Standing) (j : ℕ) → next_delivery (up now) now.tape ≡ Some j → Good nobody c now → Q now → Q (delivered c h cuts now j)
   deliverable_kept h cuts now j e g q = handed_kept h cuts now j (message_of now.tape j) refl
-      (both_true (not (is_taken now.tape j) && not (is_dropped now.tape j)) (receiver_up (up now) (message_of now.tape j)) (found (is_deliverable (up now) now.tape) _ j e)).1 g q
+      (and_parts (not (is_taken now.tape j) && not (is_dropped now.tape j)) (receiver_up (up now) (message_of now.tape j)) (found (is_deliverable (up now) now.tape) _ j e)).1 g q
 
   drained_kept : (h : Meanings) (cuts : Cuts) (most : ℕ) (now : Standing) → Good nobody c now → Q now → Q (drained c h cuts now most)
   drained_kept h cuts zero now g q = go (next_delivery (up now) now.tape)
@@ -593,12 +586,12 @@ module _ (c : Cluster) (Q : Standing → Type 0) (k : Keeps c Q) where
 
   down_kept : (h : Meanings) (cuts : Cuts) (now : Standing) (j : ℕ) (o : Option Message) → message_of now.tape j ≡ o → receiver_down now o ≡ false → Good nobody c now → Q now → Q (handed c h cuts now j o)
   down_kept h cuts now j None is r g q = q
-  down_kept h cuts now j (Some m) is r g q = handed_kept h cuts now j (Some m) is (not_false (up now m.to) r) g q
+  down_kept h cuts now j (Some m) is r g q = handed_kept h cuts now j (Some m) is (not-false (up now m.to) r) g q
 
   event_kept : (h : Meanings) (cuts : Cuts) (now : Standing) (event : WorldEvent) → refusal c now event ≡ None → Good nobody c now → Q now → Q (after_event c h cuts now event)
   event_kept h cuts now (TickEvent node clock) r g q =
       let second = (not_because (not (is_node c node.0)) 6 _ r).1 in let third = (not_because (not (up now node.0)) 1 _ second).0 in
-      (k.ticks) h now node.0 clock (cuts now node.0) g (not_false (up now node.0) third) q
+      (k.ticks) h now node.0 clock (cuts now node.0) g (not-false (up now node.0) third) q
   event_kept h cuts now (Deliver j) r g q =
       let second = (not_because (not (is_sent now.tape j)) 3 _ r).1 in let third = (not_because (is_dropped now.tape j) 4 _ second).1 in
       down_kept h cuts now j (message_of now.tape j) refl (not_because (receiver_down now (message_of now.tape j)) 1 None third).0 g q
@@ -610,7 +603,7 @@ module _ (c : Cluster) (Q : Standing → Type 0) (k : Keeps c Q) where
   event_kept h cuts now (FuseEvent node calls image Data) r g q = (k.fuses) now now.log_fuse (set_at now.data_fuse node.0 (new_fuse calls image)) q
   event_kept h cuts now (BeginEvent node request text) r g q =
       let second = (not_because (not (is_node c node.0)) 6 _ r).1 in let third = (not_because (not (up now node.0)) 1 _ second).0 in
-      (k.begins) h now node.0 request text (cuts now node.0) g (not_false (up now node.0) third) q
+      (k.begins) h now node.0 request text (cuts now node.0) g (not-false (up now node.0) third) q
 
   all_kept : (cuts : Cuts) (events : List Happening) (now : Standing) → Good nobody c now → Q now → Q (goes_on c cuts now events)
   all_kept cuts [] now g q = q

@@ -1,6 +1,7 @@
 -- What the messages of one round leave as it was, and what they add.
 use Rattle.std.proofs.Common.{◌≡◌, inr, ℕ, ◌+◌, ◌==◌, ◌&&◌, ◌≤◌, Bool, true, false, cond, List, [], ◌∷◌, ◌++◌, map, Option, Some, None, refl, sym, ap, ◌∙◌, subst, arith}
 use Rattle.std.specs.List.{cons_option}
+use Rattle.std.proofs.lemmas.Bool.{and_from}
 use Rattle.mega_base.specs.declared.names.GroupId.{GroupId}
 use Rattle.mega_base.specs.declared.names.OpId.{OpId}
 use Rattle.mega_ballot.specs.declared.ballot.Ballot.{Ballot}
@@ -39,12 +40,8 @@ pub leads_on : (c : Cluster) (old new : List Item) → Stood old new → (node :
 leads_on c old new s node p leader (lowest first is) = lowest first is
 leads_on c old new s node p leader (named below entry above next stands is) = named below entry above next (s _ stands) is
 
-joined : (a b : Bool) → a ≡ true → b ≡ true → (a && b) ≡ true
-joined true b h k = k
-joined false b h k = cc
-
 pub moves_here : (op : OpId) (p : Place) → is_move_at op p op p.group p.position ≡ true
-moves_here op p = joined (same_op op op && same_group p.group p.group) (p.position.0 == p.position.0) (joined (same_op op op) (same_group p.group p.group) (same_op_self op) (same_group_self p.group)) (number_self p.position.0)
+moves_here op p = and_from (same_op op op && same_group p.group p.group) (p.position.0 == p.position.0) (and_from (same_op op op) (same_group p.group p.group) (same_op_self op) (same_group_self p.group)) (number_self p.position.0)
 
 pub accept_moves : (c : Cluster) (op : OpId) (p : Place) (asked : List ℕ) (b : Ballot) (e : Content) (n to : ℕ) (tape : List Item)
     → moves (Sent n (accept_to (here c op p asked) b e to) ∷ tape) op p ≡ Proposes b e ∷ moves tape op p

@@ -1,6 +1,7 @@
 -- A step leads from a good standing to a good one.
 use Rattle.std.proofs.Common.{◌≡◌, ◌⊎◌, inl, inr, ℕ, ◌+◌, ◌==◌, ◌&&◌, ◌≤◌, ◌<◌, nat_lt, Bool, true, false, cond, List, [], ◌∷◌, map, flat_map, Option, refl, sym, ap, ◌∙◌, subst, arith}
 use Rattle.std.proofs.lemmas.Bool.Decides.{nat_tests}
+use Rattle.std.proofs.lemmas.Bool.{and_left}
 use Rattle.mega_base.specs.declared.names.GroupId.{GroupId}
 use Rattle.mega_base.specs.declared.names.OpId.{OpId}
 use Rattle.mega_cluster.specs.declared.cluster.Cluster.{Cluster}
@@ -139,10 +140,6 @@ pub record SendsOn (users : Users) (c : Cluster) (me st l : ℕ) (early tape : L
   pub held : Each (Held users c (sent k sends tape) me st l (onto (map Sends sends) met)) kept
   pub rising : IsRising 0 kept
 
-apart : (a b : Bool) → a ≡ false → (a && b) ≡ false
-apart true b h = cc
-apart false b h = refl
-
 elsewhere_within : (me st l : ℕ) (x : OpId) → (me == x.node.0) ≡ false → within me st l x ≡ false
 elsewhere_within me st l x h = go (x.node.0 == me) refl
   where
@@ -151,7 +148,7 @@ elsewhere_within me st l x h = go (x.node.0 == me) refl
     go false e = refl
 
 elsewhere : (me st l : ℕ) (x : OpId) → (me == x.node.0) ≡ false → could me st l x ≡ false
-elsewhere me st l x h = apart (within me st l x) (nat_lt x.number last_number) (elsewhere_within me st l x h)
+elsewhere me st l x h = and_left (within me st l x) (nat_lt x.number last_number) (elsewhere_within me st l x h)
 
 not_started_within : (me st l : ℕ) (x : OpId) → st < x.start → within me st l x ≡ false
 not_started_within me st l x less = go (x.start == st) refl (x.node.0 == me)
@@ -162,7 +159,7 @@ not_started_within me st l x less = go (x.start == st) refl (x.node.0 == me)
     go false e false = refl
 
 not_started : (me st l : ℕ) (x : OpId) → st < x.start → could me st l x ≡ false
-not_started me st l x less = apart (within me st l x) (nat_lt x.number last_number) (not_started_within me st l x less)
+not_started me st l x less = and_left (within me st l x) (nat_lt x.number last_number) (not_started_within me st l x less)
 
 pub step_next : (users : Users) → (c : Cluster) (now : Standing) (me : ℕ) (nodes : ℕ → Node) (item : Item) (own : Met) (notes : List Met) (k : ℕ) (sends : List Message) (kept : List Operation) (stored : GroupId → ℕ) (tape : List Item)
     → Good users c now → is_up (now.node me).met ≡ true → Own c now.tape item (now.node me).met own → Each (Note c (item ∷ now.tape) me) notes

@@ -51,7 +51,7 @@ use Rattle.mega_run_laws.proofs.Whole.{StepNext, held_first, none_before, up_ont
 pub own_begin : (c : Cluster) (tape : List Item) (id : OpId) (text : List ℕ) (met : List Met) → has_asked tape id ≡ false → (IsNamed id → has_begun tape id ≡ false) → Own c tape (Begin id text) met (Begins id text)
 own_begin c tape id text met unasked unbegun = record { on = tape_item c tape (Begin id text) tt (λ x q. refl) (λ v q. refl) (λ x. refl) unasked (λ schema usage. unbegun); begins = λ x other. ap (λ t. t || has_begun tape x) other; answered = λ schema usage. tt; failed = λ x. refl; made = λ g n. refl; decides = λ g n. refl; start = refl; begun = omega arith; up = refl }
 
-not_worn : (t : Bool) (o : Option Answer) → cond t (Some Worn) o ≡ None → t ≡ false
+pub not_worn : (t : Bool) (o : Option Answer) → cond t (Some Worn) o ≡ None → t ≡ false
 not_worn true o h = cc
 not_worn false o h = refl
 

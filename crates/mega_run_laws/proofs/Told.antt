@@ -1,5 +1,6 @@
 -- What a node answers to one that polls: no position below those that it accepted.
 use Rattle.std.proofs.Common.{◌≡◌, ◌⊎◌, inl, inr, ℕ, ◌==◌, ◌&&◌, ◌≤◌, max, Bool, true, false, cond, List, [], ◌∷◌, Some, refl, sym, subst, arith}
+use Rattle.std.proofs.lemmas.Bool.{and_parts}
 use Rattle.mega_base.specs.declared.names.GroupId.{GroupId}
 use Rattle.mega_base.specs.declared.names.OpId.{OpId}
 use Rattle.mega_ballot.specs.declared.ballot.Ballot.{Ballot}
@@ -28,19 +29,15 @@ use Rattle.mega_run_laws.proofs.Owned.{NoAccept}
 
 -- ---- the greatest position that a node accepted
 
-both : (a b : Bool) → (a && b) ≡ true → (a ≡ true) × (b ≡ true)
-both true b h = (refl, h)
-both false b h = cc
-
 at_least : (t : Bool) (n m : ℕ) → t ≡ true → n ≤ m → n ≤ cond t m 0
 at_least true n m h le = le
 at_least false n m h le = cc
 
-act_voted : (g : GroupId) (n : ℕ) (body : Body) (b : Ballot) (e : Content) → act_in g n body ≡ Some (Voted b e) → n ≤ accepted_at g body
+pub act_voted : (g : GroupId) (n : ℕ) (body : Body) (b : Ballot) (e : Content) → act_in g n body ≡ Some (Voted b e) → n ≤ accepted_at g body
 act_voted g n (Accepted op h p ballot entry) b e is = go (same_group h g && p.0 == n) refl is
   where
     go : (t : Bool) → (same_group h g && p.0 == n) ≡ t → act_if t (Voted ballot entry) ≡ Some (Voted b e) → n ≤ cond (same_group h g) p.0 0
-    go true k is = let parts = both (same_group h g) (p.0 == n) k in let same = number_is p.0 n parts.1 in at_least (same_group h g) n p.0 parts.0 (omega (arith, same))
+    go true k is = let parts = and_parts (same_group h g) (p.0 == n) k in let same = number_is p.0 n parts.1 in at_least (same_group h g) n p.0 parts.0 (omega (arith, same))
     go false k is = cc
 act_voted g n (Promise op h p ballot report) b e is = go (same_group h g && p.0 == n) is
   where

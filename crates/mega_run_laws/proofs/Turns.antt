@@ -2,6 +2,7 @@
 use Rattle.std.proofs.Common.{◌≡◌, ℕ, ◌+◌, ◌==◌, ◌&&◌, ◌||◌, ◌≤◌, ◌<◌, nat_lt, Bool, true, false, cond, List, [], ◌∷◌, ◌++◌, length, Option, Some, None, refl, sym, ap, ◌∙◌, subst, arith}
 use Rattle.std.proofs.lemmas.Bool.Decides.{nat_tests}
 use Rattle.std.specs.List.{cons_option}
+use Rattle.std.proofs.lemmas.Bool.{and_from, and_parts, false_from_ne_true}
 use Rattle.mega_base.specs.declared.names.GroupId.{GroupId}
 use Rattle.mega_base.specs.declared.names.OpId.{OpId}
 use Rattle.mega_base.specs.declared.names.Position.{Position}
@@ -134,18 +135,6 @@ within me st k x = x.node.0 == me && x.start == st && nat_lt x.number k
 abbrev pub could : ℕ → ℕ → ℕ → OpId → Bool
 could me st k x = within me st k x && nat_lt x.number last_number
 
-and_true : (a b : Bool) → a ≡ true → b ≡ true → (a && b) ≡ true
-and_true true b h k = k
-and_true false b h k = cc
-
-both : (a b : Bool) → (a && b) ≡ true → (a ≡ true) × (b ≡ true)
-both true b h = (refl, h)
-both false b h = cc
-
-not_true : (t : Bool) → (t ≡ true → ⊥) → t ≡ false
-not_true true h = absurd (h refl)
-not_true false h = refl
-
 clash : (t : Bool) → t ≡ true → t ≡ false → ⊥
 clash t h k = cc
 
@@ -160,40 +149,40 @@ is_less a b h = grind (arith, nat_tests)
 
 pub within_be : (me st k : ℕ) (x : OpId) → x.node.0 ≡ me → x.start ≡ st → x.number < k → within me st k x ≡ true
 within_be me st k x node start below =
-    and_true (x.node.0 == me && x.start == st) (nat_lt x.number k) (and_true (x.node.0 == me) (x.start == st) (number_self x.node.0 me node) (number_self x.start st start)) (less_is x.number k below)
+    and_from (x.node.0 == me && x.start == st) (nat_lt x.number k) (and_from (x.node.0 == me) (x.start == st) (number_self x.node.0 me node) (number_self x.start st start)) (less_is x.number k below)
 
 within_more : (me st k l : ℕ) (x : OpId) → k ≤ l → within me st k x ≡ true → within me st l x ≡ true
 within_more me st k l x le t =
-    let outer = both (x.node.0 == me && x.start == st) (nat_lt x.number k) t in
+    let outer = and_parts (x.node.0 == me && x.start == st) (nat_lt x.number k) t in
     let less = is_less x.number k outer.1 in
-    and_true (x.node.0 == me && x.start == st) (nat_lt x.number l) outer.0 (less_is x.number l (omega (arith, less, le)))
+    and_from (x.node.0 == me && x.start == st) (nat_lt x.number l) outer.0 (less_is x.number l (omega (arith, less, le)))
 
 pub within_less : (me st k l : ℕ) (x : OpId) → k ≤ l → within me st l x ≡ false → within me st k x ≡ false
-within_less me st k l x le h = not_true (within me st k x) (λ t. clash (within me st l x) (within_more me st k l x le t) h)
+within_less me st k l x le h = false_from_ne_true (within me st k x) (λ t. clash (within me st l x) (within_more me st k l x le t) h)
 
 pub could_be : (me st k : ℕ) (x : OpId) → x.node.0 ≡ me → x.start ≡ st → x.number < k → x.number < last_number → could me st k x ≡ true
-could_be me st k x node start below named = and_true (within me st k x) (nat_lt x.number last_number) (within_be me st k x node start below) (less_is x.number last_number named)
+could_be me st k x node start below named = and_from (within me st k x) (nat_lt x.number last_number) (within_be me st k x node start below) (less_is x.number last_number named)
 
 pub could_more : (me st k l : ℕ) (x : OpId) → k ≤ l → could me st l x ≡ false → could me st k x ≡ false
-could_more me st k l x le h = not_true (could me st k x) (λ t.
-    let outer = both (within me st k x) (nat_lt x.number last_number) t in
-    clash (could me st l x) (and_true (within me st l x) (nat_lt x.number last_number) (within_more me st k l x le outer.0) outer.1) h)
+could_more me st k l x le h = false_from_ne_true (could me st k x) (λ t.
+    let outer = and_parts (within me st k x) (nat_lt x.number last_number) t in
+    clash (could me st l x) (and_from (within me st l x) (nat_lt x.number last_number) (within_more me st k l x le outer.0) outer.1) h)
 
 pub worn_could : (me st k : ℕ) (x : OpId) → last_number ≤ x.number → could me st k x ≡ false
-worn_could me st k x le = not_true (could me st k x) (λ t. over x.number last_number (is_less x.number last_number (both (within me st k x) (nat_lt x.number last_number) t).1) le)
+worn_could me st k x le = false_from_ne_true (could me st k x) (λ t. over x.number last_number (is_less x.number last_number (and_parts (within me st k x) (nat_lt x.number last_number) t).1) le)
   where
     over : (a b : ℕ) → a < b → b ≤ a → ⊥
     over a b less at = omega arith
 
 pub other_name : (me st : ℕ) (op x : OpId) → op.node.0 ≡ me → op.start ≡ st → op.number < last_number → could me st (op.number + 1) x ≡ false → same_op op x ≡ false
-other_name me st op x node start named h = not_true (same_op op x) (λ t.
+other_name me st op x node start named h = false_from_ne_true (same_op op x) (λ t.
     clash (could me st (op.number + 1) x) (subst (λ y. could me st (op.number + 1) y ≡ true) (same_op_equal op x t) (could_be me st (op.number + 1) op node start (next_of op.number) named)) h)
   where
     next_of : (n : ℕ) → n < n + 1
     next_of n = omega arith
 
 pub other_number : (op x : OpId) → x.number < op.number → same_op op x ≡ false
-other_number op x less = not_true (same_op op x) (λ t. let same = ap (λ (y : OpId). y.number) (same_op_equal op x t) in omega (arith, less))
+other_number op x less = false_from_ne_true (same_op op x) (λ t. let same = ap (λ (y : OpId). y.number) (same_op_equal op x t) in omega (arith, less))
 
 -- ---- between two operations, and while one acts
 
@@ -262,7 +251,7 @@ answered_more me st k l le (Answers op answer) h = (h.0, ((h.1).0, (let less = (
 answered_more me st k l le _ h = absurd h
 
 less_apart : (op x : OpId) → op.number < x.number → same_op op x ≡ false
-less_apart op x less = not_true (same_op op x) (λ t. let same = ap (λ (y : OpId). y.number) (same_op_equal op x t) in omega (arith, less, same))
+less_apart op x less = false_from_ne_true (same_op op x) (λ t. let same = ap (λ (y : OpId). y.number) (same_op_equal op x t) in omega (arith, less, same))
 
 below_apart : (me st : ℕ) (x : OpId) (one : Met) → AnsweredBelow me st x.number one → IsApart x one
 below_apart me st x (Answers op answer) h = less_apart op x (h.1).1
@@ -270,7 +259,7 @@ below_apart me st x _ h = absurd h
 
 -- who could not have been answered was not
 pub outside_apart : (me st k : ℕ) (x : OpId) → within me st k x ≡ false → (one : Met) → AnsweredBelow me st k one → IsApart x one
-outside_apart me st k x other (Answers op answer) h = not_true (same_op op x) (λ t.
+outside_apart me st k x other (Answers op answer) h = false_from_ne_true (same_op op x) (λ t.
     clash (within me st k x) (subst (λ y. within me st k y ≡ true) (same_op_equal op x t) (within_be me st k op h.0 (h.1).0 (h.1).1)) other)
 outside_apart me st k x other _ h = absurd h
 
@@ -500,14 +489,14 @@ ready_sends users c f met kept answers sends ms o h acts written owned = record 
     after = sent_append f.next sends ms f.base
 
 pub not_within : (me st k : ℕ) (x : OpId) → k ≤ x.number → within me st k x ≡ false
-not_within me st k x le = not_true (within me st k x) (λ t. over x.number k (is_less x.number k (both (x.node.0 == me && x.start == st) (nat_lt x.number k) t).1) le)
+not_within me st k x le = false_from_ne_true (within me st k x) (λ t. over x.number k (is_less x.number k (and_parts (x.node.0 == me && x.start == st) (nat_lt x.number k) t).1) le)
   where
     over : (a b : ℕ) → a < b → b ≤ a → ⊥
     over a b less at = omega arith
 
 pub could_not : (me st k : ℕ) (x : OpId) → k ≤ x.number → could me st k x ≡ false
-could_not me st k x le = not_true (could me st k x) (λ t.
-    let less = is_less x.number k (both (x.node.0 == me && x.start == st) (nat_lt x.number k) (both (within me st k x) (nat_lt x.number last_number) t).0).1 in over x.number k less le)
+could_not me st k x le = false_from_ne_true (could me st k x) (λ t.
+    let less = is_less x.number k (and_parts (x.node.0 == me && x.start == st) (nat_lt x.number k) (and_parts (within me st k x) (nat_lt x.number last_number) t).0).1 in over x.number k less le)
   where
     over : (a b : ℕ) → a < b → b ≤ a → ⊥
     over a b less at = omega arith

@@ -48,7 +48,7 @@ use Rattle.mega_tape_laws.specs.Answers.{AreAnswered}
 
 -- ---- what is noted stands
 
-with_stood_one : (c : Cluster) (nodes' : ℕ → Node) (tape : List Item) (item : Item) → Stood tape (with_item c nodes' tape item)
+pub with_stood_one : (c : Cluster) (nodes' : ℕ → Node) (tape : List Item) (item : Item) → Stood tape (with_item c nodes' tape item)
 with_stood_one c nodes' tape item = go (breaks c nodes' item && not (is_unsafe tape))
   where
     go : (t : Bool) (other : Item) → Stands other tape → Stands other (cond t (Unsafe ∷ item ∷ tape) (item ∷ tape))
@@ -59,7 +59,7 @@ with_stood : (c : Cluster) (nodes' : ℕ → Node) (items tape : List Item) → 
 with_stood c nodes' [] tape other s = s
 with_stood c nodes' (item ∷ items) tape other s = with_stood c nodes' items (with_item c nodes' tape item) other (with_stood_one c nodes' tape item other s)
 
-with_stands : (c : Cluster) (nodes' : ℕ → Node) (items tape : List Item) (item : Item) → In item items → Stands item (with_items c nodes' tape items)
+pub with_stands : (c : Cluster) (nodes' : ℕ → Node) (items tape : List Item) (item : Item) → In item items → Stands item (with_items c nodes' tape items)
 with_stands c nodes' [] tape item i = absurd i
 with_stands c nodes' (one ∷ items) tape item (inl same) = with_stood c nodes' items (with_item c nodes' tape one) item (subst (λ x. Stands x (with_item c nodes' tape one)) same (go (breaks c nodes' one && not (is_unsafe tape))))
   where
@@ -77,7 +77,7 @@ pub in_right : {X : Type 0} (x : X) (xs ys : List X) → In x ys → In x (xs ++
 in_right x [] ys i = i
 in_right x (y ∷ xs) ys i = inr (in_right x xs ys i)
 
-in_shown : (me : ℕ) (g : GroupId) (n : ℕ) (e : Content) (notes : List Met) → In (Decides g n e) notes → In (Decide (number me) g (record { 0 = n }) e) (flat_map (shown me) notes)
+pub in_shown : (me : ℕ) (g : GroupId) (n : ℕ) (e : Content) (notes : List Met) → In (Decides g n e) notes → In (Decide (number me) g (record { 0 = n }) e) (flat_map (shown me) notes)
 in_shown me g n e [] i = absurd i
 in_shown me g n e (one ∷ notes) (inl same) = in_left (Decide (number me) g (record { 0 = n }) e) (shown me one) (flat_map (shown me) notes)
     (subst (λ x. In (Decide (number me) g (record { 0 = n }) e) (shown me x)) (sym same) (inl refl))
@@ -301,7 +301,7 @@ taken_next users s brought now nodes' j m d telling g up stands may same = (
         (took_on tape1 base (λ item x. stood_sent k (reply ++ told_news) tape2 item ((follows.tape).stood item x)) (message m.from me m.body) took)
 
 -- what becomes of a message by what it tells of a decision
-abbrev take_by : Setting → Node → Message → List Heard → Option Decision → Step
+abbrev pub take_by : Setting → Node → Message → List Heard → Option Decision → Step
 take_by s node m ts (Some d) = taken s node m (told_notes s node.met m.from m.body) ts (if_new node.met (Some d)) (reply_to s.cluster s.me node.met m) []
 take_by s node m ts None = taken s node m (told_notes s node.met m.from m.body) ts (if_new node.met (first_settled ts)) (reply_to s.cluster s.me node.met m) (news s (if_new node.met (first_settled ts)))
 

@@ -4,6 +4,7 @@ use Rattle.std.specs.Prelude.{option_map}
 use Rattle.std.specs.List.{All}
 use Rattle.std.proofs.lemmas.Bool.Decides.{nat_tests}
 use Rattle.std.proofs.lemmas.List.Elements.{All-append, All-cons, All-head, All-nil, All-tail, All-weaker}
+use Rattle.std.proofs.lemmas.Bool.{and_parts, not-false}
 use Rattle.mega_cluster.specs.declared.cluster.Cluster.{Cluster}
 use Rattle.mega_disk.specs.declared.pair.Device.TheVariants.{Data, Log}
 use Rattle.mega_handler.specs.Named.{Meanings}
@@ -553,10 +554,6 @@ nine_near from _ is = tt
 
 -- ---- events, one after another
 
-both_true : (a b : Bool) → (a && b) ≡ true → (a ≡ true) × (b ≡ true)
-both_true true b h = (refl, h)
-both_true false b h = absurd (cc)
-
 some_is : (x y : ℕ) → Some x ≡ Some y → x ≡ y
 some_is x y same = cc
 
@@ -571,10 +568,6 @@ find_passes test (x ∷ xs) j h = go (test x) refl h (find_passes test xs j)
 not_because : (t : Bool) (why : ℕ) (other : Option ℕ) → because t why other ≡ None → (t ≡ false) × (other ≡ None)
 not_because true why other h = absurd (cc)
 not_because false why other h = (refl, h)
-
-not_false : (t : Bool) → not t ≡ false → t ≡ true
-not_false true h = refl
-not_false false h = absurd (cc)
 
 -- with as many starts
 record Stays (c : Cluster) (v : ℕ) (now next : Standing) : Type 0 where
@@ -604,7 +597,7 @@ module _ (c : Cluster) (v : ℕ) (h : Meanings) (cuts : Cuts) where
 
   deliverable_stays : (now : Standing) (j : ℕ) → next_delivery (up now) now.tape ≡ Some j → Moment c v now → Stays c v now (delivered c h cuts now j)
   deliverable_stays now j e m = handed_stays now j (message_of now.tape j) refl
-      (both_true (not (is_taken now.tape j) && not (is_dropped now.tape j)) (receiver_up (up now) (message_of now.tape j)) (find_passes (is_deliverable (up now) now.tape) _ j e)).1 m
+      (and_parts (not (is_taken now.tape j) && not (is_dropped now.tape j)) (receiver_up (up now) (message_of now.tape j)) (find_passes (is_deliverable (up now) now.tape) _ j e)).1 m
 
   drained_stays : (most : ℕ) (now : Standing) → Moment c v now → Stays c v now (drained c h cuts now most)
   drained_stays zero now m = go (next_delivery (up now) now.tape)
@@ -621,12 +614,12 @@ module _ (c : Cluster) (v : ℕ) (h : Meanings) (cuts : Cuts) where
 
   down_stays : (now : Standing) (j : ℕ) (o : Option Message) → message_of now.tape j ≡ o → receiver_down now o ≡ false → Moment c v now → Stays c v now (handed c h cuts now j o)
   down_stays now j None is r m = record { moment = m; starts = refl }
-  down_stays now j (Some message) is r m = handed_stays now j (Some message) is (not_false (up now message.to) r) m
+  down_stays now j (Some message) is r m = handed_stays now j (Some message) is (not-false (up now message.to) r) m
 
   event_goes : (now : Standing) (event : WorldEvent) → now.starts v + 1 ≤ 4294967295 → refusal c now event ≡ None → Moment c v now → Goes c v now (after_event c h cuts now event)
   event_goes now (TickEvent node clock) few r m =
       let second = (not_because (not (is_node c node.0)) 6 _ r).1 in let third = (not_because (not (up now node.0)) 1 _ second).0 in
-      node_goes c v h now m node.0 (TickItem (number node.0) clock) (Tick clock) (cuts now node.0) (λ nine. tt) (not_false (up now node.0) third) (record { plain = λ c nodes. refl; actor_is = refl; tells = refl })
+      node_goes c v h now m node.0 (TickItem (number node.0) clock) (Tick clock) (cuts now node.0) (λ nine. tt) (not-false (up now node.0) third) (record { plain = λ c nodes. refl; actor_is = refl; tells = refl })
   event_goes now (Deliver j) few r m =
       let second = (not_because (not (is_sent now.tape j)) 3 _ r).1 in let third = (not_because (is_dropped now.tape j) 4 _ second).1 in
       stays_goes c v now _ (down_stays now j (message_of now.tape j) refl (not_because (receiver_down now (message_of now.tape j)) 1 None third).0 m)
@@ -644,7 +637,7 @@ module _ (c : Cluster) (v : ℕ) (h : Meanings) (cuts : Cuts) where
   }
   event_goes now (BeginEvent node request text) few r m =
       let second = (not_because (not (is_node c node.0)) 6 _ r).1 in let third = (not_because (not (up now node.0)) 1 _ second).0 in
-      node_goes c v h now m node.0 (BeginItem (op_of (setting c h node.0) (now.node node.0).met) text) (Begin request text) (cuts now node.0) (λ nine. tt) (not_false (up now node.0) third) (record { plain = λ c nodes. refl; actor_is = refl; tells = refl })
+      node_goes c v h now m node.0 (BeginItem (op_of (setting c h node.0) (now.node node.0).met) text) (Begin request text) (cuts now node.0) (λ nine. tt) (not-false (up now node.0) third) (record { plain = λ c nodes. refl; actor_is = refl; tells = refl })
 
 all_go : (c : Cluster) (v : ℕ) (cuts : Cuts) (events : List Happening) (now : Standing) → now.starts v + length events ≤ 4294967295 → Moment c v now → Moment c v (goes_on c cuts now events)
 all_go c v cuts [] now few m = m

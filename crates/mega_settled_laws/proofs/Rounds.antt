@@ -2,6 +2,7 @@
 use Rattle.std.proofs.Common.{◌≡◌, ◌⊎◌, inl, inr, ℕ, ◌+◌, ◌==◌, ◌&&◌, ◌||◌, ◌≤◌, max, nat_le, not, Bool, true, false, cond, List, [], ◌∷◌, ◌++◌, length, map, flat_map, Option, refl, sym, ap, ◌∙◌, subst, arith}
 use Rattle.std.proofs.lemmas.Bool.Decides.{nat_tests}
 use Rattle.std.specs.List.{list_all, list_any}
+use Rattle.std.proofs.lemmas.Bool.{and_parts, or_cases, false_from_ne_true, and_from, and_right, or_parts}
 use Rattle.mega_base.specs.declared.names.OpId.{OpId}
 use Rattle.mega_ballot.specs.declared.ballot.Ballot.{Ballot}
 use Rattle.mega_ballot.specs.Order.{zero_ballot}
@@ -27,12 +28,12 @@ use Rattle.mega_run_laws.specs.of_tape_laws.Places.{IsMajority, Place, Took, cou
 use Rattle.mega_run_laws.specs.of_tape_laws.Lawful.{Heard, message}
 use Rattle.mega_run_laws.proofs.of_tape_laws.Ballots.{clash, number_is, number_self}
 use Rattle.mega_run_laws.specs.Justified.{Accepters, Each, here}
-use Rattle.mega_run_laws.proofs.Counted.{majority_is, none_accepted, one_more, with_one}
+use Rattle.mega_run_laws.proofs.Counted.{majority_is, none_accepted, one_more, with_one, has_push}
 use Rattle.mega_run_laws.proofs.Rounds.{ballot_is, here_is}
 use Rattle.mega_run_laws.proofs.Sending.{took_on}
 use Rattle.mega_settled_laws.specs.Covering.{Earlier, has_asked_about}
 use Rattle.mega_run_laws.proofs.Events.{each_append as each_both}
-use Rattle.mega_settled_laws.proofs.Tapes.{Mine, asks_both, asks_in, asks_map, earlier_stood, joined_has, mine_map, neither, now_is, then_later}
+use Rattle.mega_settled_laws.proofs.Tapes.{Mine, asks_both, asks_in, asks_map, earlier_stood, joined_has, mine_map, now_is, then_later}
 
 -- ---- what a round knows
 
@@ -118,19 +119,11 @@ knows_on c old new later op p asked Waiting k = tt
 
 -- ---- lists of free cells
 
-both : (a b : Bool) → (a && b) ≡ true → (a ≡ true) × (b ≡ true)
-both true b h = (refl, h)
-both false b h = cc
-
-either_true : (a b : Bool) → (a || b) ≡ true → (a ≡ true) ⊎ (b ≡ true)
-either_true true b h = inl refl
-either_true false b h = inr h
-
 free_is : (a b : Free) → is_same_free a b ≡ true → a ≡ b
-free_is a b h = let parts = both (a.cell == b.cell) (a.node == b.node) h in λ i. record { cell = number_is a.cell b.cell parts.0 i; node = number_is a.node b.node parts.1 i }
+free_is a b h = let parts = and_parts (a.cell == b.cell) (a.node == b.node) h in λ i. record { cell = number_is a.cell b.cell parts.0 i; node = number_is a.node b.node parts.1 i }
 
 among_push : (free one : Free) (frees : List Free) → list_any (is_same_free one) (frees ++ free ∷ []) ≡ true → (list_any (is_same_free one) frees ≡ true) ⊎ (one ≡ free)
-among_push free one [] h = elim (either_true (is_same_free one free) false h) [ inl e ↦ inr (free_is one free e) | inr k ↦ cc ]
+among_push free one [] h = elim (or_cases (is_same_free one free) false h) [ inl e ↦ inr (free_is one free e) | inr k ↦ cc ]
 among_push free one (other ∷ frees) h = by (is_same_free one other) h (among_push free one frees)
   where
     by : (t : Bool) → (t || list_any (is_same_free one) (frees ++ free ∷ [])) ≡ true
@@ -139,36 +132,20 @@ among_push free one (other ∷ frees) h = by (is_same_free one other) h (among_p
     by true h again = inl refl
     by false h again = again h
 
-not_true : (t : Bool) → (t ≡ true → ⊥) → t ≡ false
-not_true true h = absurd (h refl)
-not_true false h = refl
-
 once_push : (free : Free) (frees : List Free) → AreOnce frees → list_any (is_same_free free) frees ≡ false → AreOnce (frees ++ free ∷ [])
 once_push free [] once new = (refl, tt)
 once_push free (one ∷ frees) once new = (
-  not_true (list_any (is_same_free one) (frees ++ free ∷ [])) (λ t. elim (among_push free one frees t) [
+  false_from_ne_true (list_any (is_same_free one) (frees ++ free ∷ [])) (λ t. elim (among_push free one frees t) [
     | inl k ↦ clash (list_any (is_same_free one) frees) k once.0
-    | inr e ↦ clash (is_same_free free one) (subst (λ x. is_same_free free x ≡ true) (sym e) (self free)) (neither (is_same_free free one) (list_any (is_same_free free) frees) new).0
+    | inr e ↦ clash (is_same_free free one) (subst (λ x. is_same_free free x ≡ true) (sym e) (self free)) (or_parts (is_same_free free one) (list_any (is_same_free free) frees) new).0
   ]),
-  once_push free frees once.1 (neither (is_same_free free one) (list_any (is_same_free free) frees) new).1,
+  once_push free frees once.1 (or_parts (is_same_free free one) (list_any (is_same_free free) frees) new).1,
 )
   where
-    joined : (a b : Bool) → a ≡ true → b ≡ true → (a && b) ≡ true
-    joined true b h k = k
-    joined false b h k = cc
-
     self : (x : Free) → is_same_free x x ≡ true
-    self x = joined (x.cell == x.cell) (x.node == x.node) (number_self x.cell) (number_self x.node)
+    self x = and_from (x.cell == x.cell) (x.node == x.node) (number_self x.cell) (number_self x.node)
 
-has_push : (x v : ℕ) (nodes : List ℕ) → has v (nodes ++ x ∷ []) ≡ true → (has v nodes ≡ true) ⊎ (x ≡ v)
-has_push x v [] h = elim (either_true (x == v) false h) [ inl e ↦ inr (number_is x v e) | inr k ↦ cc ]
-has_push x v (node ∷ nodes) h = by (node == v) h (has_push x v nodes)
-  where
-    by : (t : Bool) → (t || has v (nodes ++ x ∷ [])) ≡ true → (has v (nodes ++ x ∷ []) ≡ true → (has v nodes ≡ true) ⊎ (x ≡ v)) → ((t || has v nodes) ≡ true) ⊎ (x ≡ v)
-    by true h again = inl refl
-    by false h again = again h
-
-with_has : (x v : ℕ) (nodes : List ℕ) → has v (with_node x nodes) ≡ true → (has v nodes ≡ true) ⊎ (x ≡ v)
+pub with_has : (x v : ℕ) (nodes : List ℕ) → has v (with_node x nodes) ≡ true → (has v nodes ≡ true) ⊎ (x ≡ v)
 with_has x v nodes = by (has x nodes)
   where
     by : (t : Bool) → has v (cond t nodes (nodes ++ x ∷ [])) ≡ true → (has v nodes ≡ true) ⊎ (x ≡ v)
@@ -272,8 +249,8 @@ module _ (c : Cluster) (tape : List Item) (op : OpId) (p : Place) (asked : List 
           proposal = at (accepts (here c op p asked) zero_ballot mine (cond (has leader (voters c)) (leader ∷ []) []) now);
           sends = map (accept_to (here c op p asked) zero_ballot mine) (others leader (voters c));
         }) (stays (at (Asking leader sent))) (λ h.
-        let outer = both (from == leader) (is_sent zero_ballot mine b e) h in
-        let inner = both (same_ballot zero_ballot b) (same_entry mine e) outer.1 in
+        let outer = and_parts (from == leader) (is_sent zero_ballot mine b e) h in
+        let inner = and_parts (same_ballot zero_ballot b) (same_entry mine e) outer.1 in
         let by_leader = subst (λ v. Heard tape v op (Accepted op p.group p.position zero_ballot mine)) (number_is from leader outer.0)
         (by_name from zero_ballot b mine e (ballot_is zero_ballot b inner.0) (same_entry_equal mine e inner.1) heard) in
         record {
@@ -284,16 +261,16 @@ module _ (c : Cluster) (tape : List Item) (op : OpId) (p : Place) (asked : List 
         }) (still_proceeds [] (at (Asking leader sent)) k (λ node h. h))
     accepted_proceeds from now b e heard (Accepting ballot entry voted sent) k still =
         proceeds_if [] (is_sent ballot entry b e && has from (voters c)) (record { proposal = at (accepts (here c op p asked) ballot entry (with_node from voted) sent); sends = [] }) (stays (at (Accepting ballot entry voted sent))) (λ h.
-        let outer = both (is_sent ballot entry b e) (has from (voters c)) h in
-        let inner = both (same_ballot ballot b) (same_entry entry e) outer.0 in
+        let outer = and_parts (is_sent ballot entry b e) (has from (voters c)) h in
+        let inner = and_parts (same_ballot ballot b) (same_entry entry e) outer.0 in
         still_proceeds [] (at (accepts (here c op p asked) ballot entry (with_node from voted) sent))
         (accepts_knows ballot entry (with_node from voted) sent (λ node no_other. still node no_other refl)
         (with_one c tape op p ballot entry from voted k (by_name from ballot b entry e (ballot_is ballot b inner.0) (same_entry_equal entry e inner.1) heard) outer.1))
         (λ node no_more. refl)) (still_proceeds [] (at (Accepting ballot entry voted sent)) k (λ node h. h))
     accepted_proceeds from now b e heard (Covering ballot entry cover sent) k still =
         proceeds_if cover.told (is_sent ballot entry b e && has from (voters c)) (record { proposal = at (covers (here c op p asked) ballot entry (with_accepted cover from) sent); sends = [] }) (stays (at (Covering ballot entry cover sent))) (λ h.
-        let outer = both (is_sent ballot entry b e) (has from (voters c)) h in
-        let inner = both (same_ballot ballot b) (same_entry entry e) outer.0 in
+        let outer = and_parts (is_sent ballot entry b e) (has from (voters c)) h in
+        let inner = and_parts (same_ballot ballot b) (same_entry entry e) outer.0 in
         covering_proceeds mine seen ballot entry (with_accepted cover from) sent cover.told refl (record {
           backed = k.backed;
           accepted = λ node is. elim (with_has from node cover.accepted is) [
@@ -386,7 +363,7 @@ module _ (c : Cluster) (tape : List Item) (op : OpId) (p : Place) (asked : List 
     unheld_proceeds cell node heard (Covering ballot entry cover sent) k =
         proceeds_if cover.told (nat_le cell c.cells && has node cover.told) (record { proposal = at (covers (here c op p asked) ballot entry (with_cell cover (record { cell = cell; node = node })) sent); sends = [] }) (stays (at (Covering ballot entry cover sent)))
         (λ h. covering_proceeds mine seen ballot entry (with_cell cover (record { cell = cell; node = node })) sent cover.told refl
-        (with_covers ballot entry cover cell node (record { heard = heard; within = at_most cell c.cells (both (nat_le cell c.cells) (has node cover.told) h).0 }) k))
+        (with_covers ballot entry cover cell node (record { heard = heard; within = at_most cell c.cells (and_parts (nat_le cell c.cells) (has node cover.told) h).0 }) k))
         (still_proceeds cover.told (at (Covering ballot entry cover sent)) k (λ node h. h))
       where
         at_most : (a b : ℕ) → nat_le a b ≡ true → a ≤ b
@@ -402,13 +379,9 @@ module _ (c : Cluster) (tape : List Item) (op : OpId) (p : Place) (asked : List 
     silent_dead : (cells nodes : List ℕ) (node : ℕ) → has node nodes ≡ false → asks_in (flat_map (λ other. map (dead_to (here c op p asked) other) cells) nodes) op node ≡ false
     silent_dead cells [] node h = refl
     silent_dead cells (other ∷ nodes) node h =
-        let parts = neither (other == node) (has node nodes) h in
+        let parts = or_parts (other == node) (has node nodes) h in
         asks_both (map (dead_to (here c op p asked) other) cells) (flat_map (λ one. map (dead_to (here c op p asked) one) cells) nodes) op node
-        (asks_map (dead_to (here c op p asked) other) op node (λ cell. second_false (same_op op op) (other == node) parts.0) cells) (silent_dead cells nodes node parts.1)
-      where
-        second_false : (a b : Bool) → b ≡ false → (a && b) ≡ false
-        second_false true b h = h
-        second_false false b h = refl
+        (asks_map (dead_to (here c op p asked) other) op node (λ cell. and_right (same_op op op) (other == node) parts.0) cells) (silent_dead cells nodes node parts.1)
 
     mine_dead : (cells nodes : List ℕ) → Each (Mine op) (flat_map (λ other. map (dead_to (here c op p asked) other) cells) nodes)
     mine_dead cells [] = tt
@@ -458,7 +431,7 @@ module _ (c : Cluster) (tape : List Item) (op : OpId) (p : Place) (asked : List 
       (still_proceeds (told_of proposal.round) proposal k (λ node h. h))
   takes_proceeds proposal from now (Unheld o cell node) k still took =
       proceeds_if (told_of proposal.round) (same_op op o && from == cell) _ (stays proposal) (λ h.
-      let parts = both (same_op op o) (from == cell) h in
+      let parts = and_parts (same_op op o) (from == cell) h in
       unheld_proceeds proposal.own proposal.seen cell node.0 (coe 0 1 (i. Took tape (message (number_is from cell parts.1 i) op.node.0 (Unheld (sym (same_op_equal op o parts.0) i) cell node))) took) proposal.round k)
       (still_proceeds (told_of proposal.round) proposal k (λ node h. h))
   takes_proceeds proposal from now (Accept o g n b e) k still took =

@@ -1,13 +1,12 @@
 -- In every run each decision has its cause, and each open operation knows what it heard.
-use Rattle.std.proofs.Common.{◌≡◌, ◌⊎◌, inl, inr, ℕ, ◌+◌, ◌-◌, ◌==◌, ◌&&◌, ◌||◌, ◌<◌, min, nat_le, Bool, true, false, not, cond, List, [], ◌∷◌, ◌++◌, filter, flat_map, map, Option, Some, None, refl, sym, ap, ◌∙◌, subst, arith}
+use Rattle.std.proofs.Common.{◌≡◌, ◌⊎◌, inl, inr, ℕ, ◌+◌, ◌-◌, ◌==◌, ◌&&◌, ◌||◌, ◌<◌, min, nat_le, Bool, true, false, not, cond, List, [], ◌∷◌, ◌++◌, filter, flat_map, map, Option, None, refl, sym, ap, ◌∙◌, subst, arith}
 use Rattle.std.proofs.lemmas.Bool.Decides.{nat_tests}
+use Rattle.std.proofs.lemmas.Bool.{or_cases, or_left, or_right, and_parts, false_from_ne_true}
 use Rattle.mega_base.specs.declared.names.OpId.{OpId}
 use Rattle.mega_ballot.specs.declared.ballot.Ballot.{Ballot}
 use Rattle.mega_cluster.specs.declared.cluster.Cluster.{Cluster}
 use Rattle.mega_entry.specs.declared.content.Content.{Content}
 use Rattle.mega_handler.specs.Named.{Meanings}
-use Rattle.mega_outcome.specs.declared.answer.Answer.{Answer}
-use Rattle.mega_outcome.specs.declared.answer.Answer.TheVariants.{Worn}
 use Rattle.mega_outcome.specs.declared.request.Request.{Request}
 use Rattle.mega_wire.specs.declared.message.Message.{Message}
 use Rattle.mega_wire.specs.declared.message.Body.{Body}
@@ -34,10 +33,10 @@ use Rattle.mega_run_laws.proofs.of_tape_laws.Ballots.{clash, number_is, number_s
 use Rattle.mega_run_laws.specs.Justified.{Each, sent}
 use Rattle.mega_run_laws.proofs.Events.{IsPlain, each_append as each_both}
 use Rattle.mega_run_laws.proofs.Noted.{with_append, with_sent}
-use Rattle.mega_run_laws.proofs.Runs.{IsMark, Keeps, nobody, run_keeps, starts_plain}
+use Rattle.mega_run_laws.proofs.Runs.{IsMark, Keeps, nobody, run_keeps, starts_plain, at_self, at_other}
 use Rattle.mega_run_laws.proofs.Sending.{Stood, took_on}
 use Rattle.mega_run_laws.proofs.Standing.{Good}
-use Rattle.mega_run_laws.proofs.Steps.{never_begun}
+use Rattle.mega_run_laws.proofs.Steps.{never_begun, not_worn}
 use Rattle.mega_run_laws.proofs.Turns.{Held, each_on}
 use Rattle.mega_settled_laws.specs.Covering.{Earlier, IsCoveredSince, asks_about, free, has_asked_about, invalidated, voted}
 use Rattle.mega_run_laws.proofs.Shown.{IsSilent, notes_silent}
@@ -173,54 +172,34 @@ begun_behind (item ∷ later) moment x h = one_begun item (later ++ moment) x (b
 begun_on : (old new : List Item) (x : OpId) → Earlier old new → has_begun old x ≡ true → has_begun new x ≡ true
 begun_on old new x e h = subst (λ t. has_begun t x ≡ true) (sym e.is) (begun_behind e.later old x h)
 
-either_true : (a b : Bool) → (a || b) ≡ true → (a ≡ true) ⊎ (b ≡ true)
-either_true true b h = inl refl
-either_true false b h = inr h
-
-both : (a b : Bool) → (a && b) ≡ true → (a ≡ true) × (b ≡ true)
-both true b h = (refl, h)
-both false b h = cc
-
 sent_asked : (n : ℕ) (ms : List Message) (tape : List Item) (x : OpId) (node : ℕ) → has_asked_about (sent n ms tape) x node ≡ true → (asks_in ms x node ≡ true) ⊎ (has_asked_about tape x node ≡ true)
 sent_asked n [] tape x node h = inr h
 sent_asked n (m ∷ ms) tape x node h = elim (sent_asked (n + 1) ms (Sent n m ∷ tape) x node h) [
-  | inl more ↦ inl (right (asks_about x node m.body) (asks_in ms x node) more)
-  | inr here ↦ elim (either_true (asks_about x node m.body) (has_asked_about tape x node) here) [ inl one ↦ inl (left (asks_about x node m.body) (asks_in ms x node) one) | inr old ↦ inr old ]
+  | inl more ↦ inl (or_right (asks_about x node m.body) (asks_in ms x node) more)
+  | inr here ↦ elim (or_cases (asks_about x node m.body) (has_asked_about tape x node) here) [ inl one ↦ inl (or_left (asks_about x node m.body) (asks_in ms x node) one) | inr old ↦ inr old ]
 ]
-  where
-    left : (a b : Bool) → a ≡ true → (a || b) ≡ true
-    left true b h = refl
-    left false b h = cc
-
-    right : (a b : Bool) → b ≡ true → (a || b) ≡ true
-    right true b h = refl
-    right false b h = h
 
 -- who asks began
 asks_begun : (c : Cluster) (base : List Item) (me k : ℕ) (ms : List Message) (x : OpId) (node : ℕ) → Each (Own c base me k) ms → asks_in ms x node ≡ true → has_begun base x ≡ true
 asks_begun c base me k [] x node own h = cc
-asks_begun c base me k (m ∷ ms) x node own h = elim (either_true (asks_about x node m.body) (asks_in ms x node) h) [ inl one ↦ by m.body (own.0).body one | inr more ↦ asks_begun c base me k ms x node own.1 more ]
+asks_begun c base me k (m ∷ ms) x node own h = elim (or_cases (asks_about x node m.body) (asks_in ms x node) h) [ inl one ↦ by m.body (own.0).body one | inr more ↦ asks_begun c base me k ms x node own.1 more ]
   where
     by : (body : Body) → OwnBody c base me k body → asks_about x node body ≡ true → has_begun base x ≡ true
-    by (Dead op cell about) o is = subst (λ y. has_begun base y ≡ true) (same_op_equal op x (both (same_op op x) (about.0 == node) is).0) o.begun
+    by (Dead op cell about) o is = subst (λ y. has_begun base y ≡ true) (same_op_equal op x (and_parts (same_op op x) (about.0 == node) is).0) o.begun
     by _ o is = cc
-
-false_of : (t : Bool) → (t ≡ true → ⊥) → t ≡ false
-false_of true h = absurd (h refl)
-false_of false h = refl
 
 -- a node asks nothing for operations of others
 asks_elsewhere : (c : Cluster) (base : List Item) (me k : ℕ) (ms : List Message) (x : OpId) (node : ℕ) → (me == x.node.0) ≡ false → Each (Own c base me k) ms → asks_in ms x node ≡ false
-asks_elsewhere c base me k ms x node apart own = false_of (asks_in ms x node) (λ h. elsewhere ms own h)
+asks_elsewhere c base me k ms x node apart own = false_from_ne_true (asks_in ms x node) (λ h. elsewhere ms own h)
   where
     by : (body : Body) → OwnBody c base me k body → asks_about x node body ≡ true → ⊥
     by (Dead op cell about) o is =
-        clash (me == x.node.0) (ap (λ v. v == x.node.0) (sym o.node) ∙ ap (λ (y : OpId). y.node.0 == x.node.0) (same_op_equal op x (both (same_op op x) (about.0 == node) is).0) ∙ number_self x.node.0) apart
+        clash (me == x.node.0) (ap (λ v. v == x.node.0) (sym o.node) ∙ ap (λ (y : OpId). y.node.0 == x.node.0) (same_op_equal op x (and_parts (same_op op x) (about.0 == node) is).0) ∙ number_self x.node.0) apart
     by _ o is = cc
 
     elsewhere : (ms : List Message) → Each (Own c base me k) ms → asks_in ms x node ≡ true → ⊥
     elsewhere [] own h = cc
-    elsewhere (m ∷ ms) own h = elim (either_true (asks_about x node m.body) (asks_in ms x node) h) [ inl one ↦ by m.body (own.0).body one | inr more ↦ elsewhere ms own.1 more ]
+    elsewhere (m ∷ ms) own h = elim (or_cases (asks_about x node m.body) (asks_in ms x node) h) [ inl one ↦ by m.body (own.0).body one | inr more ↦ elsewhere ms own.1 more ]
 
 -- ---- standings
 
@@ -263,12 +242,6 @@ next_settling c old new nodes owed more me node h l mine owes same = record {
     owes_by : (v : ℕ) (t : Bool) → (me == v) ≡ t → Each (NoteCause c new v) (more v)
     owes_by v true e = subst (λ w. Each (NoteCause c new w) (more w)) (number_is me v e) owes
     owes_by v false e = subst (Each (NoteCause c new v)) (sym (same v e)) (each_on (NoteCause c old v) (NoteCause c new v) (note_cause_on c old new l.later v) (owed v) (h.owes v))
-
-at_self : {X : Type 0} (f : ℕ → X) (me : ℕ) (x : X) → set_at f me x me ≡ x
-at_self f me x = ap (λ t. cond t x (f me)) (number_self me)
-
-at_other : {X : Type 0} (f : ℕ → X) (me : ℕ) (x : X) (v : ℕ) → (me == v) ≡ false → set_at f me x v ≡ f v
-at_other f me x v h = ap (λ t. cond t x (f v)) h
 
 -- ---- a step of a node
 
@@ -406,10 +379,6 @@ module _ (c : Cluster) (now : Standing) (me : ℕ) (item : Item) (event : IsEven
 
 -- ---- events
 
-not_worn : (t : Bool) (o : Option Answer) → cond t (Some Worn) o ≡ None → t ≡ false
-not_worn true o h = cc
-not_worn false o h = refl
-
 less_is : (a b : ℕ) → nat_le a b ≡ false → b < a
 less_is a b h = grind (arith, nat_tests)
 
@@ -460,7 +429,7 @@ module _ (c : Cluster) where
       (ap (λ t. t || has_begun now.tape id) (same_op_self id))
       (each_on (Held nobody c now.tape me (start_of met) (begun_of met + 1) met) (λ (o : Operation). (o.id).number < begun_of met + 1) (λ o held. held.below) (now.node me).open_operations (g.node me).held)
       (λ none. let is = next_number none in omega (arith, is))
-      (λ none about. false_of (has_asked_about now.tape id about) (λ a. clash (has_begun now.tape id) (q.asked id about a) (never_begun nobody s now g (named none)))))
+      (λ none about. false_from_ne_true (has_asked_about now.tape id about) (λ a. clash (has_begun now.tape id) (q.asked id about a) (never_begun nobody s now g (named none)))))
       (Begins id text) [] (fate_by now me cut (calls_of c h now me (Begin request text) made))
     where
       s : Setting

@@ -1,7 +1,8 @@
 -- What a round knows as it settles is what settles an entry.
-use Rattle.std.proofs.Common.{◌≡◌, ◌⊎◌, inl, inr, ℕ, zero, suc, ◌+◌, ◌==◌, ◌&&◌, ◌||◌, ◌≤◌, ◌<◌, nat_le, Bool, true, false, not, cond, List, [], ◌∷◌, filter, length, map, Option, Some, None, refl, sym, ap, ◌∙◌, subst, arith}
+use Rattle.std.proofs.Common.{◌≡◌, inl, inr, ℕ, zero, suc, ◌+◌, ◌==◌, ◌&&◌, ◌||◌, ◌≤◌, ◌<◌, nat_le, Bool, true, false, not, cond, List, [], ◌∷◌, filter, length, map, Option, Some, None, refl, sym, ap, ◌∙◌, subst, arith}
 use Rattle.std.proofs.lemmas.Bool.Decides.{nat_tests}
 use Rattle.std.specs.List.{list_all, range_with_len}
+use Rattle.std.proofs.lemmas.Bool.{and_parts, or_cases, or_left, not-true, and_from, or_right}
 use Rattle.mega_base.specs.declared.names.GroupId.{GroupId}
 use Rattle.mega_base.specs.declared.names.OpId.{OpId}
 use Rattle.mega_ballot.specs.declared.ballot.Ballot.{Ballot}
@@ -64,26 +65,6 @@ of_cell c [] item h s = absurd s
 of_cell c (other ∷ before) item h (inl same) = subst (CellItem c) same h.0
 of_cell c (other ∷ before) item h (inr s) = of_cell c before item h.1 s
 
-both : (a b : Bool) → (a && b) ≡ true → (a ≡ true) × (b ≡ true)
-both true b h = (refl, h)
-both false b h = cc
-
-either_true : (a b : Bool) → (a || b) ≡ true → (a ≡ true) ⊎ (b ≡ true)
-either_true true b h = inl refl
-either_true false b h = inr h
-
-left : (a b : Bool) → a ≡ true → (a || b) ≡ true
-left true b h = refl
-left false b h = cc
-
-right : (a b : Bool) → b ≡ true → (a || b) ≡ true
-right true b h = refl
-right false b h = h
-
-negated : (t : Bool) → not t ≡ true → t ≡ false
-negated true h = cc
-negated false h = refl
-
 has_range : (a n x : ℕ) → a ≤ x → x < a + n → has x (range_with_len a n) ≡ true
 has_range a zero x le less = absurd (omega (arith, le, less))
 has_range a (suc n) x le less = by (a == x) refl (λ next. has_range (a + 1) n x next (within less))
@@ -106,18 +87,14 @@ free_count : (node n : ℕ) (frees : List Free) → AreOnce frees → ((cell : �
     → length (filter (λ (one : Free). one.node == node) frees) ≤ count (is_among frees node) (range_with_len 1 n)
 free_count node n [] once within = omega arith
 free_count node n (one ∷ frees) once within = by (one.node == node) refl
-    (free_count node n frees once.1 (λ cell h. within cell (right (is_same_free (record { cell = cell; node = node }) one) (is_among frees node cell) h)))
+    (free_count node n frees once.1 (λ cell h. within cell (or_right (is_same_free (record { cell = cell; node = node }) one) (is_among frees node cell) h)))
   where
     more : (cell : ℕ) → is_among frees node cell ≡ true → is_among (one ∷ frees) node cell ≡ true
-    more cell h = right (is_same_free (record { cell = cell; node = node }) one) (is_among frees node cell) h
-
-    joined : (a b : Bool) → a ≡ true → b ≡ true → (a && b) ≡ true
-    joined true b h k = k
-    joined false b h k = cc
+    more cell h = or_right (is_same_free (record { cell = cell; node = node }) one) (is_among frees node cell) h
 
     here_is : (one.node == node) ≡ true → is_among (one ∷ frees) node one.cell ≡ true
-    here_is e = left (is_same_free (record { cell = one.cell; node = node }) one) (is_among frees node one.cell)
-        (joined (one.cell == one.cell) (node == one.node) (number_self one.cell) (ap (λ v. v == one.node) (sym (number_is one.node node e)) ∙ number_self one.node))
+    here_is e = or_left (is_same_free (record { cell = one.cell; node = node }) one) (is_among frees node one.cell)
+        (and_from (one.cell == one.cell) (node == one.node) (number_self one.cell) (ap (λ v. v == one.node) (sym (number_is one.node node e)) ∙ number_self one.node))
 
     new_is : (one.node == node) ≡ true → is_among frees node one.cell ≡ false
     new_is e = ap (λ v. is_among frees v one.cell) (sym (number_is one.node node e)) ∙ once.0
@@ -139,28 +116,28 @@ free_count node n (one ∷ frees) once within = by (one.node == node) refl
 module _ (c : Cluster) (tape : List Item) (op : OpId) (p : Place) (asked : List ℕ) (e : Content) where
   free_covered : (b : Ballot) (cover : Cover) (k : Covers c tape op p asked b e cover) → AreOfCells c tape → (node : ℕ) → is_free (here c op p asked) cover node ≡ true → IsCoveredSince c (k.backed).moment tape op p b e node
   free_covered b cover k cells_of node h =
-      let outer = both (has node cover.told && not (has node asked)) (is_majority c.cells (length (filter (λ (one : Free). one.node == node) cover.free))) h in
-      let inner = both (has node cover.told) (not (has node asked)) outer.0 in
+      let outer = and_parts (has node cover.told && not (has node asked)) (is_majority c.cells (length (filter (λ (one : Free). one.node == node) cover.free))) h in
+      let inner = and_parts (has node cover.told) (not (has node asked)) outer.0 in
       free (is_among cover.free node)
       (majority_is c.cells (length (filter (λ (one : Free). one.node == node) cover.free)) (count (is_among cover.free node) (cells c)) outer.1 (free_count node c.cells cover.free k.once within))
-      ((k.backed).quiet node (negated (has node asked) inner.1))
+      ((k.backed).quiet node (not-true (has node asked) inner.1))
       (λ cell i. (k.free cell node i).heard)
     where
       within : (cell : ℕ) → is_among cover.free node cell ≡ true → (1 ≤ cell) × (cell ≤ c.cells)
       within cell i =
           let from = k.free cell node i in
-          (at_least 1 cell (both (nat_le 1 cell) (nat_le cell c.cells) (of_cell c tape (Sent (from.heard).number (message cell op.node.0 (Unheld op cell (number node)))) cells_of (from.heard).sent)).0, from.within)
+          (at_least 1 cell (and_parts (nat_le 1 cell) (nat_le cell c.cells) (of_cell c tape (Sent (from.heard).number (message cell op.node.0 (Unheld op cell (number node)))) cells_of (from.heard).sent)).0, from.within)
 
   node_covered : (b : Ballot) (cover : Cover) (k : Covers c tape op p asked b e cover) → AreOfCells c tape → (node : ℕ) → is_covered (here c op p asked) cover node ≡ true → IsCoveredSince c (k.backed).moment tape op p b e node
-  node_covered b cover k cells_of node h = elim (either_true (has node cover.accepted || has node cover.invalidated) (is_free (here c op p asked) cover node) h) [
-    | inl one ↦ elim (either_true (has node cover.accepted) (has node cover.invalidated) one) [ inl a ↦ voted (k.accepted node a) | inr i ↦ invalidated (k.invalidated node i) ]
+  node_covered b cover k cells_of node h = elim (or_cases (has node cover.accepted || has node cover.invalidated) (is_free (here c op p asked) cover node) h) [
+    | inl one ↦ elim (or_cases (has node cover.accepted) (has node cover.invalidated) one) [ inl a ↦ voted (k.accepted node a) | inr i ↦ invalidated (k.invalidated node i) ]
     | inr f ↦ free_covered b cover k cells_of node f
   ]
 
   each_covered : (test : ℕ → Bool) (nodes : List ℕ) → list_all test nodes ≡ true → (node : ℕ) → In node nodes → test node ≡ true
   each_covered test [] all node i = absurd i
-  each_covered test (one ∷ nodes) all node (inl same) = subst (λ v. test v ≡ true) same (both (test one) (list_all test nodes) all).0
-  each_covered test (one ∷ nodes) all node (inr i) = each_covered test nodes (both (test one) (list_all test nodes) all).1 node i
+  each_covered test (one ∷ nodes) all node (inl same) = subst (λ v. test v ≡ true) same (and_parts (test one) (list_all test nodes) all).0
+  each_covered test (one ∷ nodes) all node (inr i) = each_covered test nodes (and_parts (test one) (list_all test nodes) all).1 node i
 
   pub covered_settled : Covered c tape op p asked e → AreOfCells c tape → HasSettled c tape op p e
   covered_settled k cells_of = record {

@@ -1,5 +1,6 @@
 -- A step of a node: what its open operations know afterwards, what it sends, and why it decides.
-use Rattle.std.proofs.Common.{◌≡◌, ℕ, ◌==◌, ◌&&◌, ◌||◌, ◌≤◌, ◌<◌, nat_lt, Bool, true, false, cond, List, [], ◌∷◌, ◌++◌, map, flat_map, fold, Option, Some, None, is_none, refl, sym, ◌∙◌, subst, arith}
+use Rattle.std.proofs.Common.{◌≡◌, ℕ, ◌==◌, ◌&&◌, ◌≤◌, ◌<◌, nat_lt, Bool, true, false, cond, List, [], ◌∷◌, ◌++◌, map, flat_map, fold, Option, Some, None, is_none, refl, sym, ◌∙◌, subst, arith}
+use Rattle.std.proofs.lemmas.Bool.{or_from, and_parts}
 use Rattle.mega_base.specs.declared.names.Epoch.{Epoch}
 use Rattle.mega_base.specs.declared.names.GroupId.{GroupId}
 use Rattle.mega_base.specs.declared.names.NodeId.{NodeId}
@@ -44,6 +45,7 @@ use Rattle.mega_run_laws.proofs.Events.{IsAnswer, IsPlain, apply_plain, each_app
 use Rattle.mega_run_laws.proofs.Noting.{Lasts, all_act_it, begun_it as begun_noted, ticked_it}
 use Rattle.mega_run_laws.proofs.Opened.{at_place}
 use Rattle.mega_run_laws.proofs.Turns.{IsRising, each_on}
+use Rattle.mega_run_laws.proofs.Whole.{take_by}
 use Rattle.mega_settled_laws.specs.Covering.{asks_about, has_asked_about}
 use Rattle.mega_settled_laws.proofs.Tapes.{asks_both, asks_in}
 use Rattle.mega_settled_laws.proofs.Settle.{AreOfCells, Cause, CauseOf, by_answer, by_news, first_settles}
@@ -69,13 +71,9 @@ plain_own c tape me k m h = record { from = h.from; body = by m.body h.body }
     by (Unheld op cell about) is = is
     by _ is = tt
 
-either_false : (a b : Bool) → a ≡ false → b ≡ false → (a || b) ≡ false
-either_false true b h k = h
-either_false false b h k = k
-
 plain_silent : (c : Cluster) (me : ℕ) (ms : List Message) (op : OpId) (node : ℕ) → Each (Plain c me) ms → asks_in ms op node ≡ false
 plain_silent c me [] op node h = refl
-plain_silent c me (m ∷ ms) op node h = either_false (asks_about op node m.body) (asks_in ms op node) (by m.body (h.0).body) (plain_silent c me ms op node h.1)
+plain_silent c me (m ∷ ms) op node h = or_from (asks_about op node m.body) (asks_in ms op node) (by m.body (h.0).body) (plain_silent c me ms op node h.1)
   where
     by : (body : Body) → PlainBody c body → asks_about op node body ≡ false
     by (Dead op cell about) none = absurd none
@@ -120,14 +118,10 @@ lock_plain c cell epoch clock Renewed = tt
 lock_plain c cell epoch clock (TakenBy greatest) = tt
 lock_plain c cell epoch clock (Over greatest) = tt
 
-both : (a b : Bool) → (a && b) ≡ true → (a ≡ true) × (b ≡ true)
-both true b h = (refl, h)
-both false b h = cc
-
 held_plain : (c : Cluster) (me : ℕ) (op : OpId) (cell : ℕ) (node : NodeId) (held : Option Epoch) (t : Bool) → (cell == me && is_cell c me) ≡ t → PlainAnswer c (where_served t (held_answer op cell node held))
 held_plain c me op cell node held false e = tt
 held_plain c me op cell node (Some epoch) true e = tt
-held_plain c me op cell node None true e = let parts = both (cell == me) (is_cell c me) e in subst (λ v. is_cell c v ≡ true) (sym (number_is cell me parts.0)) parts.1
+held_plain c me op cell node None true e = let parts = and_parts (cell == me) (is_cell c me) e in subst (λ v. is_cell c v ≡ true) (sym (number_is cell me parts.0)) parts.1
 
 answer_plain : (c : Cluster) (me : ℕ) (met : List Met) (from : ℕ) (body : Body) → PlainAnswer c (answer_to c me met from body)
 answer_plain c me met from (Where op group) = served c (is_voter c me) (Top op group (record { 0 = top_of met group })) tt
@@ -303,18 +297,13 @@ module _ (s : Setting) (tape : List Item) (node : Node) (cells_of : AreOfCells s
       parts = no_more s tape all.k now (reply_to s.cluster s.me node.met m ++ told_news) all.acted
           (each_both (Plain s.cluster s.me) (reply_to s.cluster s.me node.met m) told_news (reply_plain s.cluster s.me node.met m) plain)
 
-  -- by what the message tells of a decision
-  abbrev take_by : Message → List Heard → Option Decision → Step
-  take_by m ts (Some d) = taken s node m (told_notes s node.met m.from m.body) ts (if_new node.met (Some d)) (reply_to s.cluster s.me node.met m) []
-  take_by m ts None = taken s node m (told_notes s node.met m.from m.body) ts (if_new node.met (first_settled ts)) (reply_to s.cluster s.me node.met m) (news s (if_new node.met (first_settled ts)))
-
   pub take_knows : (m : Message) → Took tape (message m.from s.me m.body) → IsRising 0 node.open_operations → StepKnows s tape (take_step s node m)
   take_knows m took rising = by (told_decision m.body) refl
     where
       ts : List Heard
       ts = map (hears_message s (clock_of node.met) m) node.open_operations
 
-      by : (told : Option Decision) → told_decision m.body ≡ told → StepKnows s tape (take_by m ts told)
+      by : (told : Option Decision) → told_decision m.body ≡ told → StepKnows s tape (take_by s node m ts told)
       by (Some d) is = taken_knows m (if_new node.met (Some d)) [] took rising tt
           (new_cause s.cluster tape s.me node.met (Some d) (λ x same. told_cause s.cluster tape s.me m.from m.body took x (is ∙ same)))
       by None is = taken_knows m (if_new node.met (first_settled ts)) (news s (if_new node.met (first_settled ts))) took rising (news_plain s (if_new node.met (first_settled ts)))

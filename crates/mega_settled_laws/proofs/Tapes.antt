@@ -1,5 +1,6 @@
 -- Earlier moments of a tape, and what was asked of cells on it.
 use Rattle.std.proofs.Common.{◌≡◌, inr, ℕ, ◌+◌, ◌==◌, ◌&&◌, ◌||◌, Bool, true, false, not, cond, List, [], ◌∷◌, ◌++◌, map, refl, sym, ap, ◌∙◌, subst}
+use Rattle.std.proofs.lemmas.Bool.{or_from, and_left, or_parts}
 use Rattle.mega_base.specs.declared.names.OpId.{OpId}
 use Rattle.mega_cluster.specs.declared.cluster.Cluster.{Cluster}
 use Rattle.mega_wire.specs.declared.message.Message.{Message}
@@ -39,7 +40,7 @@ regrouped (x ∷ a) b c = ap (λ t. x ∷ t) (regrouped a b c)
 pub then_later : (one two three : List Item) → Earlier one two → Earlier two three → Earlier one three
 then_later one two three a b = record { later = b.later ++ a.later; is = b.is ∙ ap (λ t. b.later ++ t) a.is ∙ regrouped b.later a.later one }
 
-stood_behind : (later moment : List Item) (item : Item) → Stands item moment → Stands item (later ++ moment)
+pub stood_behind : (later moment : List Item) (item : Item) → Stands item moment → Stands item (later ++ moment)
 stood_behind [] moment item s = s
 stood_behind (one ∷ later) moment item s = inr (stood_behind later moment item s)
 
@@ -96,22 +97,14 @@ pub record Mine (op : OpId) (m : Message) : Type 0 where
   pub from : m.from ≡ op.node.0
   pub of : OfDead op m.body
 
-either_false : (a b : Bool) → a ≡ false → b ≡ false → (a || b) ≡ false
-either_false true b h k = h
-either_false false b h k = k
-
-pub neither : (a b : Bool) → (a || b) ≡ false → (a ≡ false) × (b ≡ false)
-neither true b h = cc
-neither false b h = (refl, h)
-
 pub asks_both : (xs ys : List Message) (op : OpId) (node : ℕ) → asks_in xs op node ≡ false → asks_in ys op node ≡ false → asks_in (xs ++ ys) op node ≡ false
 asks_both [] ys op node h k = k
-asks_both (m ∷ xs) ys op node h k = let parts = neither (asks_about op node m.body) (asks_in xs op node) h in
-    either_false (asks_about op node m.body) (asks_in (xs ++ ys) op node) parts.0 (asks_both xs ys op node parts.1 k)
+asks_both (m ∷ xs) ys op node h k = let parts = or_parts (asks_about op node m.body) (asks_in xs op node) h in
+    or_from (asks_about op node m.body) (asks_in (xs ++ ys) op node) parts.0 (asks_both xs ys op node parts.1 k)
 
 pub asks_map : {X : Type 0} (f : X → Message) (op : OpId) (node : ℕ) → ((x : X) → asks_about op node (f x).body ≡ false) → (xs : List X) → asks_in (map f xs) op node ≡ false
 asks_map f op node h [] = refl
-asks_map f op node h (x ∷ xs) = either_false (asks_about op node (f x).body) (asks_in (map f xs) op node) (h x) (asks_map f op node h xs)
+asks_map f op node h (x ∷ xs) = or_from (asks_about op node (f x).body) (asks_in (map f xs) op node) (h x) (asks_map f op node h xs)
 
 pub mine_map : {X : Type 0} (op : OpId) (f : X → Message) → ((x : X) → Mine op (f x)) → (xs : List X) → Each (Mine op) (map f xs)
 mine_map op f h [] = tt
@@ -119,21 +112,17 @@ mine_map op f h (x ∷ xs) = (h x, mine_map op f h xs)
 
 -- another operation's messages ask nothing for this one
 apart_about : (op x : OpId) (node : ℕ) (body : Body) → same_op op x ≡ false → OfDead op body → asks_about x node body ≡ false
-apart_about op x node (Dead asking cell about) apart of = first_false (same_op asking x) (about.0 == node) (ap (λ y. same_op y x) of ∙ apart)
-  where
-    first_false : (a b : Bool) → a ≡ false → (a && b) ≡ false
-    first_false true b h = cc
-    first_false false b h = refl
+apart_about op x node (Dead asking cell about) apart of = and_left (same_op asking x) (about.0 == node) (ap (λ y. same_op y x) of ∙ apart)
 apart_about op x node _ apart of = refl
 
 pub asks_apart : (op x : OpId) (node : ℕ) (ms : List Message) → same_op op x ≡ false → Each (Mine op) ms → asks_in ms x node ≡ false
 asks_apart op x node [] apart mine = refl
-asks_apart op x node (m ∷ ms) apart mine = either_false (asks_about x node m.body) (asks_in ms x node) (apart_about op x node m.body apart (mine.0).of) (asks_apart op x node ms apart mine.1)
+asks_apart op x node (m ∷ ms) apart mine = or_from (asks_about x node m.body) (asks_in ms x node) (apart_about op x node m.body apart (mine.0).of) (asks_apart op x node ms apart mine.1)
 
 pub asked_sent : (n : ℕ) (ms : List Message) (tape : List Item) (op : OpId) (node : ℕ) → asks_in ms op node ≡ false → has_asked_about tape op node ≡ false → has_asked_about (sent n ms tape) op node ≡ false
 asked_sent n [] tape op node h k = k
-asked_sent n (m ∷ ms) tape op node h k = let parts = neither (asks_about op node m.body) (asks_in ms op node) h in
-    asked_sent (n + 1) ms (Sent n m ∷ tape) op node parts.1 (either_false (asks_about op node m.body) (has_asked_about tape op node) parts.0 k)
+asked_sent n (m ∷ ms) tape op node h k = let parts = or_parts (asks_about op node m.body) (asks_in ms op node) h in
+    asked_sent (n + 1) ms (Sent n m ∷ tape) op node parts.1 (or_from (asks_about op node m.body) (has_asked_about tape op node) parts.0 k)
 
 silent_asked : (tape : List Item) (item : Item) (op : OpId) (node : ℕ) → IsSilent item → has_asked_about (item ∷ tape) op node ≡ has_asked_about tape op node
 silent_asked tape (Sent key m) op node h = absurd h
@@ -156,9 +145,9 @@ module _ (c : Cluster) (nodes : ℕ → Node) where
 has_append : (node : ℕ) (a b : List ℕ) → has node (a ++ b) ≡ false → (has node a ≡ false) × (has node b ≡ false)
 has_append node [] b h = (refl, h)
 has_append node (x ∷ a) b h =
-    let parts = neither (x == node) (has node (a ++ b)) h in
+    let parts = or_parts (x == node) (has node (a ++ b)) h in
     let rest = has_append node a b parts.1 in
-    (either_false (x == node) (has node a) parts.0 rest.0, rest.1)
+    (or_from (x == node) (has node a) parts.0 rest.0, rest.1)
 
 apart_of : (node x : ℕ) (a : List ℕ) → has node a ≡ false → has x a ≡ true → (x == node) ≡ false
 apart_of node x a h k = by (x == node) refl
@@ -172,8 +161,8 @@ without_has node a [] h k = refl
 without_has node a (x ∷ b) h k = by (has x a) refl (without_has node a b h) k
   where
     by : (t : Bool) → has x a ≡ t → (has node (without a b) ≡ false → has node b ≡ false) → has node (cond (not t) (x ∷ without a b) (without a b)) ≡ false → ((x == node) || has node b) ≡ false
-    by true e rest k = either_false (x == node) (has node b) (apart_of node x a h e) (rest k)
-    by false e rest k = let parts = neither (x == node) (has node (without a b)) k in either_false (x == node) (has node b) parts.0 (rest parts.1)
+    by true e rest k = or_from (x == node) (has node b) (apart_of node x a h e) (rest k)
+    by false e rest k = let parts = or_parts (x == node) (has node (without a b)) k in or_from (x == node) (has node b) parts.0 (rest parts.1)
 
 pub joined_has : (node : ℕ) (a b : List ℕ) → has node (joined a b) ≡ false → (has node a ≡ false) × (has node b ≡ false)
 joined_has node a b h = let parts = has_append node a (without a b) h in (parts.0, without_has node a b parts.0 parts.1)

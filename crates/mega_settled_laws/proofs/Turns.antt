@@ -1,5 +1,6 @@
 -- The operations of a node act one after another, each knowing what it heard.
-use Rattle.std.proofs.Common.{◌≡◌, ℕ, ◌+◌, ◌==◌, ◌&&◌, ◌||◌, ◌≤◌, ◌<◌, Bool, true, false, cond, List, [], ◌∷◌, ◌++◌, map, fold, Option, Some, None, refl, sym, ap, ◌∙◌, subst, arith}
+use Rattle.std.proofs.Common.{◌≡◌, ℕ, ◌+◌, ◌==◌, ◌≤◌, ◌<◌, Bool, true, false, cond, List, [], ◌∷◌, ◌++◌, map, fold, Option, Some, None, refl, sym, ap, ◌∙◌, subst, arith}
+use Rattle.std.proofs.lemmas.Bool.{and_left, or_from}
 use Rattle.mega_base.specs.declared.names.Epoch.{Epoch}
 use Rattle.mega_base.specs.declared.names.GroupId.{GroupId}
 use Rattle.mega_base.specs.declared.names.OpId.{OpId}
@@ -117,21 +118,13 @@ own_mine c tape me k op node below begun m h = record { from = h.from ∙ node; 
     by (Dead asking cell about) of = record { node = ap (λ (x : OpId). x.node.0) of ∙ node; below = subst (λ (x : OpId). x.number < k) (sym of) below; begun = subst (λ x. has_begun tape x ≡ true) (sym of) begun }
     by _ of = tt
 
-first_false : (a b : Bool) → a ≡ false → (a && b) ≡ false
-first_false true b h = cc
-first_false false b h = refl
-
-either_false : (a b : Bool) → a ≡ false → b ≡ false → (a || b) ≡ false
-either_false true b h k = h
-either_false false b h k = k
-
 -- messages of operations with lower numbers ask nothing for a later one
 below_silent : (c : Cluster) (tape : List Item) (me k : ℕ) (x : OpId) (node : ℕ) (ms : List Message) → k ≤ x.number → Each (Own c tape me k) ms → asks_in ms x node ≡ false
 below_silent c tape me k x node [] le own = refl
-below_silent c tape me k x node (m ∷ ms) le own = either_false (asks_about x node m.body) (asks_in ms x node) (by m.body (own.0).body) (below_silent c tape me k x node ms le own.1)
+below_silent c tape me k x node (m ∷ ms) le own = or_from (asks_about x node m.body) (asks_in ms x node) (by m.body (own.0).body) (below_silent c tape me k x node ms le own.1)
   where
     by : (body : Body) → OwnBody c tape me k body → asks_about x node body ≡ false
-    by (Dead op cell about) h = first_false (same_op op x) (about.0 == node) (numbers_apart op x (less_not op.number x.number (let less = h.below in omega (arith, less, le))))
+    by (Dead op cell about) h = and_left (same_op op x) (about.0 == node) (numbers_apart op x (less_not op.number x.number (let less = h.below in omega (arith, less, le))))
     by _ h = refl
 
 -- ---- one operation acts

@@ -8,6 +8,7 @@ use Rattle.std.proofs.lemmas.Iterator.Adapters.{position_from-zero}
 use Rattle.std.proofs.lemmas.List.{length-append, map-append}
 use Rattle.std.proofs.lemmas.List.Folds.{find_at, list_any-append}
 use Rattle.std.proofs.lemmas.Str.{is_utf8-from_IsUtf8}
+use Rattle.std.proofs.lemmas.Bool.{or_from, and_from, or_parts}
 use Rattle.mega_syntax.specs.declared.words.PropertyWords.{PropertyWords}
 use Rattle.mega_syntax.specs.declared.words.TableWords.{TableWords}
 use Rattle.mega_syntax.specs.declared.words.ChangeWords.{ChangeWords}
@@ -32,7 +33,7 @@ use Rattle.mega_schema.proofs.Naming.{same_other, same_self}
 use Rattle.mega_schema.proofs.Told.{parse_tells}
 use Rattle.mega_index.specs.Fits.{numbered}
 use Rattle.mega_transcript.specs.Named.{number_of_place}
-use Rattle.mega_tape_laws.proofs.Declared.{neither, unbroken}
+use Rattle.mega_tape_laws.proofs.Declared.{unbroken}
 use Rattle.mega_tape_laws.proofs.RowKeys.{numbered_at}
 use Rattle.mega_plain_laws.specs.Answers.{IsNamed}
 use Rattle.mega_format_laws.specs.Rounds.{Each}
@@ -45,10 +46,6 @@ record Apart (names : List (List ℕ)) : Type 0 where
 
 -- ---- lists of names
 
-both_no : (a b : Bool) → a ≡ false → b ≡ false → (a || b) ≡ false
-both_no true b h g = h
-both_no false b h g = g
-
 any_named : {X : Type 0} (f : X → List ℕ) (n : List ℕ) (xs : List X) → is_among (map f xs) n ≡ list_any (λ x. same (f x) n) xs
 any_named f n [] = refl
 any_named f n (x ∷ xs) = ap (λ b. same (f x) n || b) (any_named f n xs)
@@ -57,17 +54,17 @@ any_named f n (x ∷ xs) = ap (λ b. same (f x) n || b) (any_named f n xs)
 others_apart : (n : List ℕ) (ns ms : List (List ℕ)) → list_any (λ m. is_among (n ∷ ns) m) ms ≡ false → (is_among ms n ≡ false) × (list_any (λ m. is_among ns m) ms ≡ false)
 others_apart n ns [] h = (refl, refl)
 others_apart n ns (m ∷ ms) h =
-    let first = neither (is_among (n ∷ ns) m) (list_any (λ k. is_among (n ∷ ns) k) ms) h in
-    let here = neither (same n m) (is_among ns m) first.0 in
+    let first = or_parts (is_among (n ∷ ns) m) (list_any (λ k. is_among (n ∷ ns) k) ms) h in
+    let here = or_parts (same n m) (is_among ns m) first.0 in
     let more = others_apart n ns ms first.1 in
-    (both_no (same m n) (is_among ms n) (same_other m n ∙ here.0) more.0, both_no (is_among ns m) (list_any (λ k. is_among ns k) ms) here.1 more.1)
+    (or_from (same m n) (is_among ms n) (same_other m n ∙ here.0) more.0, or_from (is_among ns m) (list_any (λ k. is_among ns k) ms) here.1 more.1)
 
 once_both : (ns ms : List (List ℕ)) → stands_twice ns ≡ false → stands_twice ms ≡ false → list_any (λ m. is_among ns m) ms ≡ false → stands_twice (ns ++ ms) ≡ false
 once_both [] ms first second others = second
 once_both (n ∷ ns) ms first second others =
-    let here = neither (is_among ns n) (stands_twice ns) first in
+    let here = or_parts (is_among ns n) (stands_twice ns) first in
     let apart = others_apart n ns ms others in
-    both_no (is_among (ns ++ ms) n) (stands_twice (ns ++ ms)) (list_any-append (λ m. same m n) ns ms ∙ both_no (is_among ns n) (is_among ms n) here.0 apart.0) (once_both ns ms here.1 second apart.1)
+    or_from (is_among (ns ++ ms) n) (stands_twice (ns ++ ms)) (list_any-append (λ m. same m n) ns ms ∙ or_from (is_among ns n) (is_among ms n) here.0 apart.0) (once_both ns ms here.1 second apart.1)
 
 names_both : (ns ms : List (List ℕ)) → AreNames ns → AreNames ms → AreNames (ns ++ ms)
 names_both [] ms first second = second
@@ -84,15 +81,15 @@ found_from {X} f i (y ∷ xs) zero x once at =
     let far : i ≡ i + 0 = omega arith in
     ap (λ b. cond b (Some i) (position_from (λ z. same (f z) (f x)) (i + 1) xs)) (ap (λ z. same (f z) (f x)) it ∙ same_self (f x)) ∙ ap (λ n. Some n) far
 found_from {X} f i (y ∷ xs) (suc k) x once at =
-    let parts = neither (is_among (map f xs) (f y)) (stands_twice (map f xs)) once in
+    let parts = or_parts (is_among (map f xs) (f y)) (stands_twice (map f xs)) once in
     let far : i + 1 + k ≡ i + suc k = omega arith in
     ap (λ b. cond b (Some i) (position_from (λ z. same (f z) (f x)) (i + 1) xs)) (same_other (f y) (f x) ∙ not_there xs k x parts.0 at)
     ∙ found_from f (i + 1) xs k x parts.1 at ∙ ap (λ n. Some n) far
   where
     not_there : (zs : List X) (k : ℕ) (z : X) → is_among (map f zs) (f y) ≡ false → slice_get zs k ≡ Some z → same (f z) (f y) ≡ false
     not_there [] k z none at = cc
-    not_there (w ∷ zs) zero z none at = let it : w ≡ z = cc in ap (λ v. same (f v) (f y)) (sym it) ∙ (neither (same (f w) (f y)) (is_among (map f zs) (f y)) none).0
-    not_there (w ∷ zs) (suc k) z none at = not_there zs k z (neither (same (f w) (f y)) (is_among (map f zs) (f y)) none).1 at
+    not_there (w ∷ zs) zero z none at = let it : w ≡ z = cc in ap (λ v. same (f v) (f y)) (sym it) ∙ (or_parts (same (f w) (f y)) (is_among (map f zs) (f y)) none).0
+    not_there (w ∷ zs) (suc k) z none at = not_there zs k z (or_parts (same (f w) (f y)) (is_among (map f zs) (f y)) none).1 at
 
 less : {X : Type 0} (xs : List X) (k : ℕ) (x : X) → slice_get xs k ≡ Some x → k < length xs
 less [] k x h = cc
@@ -112,14 +109,10 @@ number_told f xs n x few apart at =
     let found : position (λ y. same (f y) (f x)) xs ≡ Some (0 + r.place) = position_from-zero (λ y. same (f y) (f x)) xs ∙ found_from f 0 xs r.place x apart.once r.there in
     let small = less xs r.place x r.there in
     let number : number_of_place (Some (0 + r.place)) ≡ n = number_is r.place (omega (arith, small, few)) ∙ sym r.number_is in
-    both_yes (is_utf8 (f x)) (number_of_place (position (λ y. same (f y) (f x)) xs) == n)
+    and_from (is_utf8 (f x)) (number_of_place (position (λ y. same (f y) (f x)) xs) == n)
     (is_utf8-from_IsUtf8 (f x) (name_text (f x) (name_there f xs r.place x apart.are r.there)))
     (ap (λ o. number_of_place o == n) found ∙ ap (λ m. m == n) number ∙ same_number n)
   where
-    both_yes : (a b : Bool) → a ≡ true → b ≡ true → (a && b) ≡ true
-    both_yes true b h g = g
-    both_yes false b h g = h
-
     number_is : (place : ℕ) → place < 64 → number_of_place (Some (0 + place)) ≡ 1 + place
     number_is place small =
         let within : nat_lt (0 + place) 255 ≡ true = grind (arith, nat_tests) in
@@ -186,13 +179,13 @@ table_sound s t h is fine =
     let r8 = unbroken (table_rule_8 t) 8 _ r7.1 in
     let r9 = unbroken (table_rule_9 t) 9 _ r8.1 in
     let r11 = unbroken (table_rule_11 s t) 11 (first_broken ((12, table_rule_12 t) ∷ (14, table_rule_14 t) ∷ [])) r9.1 in
-    let first = neither (is_table s t.name) (stands_twice (words_names t.properties)) r1.0 in
-    let counts = neither (nat_le 64 (length s.tables)) (nat_lt 64 (length t.properties)) r11.0 in
+    let first = or_parts (is_table s t.name) (stands_twice (words_names t.properties)) r1.0 in
+    let counts = or_parts (nat_le 64 (length s.tables)) (nat_lt 64 (length t.properties)) r11.0 in
     record {
       few = (let short = leb-false 64 (length s.tables) counts.0 in let long = length-append s.tables (table_of s t ∷ []) in omega (arith, short, long));
       apart = subst Apart (sym (map-append (λ (u : Table). u.name) s.tables (table_of s t ∷ [])))
           (apart_both (table_names s.tables) (t.name ∷ []) h.apart (record { once = refl; are = (is.0, tt) })
-          (both_no (is_among (table_names s.tables) t.name) false (any_named (λ (u : Table). u.name) t.name s.tables ∙ first.0) refl));
+          (or_from (is_among (table_names s.tables) t.name) false (any_named (λ (u : Table). u.name) t.name s.tables ∙ first.0) refl));
       each = each_both Tabled s.tables (table_of s t ∷ []) h.each (
         record {
           few = (let same = mapped property_of t.properties in let short = at_most 64 (length t.properties) counts.1 in omega (arith, same, short));
@@ -214,8 +207,8 @@ find_any p (x ∷ xs) = by (p x) (find_any p xs)
 added_apart : (old : List Property) (added : List PropertyWords) → adds_known old added ≡ false → list_any (λ n. is_among (property_names old) n) (words_names added) ≡ false
 added_apart old [] h = refl
 added_apart old (p ∷ added) h =
-    let parts = neither (is_some (property_named old p.name)) (adds_known old added) h in
-    both_no (is_among (property_names old) p.name) (list_any (λ n. is_among (property_names old) n) (words_names added))
+    let parts = or_parts (is_some (property_named old p.name)) (adds_known old added) h in
+    or_from (is_among (property_names old) p.name) (list_any (λ n. is_among (property_names old) n) (words_names added))
     (any_named (λ (q : Property). q.name) p.name old ∙ sym (find_any (λ (q : Property). same q.name p.name) old) ∙ parts.0) (added_apart old added parts.1)
 
 grown_tabled : (t : Table) (ps : List PropertyWords) → Tabled t → AllByRecursion IsProperty ps → adds_known t.properties ps ≡ false → stands_twice (words_names ps) ≡ false → nat_lt 64 (length t.properties + length ps) ≡ false
@@ -256,7 +249,7 @@ change_sound s c h is fine =
     let r1 = unbroken (change_rule_1 s c) 1 _ fine in
     let r5 = unbroken (change_rule_5 s c) 5 _ r1.1 in
     let r11 = unbroken (change_rule_11 s c) 11 (first_broken ((12, change_rule_12 c) ∷ (13, change_rule_13 c) ∷ [])) r5.1 in
-    let first = neither (adds_known (properties_of s c.table) c.properties) (stands_twice (words_names c.properties)) r1.0 in
+    let first = or_parts (adds_known (properties_of s c.table) c.properties) (stands_twice (words_names c.properties)) r1.0 in
     let stays = table_names_stay s.tables c.properties (table_place s.tables c.table) in
     record {
       few = (let a = mapped (λ (u : Table). u.name) (grown_at s.tables c.properties (table_place s.tables c.table)) in let b = mapped (λ (u : Table). u.name) s.tables in let e = ap length stays in let most = h.few in omega (arith, a, b, e, most));

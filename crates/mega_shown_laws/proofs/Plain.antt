@@ -1,7 +1,8 @@
 -- What shows rows that fit is plain, and so is every item of a run.
-use Rattle.std.proofs.Common.{◌≡◌, ℕ, Bool, true, false, List, [], ◌∷◌, ◌++◌, flat_map, length, Option, Some, None, Result, Ok, Err, inl, inr, refl}
+use Rattle.std.proofs.Common.{◌≡◌, ℕ, Bool, true, false, List, [], ◌∷◌, ◌++◌, flat_map, Option, Some, None, Result, Ok, Err, inl, inr, refl}
 use Rattle.std.specs.Prelude.{All, is_ok, is_none}
 use Rattle.std.specs.List.{AllByRecursion}
+use Rattle.std.proofs.lemmas.Bool.{and_parts}
 use Rattle.mega_base.specs.declared.names.OpId.{OpId}
 use Rattle.mega_base.specs.declared.names.Position.{Position}
 use Rattle.mega_base.specs.declared.values.Row.{Row}
@@ -15,21 +16,19 @@ use Rattle.mega_outcome.specs.declared.answer.Answer.{Answer}
 use Rattle.mega_outcome.specs.declared.answer.Answer.TheVariants as answers
 use Rattle.mega_outcome.specs.declared.answer.Shown.{Shown}
 use Rattle.mega_outcome.specs.declared.answer.Turn.{Turn}
-use Rattle.mega_outcome.specs.declared.answer.Turn.TheVariants.{OtherGroup, BadRow, CheckFailed, NoRow, Overflow, TooLarge, DiskFault, Full, BadRecord, NoMemory}
 use Rattle.mega_transcript.specs.declared.item.Item.{Item}
 use Rattle.mega_transcript.specs.declared.item.Item.TheVariants.{Start, Unsent, Tick, Begin, Taken, Dropped, Sent, Grant, Lapse, Counts, Forgets, Serving, Lost, Valid, Invalid, Decide, Apply, Answer as AnswerItem, Crash, Cut, Unsafe}
 use Rattle.mega_transcript.specs.Plain.{IsPlain}
 use Rattle.mega_transcript.specs.PlainRows.{ArePlainIn, ArePlainResults, ArePlainRows}
-use Rattle.mega_transcript.specs.PlainTurns.{IsPlainTurn}
 use Rattle.mega_promises.specs.Promises.{Stands}
 use Rattle.mega_promises.specs.Runs.{Happening, IsRun}
 use Rattle.mega_format_laws.specs.Histories.{IsCluster}
 use Rattle.mega_format_laws.specs.Rounds.{Each}
 use Rattle.mega_format_laws.proofs.Each.{all_of_each, each_of_all}
-use Rattle.mega_plain_laws.specs.Answers.{IsNamed, IsWord, shows_rows}
+use Rattle.mega_plain_laws.specs.Answers.{IsNamed, shows_rows}
 use Rattle.mega_plain_laws.specs.Formed.{AreFormed, is_of_rows}
-use Rattle.mega_plain_laws.specs.of_held.Held.{HoldsCell, HoldsItem, HoldsResult, HoldsRows, HoldsTurn}
-use Rattle.mega_plain_laws.proofs.Plain.{both_true, items_plain, plain_cells}
+use Rattle.mega_plain_laws.specs.of_held.Held.{HoldsCell, HoldsItem, HoldsResult, HoldsRows}
+use Rattle.mega_plain_laws.proofs.Plain.{items_plain, plain_cells, plain_turn}
 use Rattle.mega_plain_laws.proofs.Showing.{each_stands}
 use Rattle.mega_plain_laws.proofs.Turning.{AreWords}
 use Rattle.mega_tape_laws.specs.Indexed.{IsDeclared}
@@ -43,9 +42,9 @@ use Rattle.mega_shown_laws.proofs.Runs.{batch_refuses, each_shown}
 plain_in : (k : Schema) → IsNamed k → (n : ℕ) (o : Option Table) (row : Row) → numbered k.tables n ≡ o → fits_in k n o row ≡ true → AllByRecursion HoldsCell row.cells → ArePlainIn k n o row.cells
 plain_in k named n None row at fit held = cc
 plain_in k named n (Some t) row at fit held =
-    let placed = both_true (has_place k n t row) (is_none (long_key k n t row)) fit in
-    let owned = both_true (properties_fit t row) (is_ok (key_of k n t (key_values t.primary row))) placed.0 in
-    let cells = both_true (cells_fit t.properties 0 row.cells) (has_required 1 t.properties row) owned.0 in
+    let placed = and_parts (has_place k n t row) (is_none (long_key k n t row)) fit in
+    let owned = and_parts (properties_fit t row) (is_ok (key_of k n t (key_values t.primary row))) placed.0 in
+    let cells = and_parts (cells_fit t.properties 0 row.cells) (has_required 1 t.properties row) owned.0 in
     (named.tables n t at, plain_cells t.properties 0 row.cells (λ m property there. named.properties n t m property at there) cells.0 held)
 
 plain_rows : (k : Schema) → IsNamed k → (rows : List (Option Shown)) → Each (FitsTable k) rows → HoldsRows rows → ArePlainRows k rows
@@ -55,18 +54,6 @@ plain_rows k named (Some one ∷ rows) fit held =
     (plain_in k named one.table (numbered k.tables one.table) one.row refl fit.0 (held.0).1, plain_rows k named rows fit.1 held.1)
 
 -- ---- the results of a batch
-
-plain_turn : (turn : Turn) → HoldsTurn turn → IsWord turn → IsPlainTurn turn
-plain_turn (OtherGroup item) held word = held
-plain_turn (BadRow item) held word = held
-plain_turn (CheckFailed item) held word = held
-plain_turn (NoRow item) held word = held
-plain_turn (Overflow item) held word = held
-plain_turn (TooLarge bytes) held word = held
-plain_turn DiskFault held word = absurd word
-plain_turn (Full length) held word = absurd word
-plain_turn (BadRecord number) held word = absurd word
-plain_turn NoMemory held word = absurd word
 
 each_front : {X : Type 0} (P : X → Type 0) (xs ys : List X) → Each P (xs ++ ys) → Each P xs × Each P ys
 each_front P [] ys each = (tt, each)

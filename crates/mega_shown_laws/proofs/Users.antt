@@ -6,6 +6,7 @@ use Rattle.std.specs.Char.{encode_utf8}
 use Rattle.std.specs.List.{AllByRecursion, list_all}
 use Rattle.std.proofs.lemmas.Bool.Decides.{nat_tests}
 use Rattle.std.proofs.lemmas.Str.{IsUtf8-from_is_utf8}
+use Rattle.std.proofs.lemmas.Bool.{and_parts}
 use Rattle.hex.specs.Hex.{IsBytes}
 use Rattle.json.specs.Lex.{lex, punctuate}
 use Rattle.json.specs.Json.{items, members, value}
@@ -46,10 +47,6 @@ use Rattle.mega_plain_laws.proofs.Ticking.{formed, named}
 use Rattle.mega_shown_laws.specs.Examples.{put_and_shown, two_words}
 use Rattle.mega_shown_laws.specs.OfFormat.{IsOfFormat}
 
-both : (a b : Bool) → (a && b) ≡ true → (a ≡ true) × (b ≡ true)
-both true b h = (refl, h)
-both false b h = cc
-
 at_most : (n most : ℕ) → nat_le n most ≡ true → n ≤ most
 at_most n most h = grind (arith, nat_tests)
 
@@ -63,8 +60,8 @@ are_bytes xs = list_all (λ b. nat_lt b 256) xs
 
 bytes_are : (xs : List ℕ) → are_bytes xs ≡ true → IsBytes xs
 bytes_are [] h i = omega arith
-bytes_are (x ∷ xs) h zero = below x 256 (both (nat_lt x 256) (are_bytes xs) h).0
-bytes_are (x ∷ xs) h (suc i) = bytes_are xs (both (nat_lt x 256) (are_bytes xs) h).1 i
+bytes_are (x ∷ xs) h zero = below x 256 (and_parts (nat_lt x 256) (are_bytes xs) h).0
+bytes_are (x ∷ xs) h (suc i) = bytes_are xs (and_parts (nat_lt x 256) (are_bytes xs) h).1 i
 
 abbrev is_u8 : ℕ → Bool
 is_u8 n = nat_le n 255
@@ -141,19 +138,19 @@ is_item Unsafe = false
 
 op_held : (op : OpId) → is_op op ≡ true → (op.node.0 ≤ 255) × ((op.start ≤ 4294967295) × (op.number ≤ 4294967295))
 op_held op h =
-    let a = both (is_u8 op.node.0) (is_u32 op.start && is_u32 op.number) h in
-    let b = both (is_u32 op.start) (is_u32 op.number) a.1 in
+    let a = and_parts (is_u8 op.node.0) (is_u32 op.start && is_u32 op.number) h in
+    let b = and_parts (is_u32 op.start) (is_u32 op.number) a.1 in
     (at_most op.node.0 255 a.0, (at_most op.start 4294967295 b.0, at_most op.number 4294967295 b.1))
 
 place_held : (node : NodeId) (group : GroupId) (position : Position) → is_place node group position ≡ true → (node.0 ≤ 255) × (IsBytes group.key × (position.0 ≤ 18446744073709551615))
 place_held node group position h =
-    let a = both (is_u8 node.0) (are_bytes group.key && is_u64 position.0) h in
-    let b = both (are_bytes group.key) (is_u64 position.0) a.1 in
+    let a = and_parts (is_u8 node.0) (are_bytes group.key && is_u64 position.0) h in
+    let b = and_parts (are_bytes group.key) (is_u64 position.0) a.1 in
     (at_most node.0 255 a.0, (bytes_are group.key b.0, at_most position.0 18446744073709551615 b.1))
 
 each_told : {X : Type 0} (test : X → Bool) (P : X → Type 0) → ((x : X) → test x ≡ true → P x) → (xs : List X) → list_all test xs ≡ true → AllByRecursion P xs
 each_told test P h [] e = tt
-each_told test P h (x ∷ xs) e = let a = both (test x) (list_all test xs) e in (h x a.0, each_told test P h xs a.1)
+each_told test P h (x ∷ xs) e = let a = and_parts (test x) (list_all test xs) e in (h x a.0, each_told test P h xs a.1)
 
 value_held : (v : Value) → is_value v ≡ true → IsHeld v
 value_held (Int64 (pos n)) h = below n 9223372036854775808 h
@@ -164,14 +161,14 @@ value_held (Str text) h = IsUtf8-from_is_utf8 text h
 value_held (Raw bytes) h = cc
 
 cell_held : (cell : Cell) → is_cell cell ≡ true → HoldsCell cell
-cell_held cell h = let a = both (is_u8 cell.property) (list_all is_value cell.values) h in (at_most cell.property 255 a.0, each_told is_value IsHeld value_held cell.values a.1)
+cell_held cell h = let a = and_parts (is_u8 cell.property) (list_all is_value cell.values) h in (at_most cell.property 255 a.0, each_told is_value IsHeld value_held cell.values a.1)
 
 shown_held : (o : Option Shown) → is_shown o ≡ true → HoldsShown o
 shown_held None h = tt
-shown_held (Some shown) h = let a = both (is_u8 shown.table) (list_all is_cell shown.row.cells) h in (at_most shown.table 255 a.0, each_told is_cell HoldsCell cell_held shown.row.cells a.1)
+shown_held (Some shown) h = let a = and_parts (is_u8 shown.table) (list_all is_cell shown.row.cells) h in (at_most shown.table 255 a.0, each_told is_cell HoldsCell cell_held shown.row.cells a.1)
 
 rows_held : (position : Position) (rows : List (Option Shown)) → (is_u64 position.0 && list_all is_shown rows) ≡ true → (position.0 ≤ 18446744073709551615) × HoldsRows rows
-rows_held position rows h = let a = both (is_u64 position.0) (list_all is_shown rows) h in (at_most position.0 18446744073709551615 a.0, each_told is_shown HoldsShown shown_held rows a.1)
+rows_held position rows h = let a = and_parts (is_u64 position.0) (list_all is_shown rows) h in (at_most position.0 18446744073709551615 a.0, each_told is_shown HoldsShown shown_held rows a.1)
 
 answer_held : (answer : Answer) → is_given answer ≡ true → HoldsAnswer answer
 answer_held (answers.Committed position replies) h = rows_held position replies h
@@ -192,13 +189,13 @@ answer_held (answers.Batched position results) h = absurd (cc)
 answer_held (answers.AllTurned results) h = absurd (cc)
 
 item_held : (item : Item) → is_item item ≡ true → HoldsItem item
-item_held (Start node start) h = let a = both (is_u8 node.0) (is_u32 start) h in (at_most node.0 255 a.0, at_most start 4294967295 a.1)
+item_held (Start node start) h = let a = and_parts (is_u8 node.0) (is_u32 start) h in (at_most node.0 255 a.0, at_most start 4294967295 a.1)
 item_held (Begin op text) h = op_held op h
 item_held (Taken number) h = at_most number 18446744073709551615 h
-item_held (Sent number message) h = let a = both (is_u64 number) (are_bytes (message_text message)) h in (at_most number 18446744073709551615 a.0, bytes_are (message_text message) a.1)
-item_held (Decide node group position entry) h = let a = both (is_place node group position) (are_bytes (entry_text entry)) h in (place_held node group position a.0, bytes_are (entry_text entry) a.1)
+item_held (Sent number message) h = let a = and_parts (is_u64 number) (are_bytes (message_text message)) h in (at_most number 18446744073709551615 a.0, bytes_are (message_text message) a.1)
+item_held (Decide node group position entry) h = let a = and_parts (is_place node group position) (are_bytes (entry_text entry)) h in (place_held node group position a.0, bytes_are (entry_text entry) a.1)
 item_held (Apply node group position) h = place_held node group position h
-item_held (AnswerItem op answer) h = let a = both (is_op op) (is_given answer) h in (op_held op a.0, answer_held answer a.1)
+item_held (AnswerItem op answer) h = let a = and_parts (is_op op) (is_given answer) h in (op_held op a.0, answer_held answer a.1)
 item_held (Unsent node message) h = absurd (cc)
 item_held (Tick node now) h = absurd (cc)
 item_held (Dropped number) h = absurd (cc)
@@ -216,7 +213,7 @@ item_held Unsafe h = absurd (cc)
 
 tape_held : (tape : List Item) → list_all is_item tape ≡ true → Each HoldsItem tape
 tape_held [] h = tt
-tape_held (item ∷ tape) h = let a = both (is_item item) (list_all is_item tape) h in (item_held item a.0, tape_held tape a.1)
+tape_held (item ∷ tape) h = let a = and_parts (is_item item) (list_all is_item tape) h in (item_held item a.0, tape_held tape a.1)
 
 -- ---- the run
 

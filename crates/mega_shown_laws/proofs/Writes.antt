@@ -19,12 +19,13 @@ use Rattle.mega_tape_laws.specs.Indexed.{IsDeclared}
 use Rattle.mega_tape_laws.specs.Places.{In}
 use Rattle.mega_tape_laws.proofs.Fitting.{change_fits}
 use Rattle.mega_tape_laws.proofs.IndexSteps.{row_kept}
-use Rattle.mega_tape_laws.proofs.Placed.{key_apart, same_or_not, same_self, under}
+use Rattle.mega_tape_laws.proofs.Placed.{same_or_not, same_self}
 use Rattle.mega_tape_laws.proofs.Replacing.{bind_turn, change_replaces}
 use Rattle.mega_tape_laws.proofs.RootKeys.{no_entry, one_table}
 use Rattle.mega_tape_laws.proofs.RowKeys.{Standing, of_table, standing, stands}
 use Rattle.mega_format_laws.specs.Rounds.{Each}
 use Rattle.mega_format_laws.proofs.Each.{each_both}
+use Rattle.mega_row_laws.proofs.Writing.{in_under}
 
 -- a row that is written under a row key of a table fits that table, and the key is its own
 pub record Fitting (s : Schema) (w : Write) : Type 0 where
@@ -56,16 +57,6 @@ IsApart s key = (n : ℕ) (t : Table) (values : List Value) → numbered s.table
 apart_fits : (s : Schema) (key : List ℕ) (now : Option Row) → IsApart s key → Fitting s (record { key = key; row = now })
 apart_fits s key now apart = record { fits = λ n t values row at own is. absurd (apart n t values at own) }
 
--- an entry of a list stands under its key, or another one does
-there_under : (es : Listed) (e : List ℕ × Row) → In e es → under es e.0 ≡ None → ⊥
-there_under [] e i none = absurd i
-there_under (d ∷ es) e i none = by (same_key e.0 d.0) refl (there_under es e) none i
-  where
-    by : (b : Bool) → same_key e.0 d.0 ≡ b → (In e es → under es e.0 ≡ None → ⊥) → cond b (Some d.1) (under es e.0) ≡ None → In e (d ∷ es) → ⊥
-    by true is more g j = cc
-    by false is more g (inl same) = key_apart e.0 d.0 is (ap (λ (x : List ℕ × Row). x.0) (sym same))
-    by false is more g (inr j) = more j g
-
 deleted_fits : (s : Schema) (key : List ℕ) → Fitting s (record { key = key; row = None })
 deleted_fits s key = record { fits = λ n t values row at own is. absurd (no_row row is) }
   where
@@ -95,7 +86,7 @@ module _ (s : Schema) (d : IsDeclared s) where
       (each_both (Fitting s) (gone (local_entries s n t new) (local_entries s n t old)) (fresh (local_entries s n t old) (local_entries s n t new))
       (gone_fit s (local_entries s n t new) (local_entries s n t old))
       (fresh_fit s (local_entries s n t old) (local_entries s n t new)
-      (λ e i m u values there own. there_under (local_entries s n t new) e i (no_entry s d n m t u values e.0 at there own new))))
+      (λ e i m u values there own. in_under (local_entries s n t new) e i (no_entry s d n m t u values e.0 at there own new))))
 
   -- a row of a table is replaced by one that stands there, along with its index entries
   replaced_fit : (n : ℕ) (t : Table) (key : List ℕ) (old new : Option Row) → numbered s.tables n ≡ Some t → ((row : Row) → new ≡ Some row → Standing s n t key row) → AreFitting s (replaced s n key old new)

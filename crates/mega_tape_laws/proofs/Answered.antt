@@ -1,5 +1,6 @@
 -- Answers keep their causes: so the tape is serial.
 use Rattle.std.proofs.Common.{◌≡◌, ◌≢◌, ◌⊎◌, inl, inr, ℕ, ◌-◌, ◌≤◌, ◌&&◌, ◌||◌, Bool, true, false, cond, List, [], ◌∷◌, length, take, Option, Some, Result, Ok, Err, refl, sym, ap, ◌∙◌, subst, arith}
+use Rattle.std.proofs.lemmas.Bool.{or_right}
 use Rattle.mega_base.specs.declared.names.GroupId.{GroupId}
 use Rattle.mega_base.specs.declared.names.NodeId.{NodeId}
 use Rattle.mega_base.specs.declared.names.OpId.{OpId}
@@ -299,12 +300,8 @@ record Failed (tape : List Item) (op : OpId) : Type 0 where
   has : has_failed tape op ≡ true
   doomed : IsDoomed tape op
 
-either_true : (t u : Bool) → u ≡ true → (t || u) ≡ true
-either_true true u h = refl
-either_true false u h = h
-
 failed_then : (item : Item) (before : List Item) (op : OpId) → has_failed before op ≡ true → has_failed (item ∷ before) op ≡ true
-failed_then (AnswerItem answered answer) before op h = either_true (same_op answered op && is_negative answer) (has_failed before op) h
+failed_then (AnswerItem answered answer) before op h = or_right (same_op answered op && is_negative answer) (has_failed before op) h
 failed_then _ before op h = h
 
 spoken : (before : List Item) (op : OpId) (p : Place) (b : Ballot) (e : Content) (body : Body) → move_in op p body ≡ Some (Proposes b e) → MaySpeak before body → has_failed before op ≡ true → e.id ≡ Some op → Lost before op p

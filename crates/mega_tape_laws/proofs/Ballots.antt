@@ -1,6 +1,7 @@
 -- The order of ballots, as a test.
 use Rattle.std.proofs.Common.{◌≡◌, ◌⊎◌, inl, inr, ℕ, ◌==◌, Bool, true, false, cond, refl, sym, subst, arith}
 use Rattle.std.proofs.lemmas.Bool.Decides.{nat_tests}
+use Rattle.std.proofs.lemmas.Bool.{false_from_ne_true}
 use Rattle.mega_ballot.specs.declared.ballot.Ballot.{Ballot}
 use Rattle.mega_ballot.specs.Order.{zero_ballot}
 use Rattle.mega_ballot.proofs.Ordered.{irreflexive, transitive, total, zero_least}
@@ -35,16 +36,11 @@ order a b = elim (total a b) [
   | inr h ↦ elim h [ inl e ↦ inr (inl e) | inr k ↦ inr (inr ((is_below_iff b a).1 k)) ]
 ]
 
--- what is not refuted is so
-unless : (t : Bool) → (t ≡ true → ⊥) → t ≡ false
-unless true h = absurd (h refl)
-unless false h = refl
-
 pub below_not : (a b : Ballot) → Below a b → AtMost a b
-below_not a b h = unless (is_ballot_below b a) (λ k. below_same a (below_below a b a h k))
+below_not a b h = false_from_ne_true (is_ballot_below b a) (λ k. below_same a (below_below a b a h k))
 
 pub at_most_self : (a : Ballot) → AtMost a a
-at_most_self a = unless (is_ballot_below a a) (below_same a)
+at_most_self a = false_from_ne_true (is_ballot_below a a) (below_same a)
 
 pub at_most_cases : (a b : Ballot) → AtMost a b → (a ≡ b) ⊎ Below a b
 at_most_cases a b h = elim (order a b) [
@@ -59,7 +55,7 @@ pub at_most_below : (a b c : Ballot) → AtMost a b → Below b c → Below a c
 at_most_below a b c h k = elim (at_most_cases a b h) [ inl e ↦ subst (λ x. Below x c) (sym e) k | inr l ↦ below_below a b c l k ]
 
 pub at_most_at_most : (a b c : Ballot) → AtMost a b → AtMost b c → AtMost a c
-at_most_at_most a b c h k = unless (is_ballot_below c a) (λ l. clash (is_ballot_below c b) (below_at_most c a b l h) k)
+at_most_at_most a b c h k = false_from_ne_true (is_ballot_below c a) (λ l. clash (is_ballot_below c b) (below_at_most c a b l h) k)
 
 pub not_below_zero : (b : Ballot) → Below b zero_ballot → ⊥
 not_below_zero b h = elim (zero_least b) [

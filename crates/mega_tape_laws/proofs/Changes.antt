@@ -3,6 +3,7 @@ use Rattle.std.proofs.Common.{◌≡◌, ℕ, zero, suc, ◌+◌, ◌<◌, ◌�
 use Rattle.std.proofs.lemmas.List.Folds.{find_at}
 use Rattle.std.specs.Prelude.{slice_set}
 use Rattle.std.specs.List.{list_all, position_or_len}
+use Rattle.std.proofs.lemmas.Bool.{or_parts, and_parts}
 use Rattle.mega_syntax.specs.declared.need.Need.{Need}
 use Rattle.mega_syntax.specs.declared.need.Need.TheVariants.{Required, Optional, Repeated}
 use Rattle.mega_syntax.specs.declared.words.PropertyWords.{PropertyWords}
@@ -23,8 +24,8 @@ use Rattle.mega_schema.specs.Verdict.{answer_of, empty, refused_or, judge, parse
 use Rattle.mega_outcome.specs.Extends.{may_lack, may_lack_need, is_known, ExtendsTable, ExtendTables, Extends}
 use Rattle.mega_outcome.proofs.Grown.{numbered_more}
 use Rattle.mega_tape_laws.specs.Growing.{AreChanges, Continue, Continues, IsChange}
-use Rattle.mega_tape_laws.proofs.RowKeys.{both, at_number}
-use Rattle.mega_tape_laws.proofs.Declared.{get_less, unbroken, neither, statements_declare}
+use Rattle.mega_tape_laws.proofs.RowKeys.{at_number}
+use Rattle.mega_tape_laws.proofs.Declared.{get_less, unbroken, statements_declare}
 
 -- ---- the key of a declared table is over its own properties
 
@@ -57,7 +58,7 @@ word_known ps n few h = by (words_named ps n) refl h
 words_known : (ps : List PropertyWords) (ns : List (List ℕ)) → length ps ≤ 64 → has_unknown ps ns ≡ false → list_all (is_known (map property_of ps)) (numbers_of_words ps ns) ≡ true
 words_known ps [] few h = refl
 words_known ps (n ∷ ns) few h =
-    let parts = neither (is_none (words_named ps n)) (has_unknown ps ns) h in
+    let parts = or_parts (is_none (words_named ps n)) (has_unknown ps ns) h in
     let first = word_known ps n few parts.0 in
     let more = words_known ps ns few parts.1 in
     (λ i. first i && more i)
@@ -73,8 +74,8 @@ table_keyed s t fine =
     let r8 = unbroken (table_rule_8 t) 8 _ r7.1 in
     let r9 = unbroken (table_rule_9 t) 9 _ r8.1 in
     let r11 = unbroken (table_rule_11 s t) 11 (first_broken ((12, table_rule_12 t) ∷ (14, table_rule_14 t) ∷ [])) r9.1 in
-    let few : length t.properties ≤ 64 = ltb-false 64 (length t.properties) (neither (nat_le 64 (length s.tables)) (nat_lt 64 (length t.properties)) r11.0).1 in
-    let known = (neither (group_unknown s t || inside_unknown s t || has_other_type t.properties) (has_unknown t.properties t.primary) r5.0).1 in
+    let few : length t.properties ≤ 64 = ltb-false 64 (length t.properties) (or_parts (nat_le 64 (length s.tables)) (nat_lt 64 (length t.properties)) r11.0).1 in
+    let known = (or_parts (group_unknown s t || inside_unknown s t || has_other_type t.properties) (has_unknown t.properties t.primary) r5.0).1 in
     words_known t.properties t.primary few known
 
 keyed_end : (ts : List Table) (t : Table) → Keyed ts → IsKeyed t → Keyed (ts ++ t ∷ [])
@@ -84,7 +85,7 @@ keyed_end (u ∷ ts) t k new = (k.0, keyed_end ts t k.1 new)
 known_more : (ps more : List Property) (ns : List ℕ) → list_all (is_known ps) ns ≡ true → list_all (is_known (ps ++ more)) ns ≡ true
 known_more ps more [] h = refl
 known_more ps more (n ∷ ns) h =
-    let parts = both (is_known ps n) (list_all (is_known ps) ns) h in
+    let parts = and_parts (is_known ps n) (list_all (is_known ps) ns) h in
     let first = ap is_some (numbered_more ps more n parts.0) ∙ parts.0 in
     let others = known_more ps more ns parts.1 in
     (λ i. first i && others i)
@@ -134,7 +135,7 @@ loose Repeated h = refl
 lacking : (ps : List PropertyWords) → adds_required ps ≡ false → list_all may_lack (map property_of ps) ≡ true
 lacking [] h = refl
 lacking (p ∷ ps) h =
-    let parts = neither (is_required p.need) (adds_required ps) h in
+    let parts = or_parts (is_required p.need) (adds_required ps) h in
     let first = loose p.need parts.0 in
     let more = lacking ps parts.1 in
     (λ i. first i && more i)
@@ -170,7 +171,7 @@ grown_extends ts ps (Some i) k h = by (slice_get ts i) refl
 all_append : {X : Type 0} (test : X → Bool) (xs ys : List X) → list_all test xs ≡ true → list_all test ys ≡ true → list_all test (xs ++ ys) ≡ true
 all_append test [] ys h g = g
 all_append test (x ∷ xs) ys h g =
-    let parts = both (test x) (list_all test xs) h in
+    let parts = and_parts (test x) (list_all test xs) h in
     let first = parts.0 in
     let more = all_append test xs ys parts.1 g in
     (λ i. first i && more i)

@@ -3,6 +3,7 @@ use Rattle.std.proofs.Common.{◌≡◌, ◌⊎◌, inl, inr, ℕ, zero, suc, �
 use Rattle.std.proofs.lemmas.List.Folds.{find_at}
 use Rattle.std.specs.Prelude.{slice_set}
 use Rattle.std.specs.List.{list_any, position_or_len}
+use Rattle.std.proofs.lemmas.Bool.{not-false, or_parts}
 use Rattle.mega_schema.specs.declared.schema.Table.{Table}
 use Rattle.mega_schema.specs.declared.schema.Schema.{Schema}
 use Rattle.mega_syntax.specs.declared.token.Token.{Token}
@@ -95,14 +96,6 @@ pub unbroken : (b : Bool) (n : ℕ) (rest : Option ℕ) → cond b (Some n) rest
 unbroken true n rest h = absurd (cc)
 unbroken false n rest h = (refl, h)
 
-pub neither : (a b : Bool) → a || b ≡ false → (a ≡ false) × (b ≡ false)
-neither true b g = cc
-neither false b g = (refl, g)
-
-negated : (b : Bool) → not b ≡ false → b ≡ true
-negated true h = refl
-negated false h = cc
-
 any_found : {X : Type 0} (p : X → Bool) (xs : List X) → list_any p xs ≡ true → (x : X) × (find p xs ≡ Some x)
 any_found p [] h = cc
 any_found {X} p (y ∷ xs) h = by (p y) (any_found p xs) h
@@ -143,10 +136,10 @@ made s t group = record {
 new_child : (s : Schema) (t : TableWords) → length s.tables < 64 → (key : List (List ℕ)) (root : List ℕ) → not (is_table s root) || has_unknown t.properties key ≡ false → is_no_root s root ≡ false → are_empty key ≡ false
     → NewRooted s.tables (made s t (Some (key, root)))
 new_child s t few [] root known rooted filled = cc
-new_child s t few (n ∷ ns) root known rooted filled = record { root = λ is. cc; other = λ is. (at.0, r.0, at.1, at.2, negated (is_root_table r.0) (sym (ap (at_table (λ u. not (is_root_table u))) r.1) ∙ rooted), ap is_scattered r.1) }
+new_child s t few (n ∷ ns) root known rooted filled = record { root = λ is. cc; other = λ is. (at.0, r.0, at.1, at.2, not-false (is_root_table r.0) (sym (ap (at_table (λ u. not (is_root_table u))) r.1) ∙ rooted), ap is_scattered r.1) }
   where
     r : (u : Table) × (table_named s.tables root ≡ Some u)
-    r = any_found (λ (u : Table). same u.name root) s.tables (negated (is_table s root) (neither (not (is_table s root)) (has_unknown t.properties (n ∷ ns)) known).0)
+    r = any_found (λ (u : Table). same u.name root) s.tables (not-false (is_table s root) (or_parts (not (is_table s root)) (has_unknown t.properties (n ∷ ns)) known).0)
 
     at : (place : ℕ) × (number_of (table_place s.tables root) ≡ 1 + place) × (slice_get s.tables place ≡ Some r.0)
     at = place_is s.tables root r.0 few r.1
@@ -169,12 +162,12 @@ table_sound s t h fine =
     let r8 = unbroken (table_rule_8 t) 8 _ r7.1 in
     let r9 = unbroken (table_rule_9 t) 9 _ r8.1 in
     let r11 = unbroken (table_rule_11 s t) 11 (first_broken ((12, table_rule_12 t) ∷ (14, table_rule_14 t) ∷ [])) r9.1 in
-    let few : length s.tables < 64 = leb-false 64 (length s.tables) (neither (nat_le 64 (length s.tables)) _ r11.0).0 in
-    let names = (neither (group_unknown s t || inside_unknown s t || has_other_type t.properties) (has_unknown t.properties t.primary) r5.0).0 in
-    let tables = (neither (group_unknown s t || inside_unknown s t) (has_other_type t.properties) names).0 in
-    let known = (neither (group_unknown s t) (inside_unknown s t) tables).0 in
-    let rooted = (neither _ (of_group t.clauses (λ key root. is_no_root s root)) r7.0).1 in
-    let filled = (neither (are_empty t.primary) (of_group t.clauses (λ key root. are_empty key)) r9.0).1 in
+    let few : length s.tables < 64 = leb-false 64 (length s.tables) (or_parts (nat_le 64 (length s.tables)) _ r11.0).0 in
+    let names = (or_parts (group_unknown s t || inside_unknown s t || has_other_type t.properties) (has_unknown t.properties t.primary) r5.0).0 in
+    let tables = (or_parts (group_unknown s t || inside_unknown s t) (has_other_type t.properties) names).0 in
+    let known = (or_parts (group_unknown s t) (inside_unknown s t) tables).0 in
+    let rooted = (or_parts _ (of_group t.clauses (λ key root. is_no_root s root)) r7.0).1 in
+    let filled = (or_parts (are_empty t.primary) (of_group t.clauses (λ key root. are_empty key)) r9.0).1 in
     record {
       most = (let long = length-append s.tables (table_of s t ∷ []) in omega (arith, long, few));
       rooted = rooted_more s.tables (table_of s t) h.rooted (new_table s t few (group_of t.clauses) known rooted filled);

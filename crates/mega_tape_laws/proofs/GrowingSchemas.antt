@@ -1,6 +1,7 @@
 -- On rows that fit, what a transaction does stays the same as the schema grows.
 use Rattle.std.proofs.Common.{◌≡◌, ℕ, ◌+◌, true, ◌&&◌, List, [], ◌∷◌, nat_lt, is_some, refl, Option, Some, None, Ok}
 use Rattle.std.specs.List.{list_all}
+use Rattle.std.proofs.lemmas.Bool.{and_parts}
 use Rattle.mega_base.specs.declared.values.Cell.{Cell}
 use Rattle.mega_base.specs.declared.values.Row.{Row}
 use Rattle.mega_base.specs.declared.values.Value.{Value}
@@ -21,7 +22,7 @@ use Rattle.mega_outcome.specs.Extends.{Extends, LookAtKnown, changed_table, is_k
 use Rattle.mega_outcome.proofs.GrownChanges.{outcome_same}
 use Rattle.mega_tape_laws.specs.Indexed.{IsDeclared}
 use Rattle.mega_tape_laws.specs.Growing.{RowsFit}
-use Rattle.mega_tape_laws.proofs.RowKeys.{Standing, standing, both}
+use Rattle.mega_tape_laws.proofs.RowKeys.{Standing, standing}
 use Rattle.mega_tape_laws.proofs.IndexKeys.{fits_properties}
 use Rattle.mega_tape_laws.proofs.Replacing.{key_in_at}
 use Rattle.mega_tape_laws.proofs.Fitting.{change_fits}
@@ -34,14 +35,14 @@ property_known (Some p) values h = refl
 cells_known : (ps : List Property) (low : ℕ) (cells : List Cell) → cells_fit ps low cells ≡ true → list_all (λ (c : Cell). is_known ps c.property) cells ≡ true
 cells_known ps low [] h = refl
 cells_known ps low (c ∷ cs) h =
-    let above = both (nat_lt low c.property) (cell_fits (numbered ps c.property) c.values && cells_fit ps c.property cs) h in
-    let parts = both (cell_fits (numbered ps c.property) c.values) (cells_fit ps c.property cs) above.1 in
+    let above = and_parts (nat_lt low c.property) (cell_fits (numbered ps c.property) c.values && cells_fit ps c.property cs) h in
+    let parts = and_parts (cell_fits (numbered ps c.property) c.values) (cells_fit ps c.property cs) above.1 in
     let first = property_known (numbered ps c.property) c.values parts.0 in
     let more = cells_known ps c.property cs parts.1 in
     (λ i. first i && more i)
 
 row_known : (s : Schema) (n : ℕ) (t : Table) (key : List ℕ) (row : Row) → Standing s n t key row → is_known_row t row ≡ true
-row_known s n t key row st = cells_known t.properties 0 row.cells (both (cells_fit t.properties 0 row.cells) (has_required 1 t.properties row) (fits_properties s n t row st.fits)).0
+row_known s n t key row st = cells_known t.properties 0 row.cells (and_parts (cells_fit t.properties 0 row.cells) (has_required 1 t.properties row) (fits_properties s n t row st.fits)).0
 
 module _ (s : Schema) (d : IsDeclared s) (group : List ℕ) where
   known_at : (rows : Rows) → RowsFit s rows → (i n : ℕ) (values : List Value) (key : List ℕ) → key_in s group i n values ≡ Ok key → known_in (numbered s.tables n) (rows key) ≡ true

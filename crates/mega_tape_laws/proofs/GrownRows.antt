@@ -1,6 +1,7 @@
 -- A schema that grew can be declared where the one before can, and rows that fit that one fit it.
 use Rattle.std.proofs.Common.{◌≡◌, ℕ, suc, ◌+◌, ◌≤◌, true, ◌&&◌, List, [], ◌∷◌, ◌++◌, length, take, nat_lt, is_ok, is_none, refl, sym, ap, ◌∙◌, subst, Option, Some, None, Ok}
 use Rattle.std.specs.List.{list_all}
+use Rattle.std.proofs.lemmas.Bool.{and_parts}
 use Rattle.mega_base.specs.declared.values.Cell.{Cell}
 use Rattle.mega_base.specs.declared.values.Row.{Row}
 use Rattle.mega_base.specs.declared.values.Value.{Value}
@@ -21,7 +22,7 @@ use Rattle.mega_outcome.specs.Extends.{Extends, ExtendTables, ExtendsTable, may_
 use Rattle.mega_outcome.proofs.Grown.{ExtendsAt, is_grown, numbered_more, shape_same, table_extends}
 use Rattle.mega_tape_laws.specs.Indexed.{IsDeclared}
 use Rattle.mega_tape_laws.specs.Growing.{RowsFit}
-use Rattle.mega_tape_laws.proofs.RowKeys.{Standing, standing, stands, both, of_ok}
+use Rattle.mega_tape_laws.proofs.RowKeys.{Standing, standing, stands, of_ok}
 use Rattle.mega_tape_laws.proofs.IndexKeys.{fits_properties}
 use Rattle.mega_tape_laws.proofs.GrowingSchemas.{property_known}
 
@@ -79,8 +80,8 @@ grown_declared old new e d = record {
 more_cells : (ps more : List Property) (low : ℕ) (cells : List Cell) → cells_fit ps low cells ≡ true → cells_fit (ps ++ more) low cells ≡ true
 more_cells ps more low [] h = refl
 more_cells ps more low (c ∷ cs) h =
-    let above = both (nat_lt low c.property) (cell_fits (numbered ps c.property) c.values && cells_fit ps c.property cs) h in
-    let parts = both (cell_fits (numbered ps c.property) c.values) (cells_fit ps c.property cs) above.1 in
+    let above = and_parts (nat_lt low c.property) (cell_fits (numbered ps c.property) c.values && cells_fit ps c.property cs) h in
+    let parts = and_parts (cell_fits (numbered ps c.property) c.values) (cells_fit ps c.property cs) above.1 in
     let low_is = above.0 in
     let first = ap (λ o. cell_fits o c.values) (numbered_more ps more c.property (property_known (numbered ps c.property) c.values parts.0)) ∙ parts.0 in
     let others = more_cells ps more c.property cs parts.1 in
@@ -94,7 +95,7 @@ lacks Repeated values h = refl
 none_required : (n : ℕ) (more : List Property) (row : Row) → list_all may_lack more ≡ true → has_required n more row ≡ true
 none_required n [] row h = refl
 none_required n (p ∷ more) row h =
-    let parts = both (may_lack p) (list_all may_lack more) h in
+    let parts = and_parts (may_lack p) (list_all may_lack more) h in
     let first = lacks p.need (values_of row n) parts.0 in
     let others = none_required (n + 1) more row parts.1 in
     (λ i. first i && others i)
@@ -102,7 +103,7 @@ none_required n (p ∷ more) row h =
 more_required : (n : ℕ) (ps more : List Property) (row : Row) → list_all may_lack more ≡ true → has_required n ps row ≡ true → has_required n (ps ++ more) row ≡ true
 more_required n [] more row h g = none_required n more row h
 more_required n (p ∷ ps) more row h g =
-    let parts = both (is_filled p.need (values_of row n)) (has_required (n + 1) ps row) g in
+    let parts = and_parts (is_filled p.need (values_of row n)) (has_required (n + 1) ps row) g in
     let first = parts.0 in
     let others = more_required (n + 1) ps more row h parts.1 in
     (λ i. first i && others i)
@@ -117,7 +118,7 @@ still_stands old new e n t u x key row st = record { own = own; fits = (λ i. (p
     own = (λ i. row_key_of (shape i) (key_values (x.primary i) row)) ∙ st.own
 
     old_properties : (cells_fit t.properties 0 row.cells ≡ true) × (has_required 1 t.properties row ≡ true)
-    old_properties = both (cells_fit t.properties 0 row.cells) (has_required 1 t.properties row) (fits_properties old n t row st.fits)
+    old_properties = and_parts (cells_fit t.properties 0 row.cells) (has_required 1 t.properties row) (fits_properties old n t row st.fits)
 
     cells : cells_fit (t.properties ++ x.added) 0 row.cells ≡ true
     cells = more_cells t.properties x.added 0 row.cells old_properties.0
@@ -138,7 +139,7 @@ still_stands old new e n t u x key row st = record { own = own; fits = (λ i. (p
     longest = (λ i. long_in 1 (take 64 (e.indexes i)) n (group i) (key_values (x.primary i) row) row)
 
     short : is_none (long_key new n u row) ≡ true
-    short = ap is_none longest ∙ (both (has_place old n t row) (is_none (long_key old n t row)) st.fits).1
+    short = ap is_none longest ∙ (and_parts (has_place old n t row) (is_none (long_key old n t row)) st.fits).1
 
 pub grown_fit : (old new : Schema) (rows : Rows) → Extends old new → RowsFit old rows → RowsFit new rows
 grown_fit old new rows e fit n u values key row at own there =

@@ -1,6 +1,7 @@
 -- A row that fits still fits, under its own key, once a number is added to one of its properties.
-use Rattle.std.proofs.Common.{◌≡◌, ◌⊎◌, inl, inr, ℕ, suc, ◌+◌, cond, Bool, true, false, ◌&&◌, ◌||◌, ◌==◌, if◌then◌else◌, ℤ, List, [], ◌∷◌, ◌++◌, length, map, fold, find, refl, sym, ap, ◌∙◌, subst, arith, length-append, eqb-true, nat_lt, Option, Some, None, option_map, is_none, is_ok}
+use Rattle.std.proofs.Common.{◌≡◌, ◌⊎◌, inl, inr, ℕ, suc, ◌+◌, cond, Bool, true, false, ◌&&◌, ◌==◌, if◌then◌else◌, ℤ, List, [], ◌∷◌, ◌++◌, length, map, fold, find, refl, sym, ap, ◌∙◌, subst, arith, length-append, eqb-true, nat_lt, Option, Some, None, option_map, is_none, is_ok}
 use Rattle.std.specs.Option.{option_or, option_map_or}
+use Rattle.std.proofs.lemmas.Bool.{or_parts, and_parts}
 use Rattle.mega_base.specs.declared.values.Value.{Value}
 use Rattle.mega_base.specs.declared.values.Value.TheVariants.{Int32, Int64}
 use Rattle.mega_base.specs.declared.values.Kind.{Kind}
@@ -18,7 +19,7 @@ use Rattle.mega_keys.specs.Fit.{has_kind}
 use Rattle.mega_index.specs.Cells.{values_of, key_values, leading, is_listed, cell_set, row_set}
 use Rattle.mega_index.specs.Fits.{numbered, cell_fits, cells_fit, is_count, is_filled, has_required, properties_fit, group_of, key_of, has_place, row_fits, with_each, extended, choices, prefix_of, long_in, long_key, indexes_of, group_bytes_of}
 use Rattle.mega_outcome.specs.Changes.{is_number, number_of, number_value}
-use Rattle.mega_tape_laws.proofs.RowKeys.{Standing, both, of_ok}
+use Rattle.mega_tape_laws.proofs.RowKeys.{Standing, of_ok}
 use Rattle.mega_tape_laws.proofs.IndexKeys.{values_in}
 
 -- ---- the number that is put in the place of another
@@ -177,13 +178,13 @@ module _ (row : Row) (q : ℕ) (v w : Value) (has : values_of row q ≡ w ∷ []
   set_even : length (spell v) ≡ length (spell w) → (m : ℕ) → Even (values_of (row_set row q v) m) (values_of row m)
   set_even long m = elim (set_cases m) [
     | inl same ↦ subst (λ vs. Even vs (values_of row m)) (sym same) (even_self (values_of row m))
-    | inr both ↦ coe 0 1 (i. Even (sym both.0 i) (sym both.1 i)) (long, tt)
+    | inr and_parts ↦ coe 0 1 (i. Even (sym and_parts.0 i) (sym and_parts.1 i)) (long, tt)
   ]
 
   set_filled : (need : Need) (m : ℕ) → is_filled need (values_of (row_set row q v) m) ≡ is_filled need (values_of row m)
   set_filled need m = elim (set_cases m) [
     | inl same ↦ ap (is_filled need) same
-    | inr both ↦ ap (is_filled need) both.0 ∙ one need ∙ sym (ap (is_filled need) both.1)
+    | inr and_parts ↦ ap (is_filled need) and_parts.0 ∙ one need ∙ sym (ap (is_filled need) and_parts.1)
   ]
     where
       one : (need : Need) → is_filled need (v ∷ []) ≡ is_filled need (w ∷ [])
@@ -198,14 +199,10 @@ module _ (row : Row) (q : ℕ) (v w : Value) (has : values_of row q ≡ w ∷ []
   set_keys : (ns : List ℕ) → is_listed ns q ≡ false → key_values ns (row_set row q v) ≡ key_values ns row
   set_keys [] h = refl
   set_keys (n ∷ ns) h =
-      let parts = neither (n == q) (is_listed ns q) h in
+      let parts = or_parts (n == q) (is_listed ns q) h in
       let first = set_other q v n row.cells parts.0 in
       let more = set_keys ns parts.1 in
       (λ i. leading (first i) (more i))
-    where
-      neither : (a b : Bool) → a || b ≡ false → (a ≡ false) × (b ≡ false)
-      neither true b g = cc
-      neither false b g = (refl, g)
 
 set_cells_fit : (ps : List Property) (p : Property) (q : ℕ) (v : Value) → numbered ps q ≡ Some p → is_count p.need 1 ≡ true → has_kind p.kind v ≡ true
     → (low : ℕ) (cells : List Cell) → cells_fit ps low cells ≡ true → cells_fit ps low (map (cell_set q v) cells) ≡ true
@@ -213,10 +210,10 @@ set_cells_fit ps p q v at count kind low [] h = refl
 set_cells_fit ps p q v at count kind low (c ∷ cs) h = by (c.property == q) refl (set_cells_fit ps p q v at count kind c.property cs)
   where
     above : nat_lt low c.property ≡ true
-    above = (both (nat_lt low c.property) (cell_fits (numbered ps c.property) c.values && cells_fit ps c.property cs) h).0
+    above = (and_parts (nat_lt low c.property) (cell_fits (numbered ps c.property) c.values && cells_fit ps c.property cs) h).0
 
     parts : (cell_fits (numbered ps c.property) c.values ≡ true) × (cells_fit ps c.property cs ≡ true)
-    parts = both (cell_fits (numbered ps c.property) c.values) (cells_fit ps c.property cs) (both (nat_lt low c.property) (cell_fits (numbered ps c.property) c.values && cells_fit ps c.property cs) h).1
+    parts = and_parts (cell_fits (numbered ps c.property) c.values) (cells_fit ps c.property cs) (and_parts (nat_lt low c.property) (cell_fits (numbered ps c.property) c.values && cells_fit ps c.property cs) h).1
 
     by : (b : Bool) → (c.property == q) ≡ b → (cells_fit ps c.property cs ≡ true → cells_fit ps c.property (map (cell_set q v) cs) ≡ true)
         → cells_fit ps low ((if b then record { property = c.property; values = v ∷ [] } else c) ∷ map (cell_set q v) cs) ≡ true
@@ -239,10 +236,10 @@ add_stands s n t key row q p v w st at number free has kind long = record {
     keys = set_keys row q v w has t.primary free
 
     parts : (has_place s n t row ≡ true) × (is_none (long_key s n t row) ≡ true)
-    parts = both (has_place s n t row) (is_none (long_key s n t row)) st.fits
+    parts = and_parts (has_place s n t row) (is_none (long_key s n t row)) st.fits
 
     properties : (cells_fit t.properties 0 row.cells ≡ true) × (has_required 1 t.properties row ≡ true)
-    properties = both (cells_fit t.properties 0 row.cells) (has_required 1 t.properties row) (both (properties_fit t row) (is_ok (key_of s n t (key_values t.primary row))) parts.0).0
+    properties = and_parts (cells_fit t.properties 0 row.cells) (has_required 1 t.properties row) (and_parts (properties_fit t row) (is_ok (key_of s n t (key_values t.primary row))) parts.0).0
 
     cells : cells_fit t.properties 0 (map (cell_set q v) row.cells) ≡ cells_fit t.properties 0 row.cells
     cells = set_cells_fit t.properties p q v at (one_value p.kind p.need number) kind 0 row.cells properties.0 ∙ sym properties.0

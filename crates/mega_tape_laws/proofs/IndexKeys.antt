@@ -2,6 +2,7 @@
 use Rattle.std.proofs.Common.{◌≡◌, ◌⊎◌, inl, inr, ℕ, ◌+◌, cond, Bool, true, false, ◌&&◌, ◌==◌, if◌then◌else◌, List, [], ◌∷◌, ◌++◌, length, map, filter, find, fold, refl, sym, ap, ◌∙◌, append-nil, eqb-true, Option, Some, None}
 use Rattle.std.specs.List.{list_all}
 use Rattle.std.specs.Option.{option_map_or}
+use Rattle.std.proofs.lemmas.Bool.{and_parts}
 use Rattle.mega_base.specs.declared.values.Value.{Value}
 use Rattle.mega_base.specs.declared.values.Kind.{Kind}
 use Rattle.mega_base.specs.declared.values.Cell.{Cell}
@@ -17,7 +18,7 @@ use Rattle.mega_index.specs.Cells.{values_of, key_values}
 use Rattle.mega_index.specs.Fits.{numbered, cell_fits, cells_fit, is_count, properties_fit, has_place, row_fits, with_each, extended, choices, prefix_of, index_keys, entry_keys}
 use Rattle.mega_tape_laws.specs.Places.{In}
 use Rattle.mega_tape_laws.proofs.Spelled.{SameKinds, same_kinds, fronts, values_split, alike_rows}
-use Rattle.mega_tape_laws.proofs.RowKeys.{Standing, Behind, key_spelt, both}
+use Rattle.mega_tape_laws.proofs.RowKeys.{Standing, Behind, key_spelt}
 
 -- ---- members of lists
 
@@ -50,15 +51,15 @@ pub record OfKind (ps : List Property) (n : ℕ) (v : Value) : Type 0 where
 
 all_of : {X : Type 0} (test : X → Bool) (xs : List X) (x : X) → list_all test xs ≡ true → In x xs → test x ≡ true
 all_of test [] x h i = absurd i
-all_of test (y ∷ xs) x h (inl same) = ap test (sym same) ∙ (both (test y) (list_all test xs) h).0
-all_of test (y ∷ xs) x h (inr i) = all_of test xs x (both (test y) (list_all test xs) h).1 i
+all_of test (y ∷ xs) x h (inl same) = ap test (sym same) ∙ (and_parts (test y) (list_all test xs) h).0
+all_of test (y ∷ xs) x h (inr i) = all_of test xs x (and_parts (test y) (list_all test xs) h).1 i
 
 cell_kind : (ps : List Property) (n : ℕ) (values : List Value) (v : Value) → cell_fits (numbered ps n) values ≡ true → In v values → OfKind ps n v
 cell_kind ps n values v h i = by (numbered ps n) refl h
   where
     by : (o : Option Property) → numbered ps n ≡ o → cell_fits o values ≡ true → OfKind ps n v
     by None is g = cc
-    by (Some p) is g = record { property = p; numbered_is = is; kind_is = all_of (has_kind p.kind) values v (both (is_count p.need (length values)) (list_all (has_kind p.kind) values) g).1 i }
+    by (Some p) is g = record { property = p; numbered_is = is; kind_is = all_of (has_kind p.kind) values v (and_parts (is_count p.need (length values)) (list_all (has_kind p.kind) values) g).1 i }
 
 abbrev pub values_in : List Cell → ℕ → List Value
 values_in cells n = option_map_or (λ (c : Cell). c.values) (find (λ (c : Cell). c.property == n) cells) []
@@ -68,17 +69,17 @@ value_kind ps low [] n v h i = absurd i
 value_kind ps low (c ∷ cs) n v h i = by (c.property == n) refl (value_kind ps c.property cs n v) i
   where
     parts : (cell_fits (numbered ps c.property) c.values ≡ true) × (cells_fit ps c.property cs ≡ true)
-    parts = both (cell_fits (numbered ps c.property) c.values) (cells_fit ps c.property cs) (both _ (cell_fits (numbered ps c.property) c.values && cells_fit ps c.property cs) h).1
+    parts = and_parts (cell_fits (numbered ps c.property) c.values) (cells_fit ps c.property cs) (and_parts _ (cell_fits (numbered ps c.property) c.values && cells_fit ps c.property cs) h).1
 
     by : (b : Bool) → (c.property == n) ≡ b → (cells_fit ps c.property cs ≡ true → In v (values_in cs n) → OfKind ps n v) → In v (option_map_or (λ (c : Cell). c.values) (cond b (Some c) (find (λ (c : Cell). c.property == n) cs)) []) → OfKind ps n v
     by true is more j = cell_kind ps n c.values v (ap (λ m. cell_fits (numbered ps m) c.values) (sym (eqb-true c.property n is)) ∙ parts.0) j
     by false is more j = more parts.1 j
 
 pub fits_properties : (s : Schema) (n : ℕ) (t : Table) (row : Row) → row_fits s n t row ≡ true → properties_fit t row ≡ true
-fits_properties s n t row h = (both (properties_fit t row) _ (both (has_place s n t row) _ h).0).0
+fits_properties s n t row h = (and_parts (properties_fit t row) _ (and_parts (has_place s n t row) _ h).0).0
 
 row_kind : (s : Schema) (n : ℕ) (t : Table) (row : Row) (m : ℕ) (v : Value) → row_fits s n t row ≡ true → In v (values_of row m) → OfKind t.properties m v
-row_kind s n t row m v h i = value_kind t.properties 0 row.cells m v (both (cells_fit t.properties 0 row.cells) _ (fits_properties s n t row h)).0 i
+row_kind s n t row m v h i = value_kind t.properties 0 row.cells m v (and_parts (cells_fit t.properties 0 row.cells) _ (fits_properties s n t row h)).0 i
 
 -- ---- choices of values
 

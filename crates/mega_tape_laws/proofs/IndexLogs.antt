@@ -18,14 +18,14 @@ use Rattle.mega_tape_laws.proofs.IndexSteps.{changes_kept, fitted_kept}
 use Rattle.mega_tape_laws.proofs.IndexShown.{is_indexed}
 use Rattle.mega_tape_laws.proofs.LogSteps.{Keeps, log_keeps}
 
-none_kept : (s : Schema) (group : List ℕ) → Kept s group no_rows
+pub none_kept : (s : Schema) (group : List ℕ) → Kept s group no_rows
 none_kept s group = record {
   fit = λ at n t row h g none. cc;
   have = λ key stored h owner. let none = owner.stands in cc;
   only = λ key stored h none. cc;
 }
 
-kept_keeps : (s : Schema) → length s.tables ≤ 64 → (group : List ℕ) → Keeps s group (Kept s group) (λ (t : Transaction). PutValues t.writes) AllPutValues
+pub kept_keeps : (s : Schema) → length s.tables ≤ 64 → (group : List ℕ) → Keeps s group (Kept s group) (λ (t : Transaction). PutValues t.writes) AllPutValues
 kept_keeps s most group = record {
   none = none_kept s group;
   first = λ t ts held. held.0;

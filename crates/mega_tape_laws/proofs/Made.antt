@@ -1,6 +1,7 @@
 -- From a lawful tape to the lists of its voters and operations.
 use Rattle.std.proofs.Common.{◌≡◌, inl, inr, ℕ, ◌==◌, ◌&&◌, Bool, true, false, cond, List, [], ◌∷◌, Option, Some, None, refl, ap, ◌∙◌}
 use Rattle.std.specs.List.{cons_option}
+use Rattle.std.proofs.lemmas.Bool.{and_parts, and_from}
 use Rattle.mega_base.specs.declared.names.GroupId.{GroupId}
 use Rattle.mega_base.specs.declared.names.OpId.{OpId}
 use Rattle.mega_base.specs.declared.names.Position.{Position}
@@ -25,14 +26,6 @@ use Rattle.mega_tape_laws.proofs.Votes.{AllowedAct, LawfulActs}
 
 -- ---- tests
 
-both : (a b : Bool) → (a && b) ≡ true → (a ≡ true) × (b ≡ true)
-both true b h = (refl, h)
-both false b h = cc
-
-joined : (a b : Bool) → a ≡ true → b ≡ true → (a && b) ≡ true
-joined true b h k = k
-joined false b h k = cc
-
 -- a test that passes, and what stood behind it
 pub passes : {X : Type 0} (t : Bool) (o : Option X) (x : X) → cond t o None ≡ Some x → (t ≡ true) × (o ≡ Some x)
 passes true o x h = (refl, h)
@@ -48,21 +41,21 @@ move_is false move other h = cc
 
 pub place_is : (g : GroupId) (n : Position) (p : Place) → (same_group g p.group && n.0 == p.position.0) ≡ true → ◌≡◌ {A = Place} (record { group = g; position = n }) p
 place_is g n p h =
-    let parts = both (same_group g p.group) (n.0 == p.position.0) h in
+    let parts = and_parts (same_group g p.group) (n.0 == p.position.0) h in
     λ i. record { group = same_group_equal g p.group parts.0 i; position = record { 0 = number_is n.0 p.position.0 parts.1 i } }
 
 pub same_place_self : (p : Place) → (same_group p.group p.group && p.position.0 == p.position.0) ≡ true
-same_place_self p = joined (same_group p.group p.group) (p.position.0 == p.position.0) (same_group_self p.group) (number_self p.position.0)
+same_place_self p = and_from (same_group p.group p.group) (p.position.0 == p.position.0) (same_group_self p.group) (number_self p.position.0)
 
 -- the operation and the place of a move
 pub moved_at : (op : OpId) (p : Place) (o : OpId) (g : GroupId) (n : Position) → is_move_at op p o g n ≡ true → (o ≡ op) × (◌≡◌ {A = Place} (record { group = g; position = n }) p)
 moved_at op p o g n h =
-    let outer = both (same_op o op && same_group g p.group) (n.0 == p.position.0) h in
-    let inner = both (same_op o op) (same_group g p.group) outer.0 in
-    (same_op_equal o op inner.0, place_is g n p (joined (same_group g p.group) (n.0 == p.position.0) inner.1 outer.1))
+    let outer = and_parts (same_op o op && same_group g p.group) (n.0 == p.position.0) h in
+    let inner = and_parts (same_op o op) (same_group g p.group) outer.0 in
+    (same_op_equal o op inner.0, place_is g n p (and_from (same_group g p.group) (n.0 == p.position.0) inner.1 outer.1))
 
 moves_here : (op : OpId) (p : Place) → is_move_at op p op p.group p.position ≡ true
-moves_here op p = joined (same_op op op && same_group p.group p.group) (p.position.0 == p.position.0) (joined (same_op op op) (same_group p.group p.group) (same_op_self op) (same_group_self p.group)) (number_self p.position.0)
+moves_here op p = and_from (same_op op op && same_group p.group p.group) (p.position.0 == p.position.0) (and_from (same_op op op) (same_group p.group p.group) (same_op_self op) (same_group_self p.group)) (number_self p.position.0)
 
 -- ---- what a message makes
 

@@ -1,7 +1,7 @@
 -- No message is entered twice, and none handled twice: each entry names at most one, which the entries below it do not.
-use Rattle.std.proofs.Common.{◌≡◌, ◌⊎◌, inl, inr, ℕ, zero, suc, ◌<◌, ◌==◌, ◌&&◌, ◌||◌, Bool, true, false, not, cond, List, [], ◌∷◌, ◌++◌, map, length, take, slice_get, Some, refl, sym, ap, ◌∙◌, subst, arith}
+use Rattle.std.proofs.Common.{◌≡◌, ◌⊎◌, inl, inr, ℕ, zero, suc, ◌<◌, ◌==◌, ◌&&◌, Bool, true, false, not, cond, List, [], ◌∷◌, ◌++◌, map, length, take, slice_get, Some, refl, sym, ap, ◌∙◌, subst, arith}
 use Rattle.std.specs.Prelude.{Contains, find, flat_map}
-use Rattle.std.proofs.lemmas.Bool.{cases_lt}
+use Rattle.std.proofs.lemmas.Bool.{cases_lt, or_parts, not-true}
 use Rattle.mega_base.specs.declared.names.GroupId.{GroupId}
 use Rattle.mega_base.specs.declared.names.OpId.{OpId}
 use Rattle.mega_cluster.specs.declared.cluster.Cluster.{Cluster}
@@ -89,19 +89,11 @@ joined true true false h k l = cc
 same_name_self : (a : Name) → same_name a a ≡ true
 same_name_self a = joined (same_group a.group a.group) (a.position.0 == a.position.0) (a.place == a.place) (same_group_self a.group) (number_self a.position.0) (number_self a.place)
 
-neither : (t u : Bool) → (t || u) ≡ false → (t ≡ false) × (u ≡ false)
-neither true u h = cc
-neither false u h = (refl, h)
-
 not_named : (names : List Name) (name : Name) → is_named name names ≡ false → IsFreshIn names name
 not_named [] name h k other at same = cc
 not_named (x ∷ names) name h zero other at same =
-    clash (same_name name x) (subst (λ y. same_name name y ≡ true) (same ∙ sym (some_is x other at)) (same_name_self name)) (neither (same_name name x) (is_named name names) h).0
-not_named (x ∷ names) name h (suc k) other at same = not_named names name (neither (same_name name x) (is_named name names) h).1 k other at same
-
-not_true : (t : Bool) → not t ≡ true → t ≡ false
-not_true true h = cc
-not_true false h = refl
+    clash (same_name name x) (subst (λ y. same_name name y ≡ true) (same ∙ sym (some_is x other at)) (same_name_self name)) (or_parts (same_name name x) (is_named name names) h).0
+not_named (x ∷ names) name h (suc k) other at same = not_named names name (or_parts (same_name name x) (is_named name names) h).1 k other at same
 
 find_passes : (test : Enter → Bool) (xs : List Enter) (x : Enter) → find test xs ≡ Some x → test x ≡ true
 find_passes test [] x h = cc
@@ -112,7 +104,7 @@ find_passes test (y ∷ xs) x h = go (test y) refl (find_passes test xs x) h
     go false is later k = later k
 
 not_handled : (below : List Content) (message : Enter) → oldest_unhandled below ≡ Some message → is_named message.name (handled_in below) ≡ false
-not_handled below message h = not_true (is_named message.name (handled_in below)) (find_passes (λ (enter : Enter). not (is_named enter.name (handled_in below))) (entered_in below) message h)
+not_handled below message h = not-true (is_named message.name (handled_in below)) (find_passes (λ (enter : Enter). not (is_named enter.name (handled_in below))) (entered_in below) message h)
 
 -- ---- what an own entry enters and handles
 

@@ -1,5 +1,6 @@
 -- A poll of a majority hears of each position that was decided before its operation began, from a voter that accepted there.
-use Rattle.std.proofs.Common.{◌≡◌, ◌⊎◌, inl, inr, ℕ, ◌≤◌, ◌||◌, Bool, true, false, List, [], ◌∷◌, refl, sym, ap, ◌∙◌, subst, arith}
+use Rattle.std.proofs.Common.{◌≡◌, ◌⊎◌, inl, inr, ℕ, ◌≤◌, Bool, true, false, List, [], ◌∷◌, refl, sym, ap, ◌∙◌, subst, arith}
+use Rattle.std.proofs.lemmas.Bool.{or_right, or_left}
 use Rattle.mega_base.specs.declared.names.GroupId.{GroupId}
 use Rattle.mega_base.specs.declared.names.NodeId.{NodeId}
 use Rattle.mega_base.specs.declared.names.OpId.{OpId}
@@ -52,21 +53,13 @@ vote_stays p item voter b e (other ∷ before) (inr s) = in_tail (act_of voter p
 -- ---- who is told asked
 
 asked_then : (item : Item) (before : List Item) (op : OpId) → has_asked before op ≡ true → has_asked (item ∷ before) op ≡ true
-asked_then (Sent number m) before op h = go (is_asking op m.body) (has_asked before op) h
-  where
-    go : (t u : Bool) → u ≡ true → (t || u) ≡ true
-    go true u k = refl
-    go false u k = k
+asked_then (Sent number m) before op h = or_right (is_asking op m.body) (has_asked before op) h
 asked_then _ before op h = h
-
-either : (t u : Bool) → t ≡ true → (t || u) ≡ true
-either true u h = refl
-either false u h = cc
 
 asked_is : (tape : List Item) (key from to : ℕ) (op : OpId) (group : GroupId) → Stands (Sent key (message from to (Where op group))) tape → has_asked tape op ≡ true
 asked_is [] key from to op group s = absurd s
 asked_is (item ∷ before) key from to op group (inl same) =
-    subst (λ x. has_asked (x ∷ before) op ≡ true) (sym same) (either (same_op op op) (has_asked before op) (same_op_self op))
+    subst (λ x. has_asked (x ∷ before) op ≡ true) (sym same) (or_left (same_op op op) (has_asked before op) (same_op_self op))
 asked_is (item ∷ before) key from to op group (inr s) = asked_then item before op (asked_is before key from to op group s)
 
 told_asked : (tape : List Item) → ArePolls tape → (key voter to : ℕ) (op : OpId) (group : GroupId) (top : Position) → Stands (Sent key (message voter to (Top op group top))) tape → has_asked tape op ≡ true

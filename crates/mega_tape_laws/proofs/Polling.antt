@@ -23,7 +23,7 @@ pub writes : LawfulWrites cluster asks_put (newest polled)
 writes = record { lawful = (tt, (tt, (tt, (tt, (tt, (tt, (tt, (tt, (tt, lawful))))))))); written = (tt, (tt, (tt, (tt, (tt, (tt, (tt, (tt, (λ named. refl, written))))))))) }
 
 -- the one vote is at position 1
-one_vote : (n : Position) (b : Ballot) (e : Content) → In (Voted b e) (cons_option (act_if (1 == n.0) (Voted zero_ballot (entry_of 1))) []) → n.0 ≤ 1
+pub one_vote : (n : Position) (b : Ballot) (e : Content) → In (Voted b e) (cons_option (act_if (1 == n.0) (Voted zero_ballot (entry_of 1))) []) → n.0 ≤ 1
 one_vote n b e i = go (1 == n.0) (number_is 1 n.0) i
   where
     go : (t : Bool) → (t ≡ true → 1 ≡ n.0) → In (Voted b e) (cons_option (act_if t (Voted zero_ballot (entry_of 1))) []) → n.0 ≤ 1

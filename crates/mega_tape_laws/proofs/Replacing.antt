@@ -71,7 +71,7 @@ pub key_in_at : (s : Schema) (group : List ℕ) (i n : ℕ) (t : Table) (values 
     → (group_of s n t values ≡ Ok group) × (key_of s n t values ≡ Ok key)
 key_in_at s group i n t values key is h = placed_ok i group (group_of s n t values) (key_of s n t values) key (sym (ap (λ o. key_in_table s group i n o values) is) ∙ h)
 
-key_in_table_of : (s : Schema) (group : List ℕ) (i n : ℕ) (values : List Value) (key : List ℕ) → key_in s group i n values ≡ Ok key → (t : Table) × (numbered s.tables n ≡ Some t)
+pub key_in_table_of : (s : Schema) (group : List ℕ) (i n : ℕ) (values : List Value) (key : List ℕ) → key_in s group i n values ≡ Ok key → (t : Table) × (numbered s.tables n ≡ Some t)
 key_in_table_of s group i n values key h = by (numbered s.tables n) h
   where
     by : (o : Option Table) → key_in_table s group i n o values ≡ Ok key → (t : Table) × (o ≡ Some t)

@@ -1,5 +1,6 @@
 -- Row keys of any group: each is that of one table alone, and none is the key of an index entry.
 use Rattle.std.proofs.Common.{◌≡◌, inl, inr, ℕ, ◌+◌, Bool, true, false, ◌||◌, if◌then◌else◌, List, [], ◌∷◌, ◌++◌, drop, refl, sym, ap, ◌∙◌, subst, arith, Option, Some, None, Result, Ok, Err, is_ok, is_none}
+use Rattle.std.proofs.lemmas.Bool.{and_parts}
 use Rattle.mega_base.specs.declared.values.Value.{Value}
 use Rattle.mega_base.specs.declared.values.Row.{Row}
 use Rattle.mega_schema.specs.declared.schema.Table.{Table}
@@ -14,20 +15,20 @@ use Rattle.mega_index.specs.Entries.{local_in, local_entries}
 use Rattle.mega_tape_laws.specs.Indexed.{IsDeclared}
 use Rattle.mega_tape_laws.proofs.Placed.{under}
 use Rattle.mega_tape_laws.proofs.Spelled.{AreOf, SameKinds, same_kinds, values_split}
-use Rattle.mega_tape_laws.proofs.RowKeys.{both, key_spelt, of_front, group_of_key, of_ok}
+use Rattle.mega_tape_laws.proofs.RowKeys.{key_spelt, of_front, group_of_key, of_ok}
 use Rattle.mega_tape_laws.proofs.IndexKeys.{entry_key}
 use Rattle.mega_tape_laws.proofs.IndexKept.{table_least}
 use Rattle.mega_tape_laws.proofs.IndexEntries.{InLocal, local_from}
 
 -- ---- the root of a table
 
-record RootOf (s : Schema) (t : Table) : Type 0 where
-  root : Table
-  numbered_is : numbered s.tables t.root ≡ Some root
-  is_root : is_root_table root ≡ true
-  scatter_is : t.scatter ≡ root.scatter
+pub record RootOf (s : Schema) (t : Table) : Type 0 where
+  pub root : Table
+  pub numbered_is : numbered s.tables t.root ≡ Some root
+  pub is_root : is_root_table root ≡ true
+  pub scatter_is : t.scatter ≡ root.scatter
 
-root_of : (s : Schema) → IsDeclared s → (n : ℕ) (t : Table) → numbered s.tables n ≡ Some t → RootOf s t
+pub root_of : (s : Schema) → IsDeclared s → (n : ℕ) (t : Table) → numbered s.tables n ≡ Some t → RootOf s t
 root_of s d n t is = by (is_root_table t) refl
   where
     by : (b : Bool) → is_root_table t ≡ b → RootOf s t
@@ -46,7 +47,7 @@ record Fronted (s : Schema) (root byte : ℕ) (key : List ℕ) : Type 0 where
   rest : List ℕ
   is : key ≡ root ∷ ((scatter_of table.scatter values ++ spell_all values) ++ byte ∷ rest)
 
-same_first : (x y : ℕ) (xs ys : List ℕ) → x ∷ xs ≡ y ∷ ys → x ≡ y
+pub same_first : (x y : ℕ) (xs ys : List ℕ) → x ∷ xs ≡ y ∷ ys → x ≡ y
 same_first x y xs ys h = cc
 
 front_split : (b : Bool) (vs ws : List Value) (xs ys : List ℕ) → SameKinds vs ws → (scatter_of b vs ++ spell_all vs) ++ xs ≡ (scatter_of b ws ++ spell_all ws) ++ ys → xs ≡ ys
@@ -174,7 +175,7 @@ entry_front s d n t row key w at h = by (row_fits s n t row) refl h
     by : (b : Bool) → row_fits s n t row ≡ b → under (if b then local_in 1 (indexes_of s) n (group_bytes_of s n t row) values row [] else []) key ≡ Some w → EntryFront s t.root key
     by false e g = absurd (none g)
     by true e g =
-        let own = spelled (key_of s n t values) refl (both (properties_fit t row) (is_ok (key_of s n t values)) (both (has_place s n t row) (is_none (long_key s n t row)) e).0).1 in
+        let own = spelled (key_of s n t values) refl (and_parts (properties_fit t row) (is_ok (key_of s n t values)) (and_parts (has_place s n t row) (is_none (long_key s n t row)) e).0).1 in
         elim (local_from 1 (indexes_of s) n (group_bytes_of s n t row) values row [] key w g) [ inl f ↦ found own.0 own.1 f | inr f ↦ absurd (none f) ]
 
 -- no entry of a row stands under a row key

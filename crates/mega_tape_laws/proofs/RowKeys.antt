@@ -1,6 +1,7 @@
 -- Row keys of a group: each is that of one table alone, and behind the group's bytes it has the table's number.
 use Rattle.std.proofs.Common.{◌≡◌, ℕ, zero, suc, ◌+◌, ◌-◌, ◌≤◌, cond, ltb, eqb, Bool, true, false, ◌&&◌, List, [], ◌∷◌, ◌++◌, length, take, drop, slice_get, refl, sym, ap, ◌∙◌, subst, arith, length-append, take_at, take_all, le-ltb, ltb-false, Option, Some, None, Result, Ok, Err}
 use Rattle.std.proofs.lemmas.Bool.Decides.{nat_tests}
+use Rattle.std.proofs.lemmas.Bool.{and_parts}
 use Rattle.mega_base.specs.declared.values.Value.{Value}
 use Rattle.mega_base.specs.declared.values.Kind.{Kind}
 use Rattle.mega_base.specs.declared.values.Shape.{Shape}
@@ -123,7 +124,7 @@ pub record ReadFront (shape : Shape) (key : List ℕ) (vs : List Value) : Type 0
   pub left : List ℕ
   pub read : key_front_at shape key ≡ Ok (vs, left)
 
-read_front : (shape : Shape) (key : List ℕ) (vs : List Value) → read_key_of shape key ≡ Ok vs → ReadFront shape key vs
+pub read_front : (shape : Shape) (key : List ℕ) (vs : List Value) → read_key_of shape key ≡ Ok vs → ReadFront shape key vs
 unfolding key_at
 read_front shape key vs h =
     let a = answer_ok (key_at shape (take 1024 key)) h in
@@ -150,7 +151,7 @@ read_behind shape key vs group h g =
     subst (λ x. Behind x key shape.table) (sym (group_spelt shape (root_part shape vs) group g).is) (front_behind shape key vs r.left r.read)
 
 -- what is read where a key was spelled is alike
-root_reread : (s : Bool) (ks : List Kind) (vs ws : List Value) (rest left : List ℕ) → AreOf ks vs → root_at s ks ((scatter_of s vs ++ spell_all vs) ++ rest) ≡ Ok (ws, left) → RereadAll vs ws rest left
+pub root_reread : (s : Bool) (ks : List Kind) (vs ws : List Value) (rest left : List ℕ) → AreOf ks vs → root_at s ks ((scatter_of s vs ++ spell_all vs) ++ rest) ≡ Ok (ws, left) → RereadAll vs ws rest left
 unfolding root_at marks_at scattered
 root_reread false ks vs ws rest left h e = values_reread ks vs ws rest left h e
 root_reread true ks vs ws rest left h e =
@@ -196,10 +197,6 @@ pub record Standing (s : Schema) (n : ℕ) (t : Table) (key : List ℕ) (row : R
   pub own : key_of s n t (key_values t.primary row) ≡ Ok key
   pub fits : row_fits s n t row ≡ true
 
-pub both : (a b : Bool) → a && b ≡ true → (a ≡ true) × (b ≡ true)
-both true b h = (refl, h)
-both false b h = cc
-
 abbrev is_own : List ℕ → Result (List ℕ) KeyFault → Bool
 is_own key (Ok own) = same_key key own
 is_own key (Err fault) = false
@@ -210,7 +207,7 @@ own_is key (Err fault) h = cc
 
 pub standing : (s : Schema) (n : ℕ) (t : Table) (key : List ℕ) (row : Row) → stands_in s n (Some t) key row ≡ true → Standing s n t key row
 standing s n t key row h =
-    let parts = both (is_own key (key_of s n t (key_values t.primary row))) (row_fits s n t row) h in
+    let parts = and_parts (is_own key (key_of s n t (key_values t.primary row))) (row_fits s n t row) h in
     record { own = own_is key (key_of s n t (key_values t.primary row)) parts.0; fits = parts.1 }
 
 pub stands : (s : Schema) (n : ℕ) (t : Table) (key : List ℕ) (row : Row) → Standing s n t key row → stands_in s n (Some t) key row ≡ true

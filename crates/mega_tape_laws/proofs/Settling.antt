@@ -1,6 +1,7 @@
 -- An entry that is settled, and one of which a full node is not covered.
-use Rattle.std.proofs.Common.{◌≡◌, inl, inr, ℕ, zero, suc, ◌||◌, Bool, true, false, List, [], ◌∷◌, refl, ◌∙◌, ap, subst, arith}
+use Rattle.std.proofs.Common.{◌≡◌, inl, inr, ℕ, zero, suc, Bool, true, false, List, [], ◌∷◌, refl, ◌∙◌, ap, subst, arith}
 use Rattle.std.specs.List.{list_any}
+use Rattle.std.proofs.lemmas.Bool.{or_left, or_right}
 use Rattle.mega_ballot.specs.declared.ballot.Ballot.{Ballot}
 use Rattle.mega_ballot.specs.Order.{zero_ballot}
 use Rattle.mega_entry.specs.declared.content.Content.{Content}
@@ -22,7 +23,7 @@ use Rattle.mega_tape_laws.specs.Lawful.{lowest, spreads}
 pub all_lawful : Lawful cluster (newest all_accept)
 all_lawful = (tt, (tt, (record { asked = record { number = 5; sent = inr (inl refl); taken = inl refl }; answer = refl }, (tt, (spreads 1 refl (lowest refl refl) (record { number = 2; sent = inr (inr (inr (inr (inl refl)))); taken = inr (inr (inr (inl refl))) }), two_accept_lawful)))))
 
-heard : (voter : ℕ) → first_two voter ≡ true → Heard (newest all_accept) voter (op_of 1) (Accepted (op_of 1) group first zero_ballot (entry_of 1))
+pub heard : (voter : ℕ) → first_two voter ≡ true → Heard (newest all_accept) voter (op_of 1) (Accepted (op_of 1) group first zero_ballot (entry_of 1))
 heard zero h = cc
 heard (suc zero) h = record { number = 2; sent = inr (inr (inr (inr (inr (inr (inr (inr (inr (inl refl))))))))); taken = inr (inr (inr (inr (inr (inr (inr (inr (inl refl)))))))) }
 heard (suc (suc zero)) h = record { number = 4; sent = inr (inr (inr (inr (inr (inl refl))))); taken = inr (inl refl) }
@@ -43,16 +44,8 @@ settled = record { ballot = zero_ballot; present = refl; test = first_two; major
 -- what stands on a tape is found on it
 pub finds : (test : Item → Bool) (item : Item) (tape : List Item) → Stands item tape → test item ≡ true → list_any test tape ≡ true
 finds test item [] s t = absurd s
-finds test item (other ∷ before) (inl same) t = either (test other) (list_any test before) (ap test same ∙ t)
-  where
-    either : (a b : Bool) → a ≡ true → (a || b) ≡ true
-    either true b e = refl
-    either false b e = cc
-finds test item (other ∷ before) (inr earlier) t = either (test other) (list_any test before) (finds test item before earlier t)
-  where
-    either : (a b : Bool) → b ≡ true → (a || b) ≡ true
-    either true b e = refl
-    either false b e = e
+finds test item (other ∷ before) (inl same) t = or_left (test other) (list_any test before) (ap test same ∙ t)
+finds test item (other ∷ before) (inr earlier) t = or_right (test other) (list_any test before) (finds test item before earlier t)
 
 -- node 3 sent nothing, and was told nothing
 is_from_three : Item → Bool

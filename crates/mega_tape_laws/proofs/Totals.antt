@@ -1,7 +1,7 @@
 -- How many numbers of a range pass a test; and how many one number more adds.
 use Rattle.std.proofs.Common.{◌≡◌, ◌⊎◌, inl, inr, ℕ, zero, suc, ◌+◌, ◌<◌, ◌≤◌, Bool, true, false, cond, refl, ap, ◌∙◌, arith}
 
-pub total : (ℕ → Bool) → ℕ → ℕ → ℕ
+unfoldable pub total : (ℕ → Bool) → ℕ → ℕ → ℕ
 total test from zero = 0
 total test from (suc most) = cond (test from) 1 0 + total test (suc from) most
 

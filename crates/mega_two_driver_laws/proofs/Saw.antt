@@ -1,6 +1,7 @@
 -- What a change has seen, where it is.
 use Rattle.std.proofs.Common.{◌≡◌, ℕ, ◌+◌, ◌==◌, ◌&&◌, ◌||◌, Bool, true, false, nat_lt, if◌then◌else◌, List, [], ◌∷◌, refl, ap, ◌∙◌, sym, subst, arith}
 use Rattle.std.proofs.lemmas.Bool.Decides.{nat_tests}
+use Rattle.std.proofs.lemmas.Bool.{or_right}
 use Rattle.mega_two_driver.specs.of_moves.declared.phase.Ended.{Ended}
 use Rattle.mega_two_driver.specs.of_moves.declared.phase.Ended.TheVariants.{Committed, Aborted, Used, Open}
 use Rattle.mega_two_driver.specs.of_moves.declared.phase.Phase.{Phase}
@@ -37,14 +38,6 @@ none_before closed part is = absurd (no part is)
   where
     no : (part : ℕ) → nat_lt part 0 ≡ true → ⊥
     no part is = grind (arith, nat_tests)
-
-or_right : (a b : Bool) → b ≡ true → (a || b) ≡ true
-or_right true b is = refl
-or_right false b is = is
-
-or_left : (a b : Bool) → a ≡ true → (a || b) ≡ true
-or_left true b is = refl
-or_left false b is = absurd (cc)
 
 reaches : (count i part : ℕ) → nat_lt i count ≡ false → nat_lt part count ≡ true → nat_lt part i ≡ true
 reaches count i part beyond is = grind (arith, nat_tests)

@@ -2,14 +2,13 @@
 use Rattle.std.proofs.Common.{◌≡◌, ℕ, suc, ◌≤◌, ◌||◌, ◌&&◌, cond, Bool, true, false, List, [], ◌∷◌, ◌++◌, length, refl, sym, ap, ◌∙◌, arith}
 use Rattle.std.specs.Prelude.{not}
 use Rattle.std.specs.List.{list_any, list_all}
-use Rattle.std.proofs.lemmas.Bool.{and_parts, false≢true}
+use Rattle.std.proofs.lemmas.Bool.{and_parts, false≢true, not-true, or_parts}
 use Rattle.mega_syntax.specs.Names.{same}
 use Rattle.mega_schema.specs.declared.schema.Property.{Property}
 use Rattle.mega_schema.specs.Lookup.{is_among as is_listed, stands_twice}
 use Rattle.mega_schema.specs.Rules.{property_names}
 use Rattle.mega_schema.proofs.Naming.{same_is, same_self, same_other}
 use Rattle.mega_two_driver.specs.Tables.{same_kind, is_required, is_property, is_among}
-use Rattle.mega_two_outcome_laws.proofs.Outline.{neither}
 use Rattle.mega_two_outcome_laws.proofs.Tabled.{any_weaker}
 
 -- one of them has the name
@@ -23,17 +22,13 @@ apart (w ∷ ws) = not (named w.name ws) && apart ws
 abbrev pub are_named : List Property → List Property → Bool
 are_named ws ps = list_all (λ (p : Property). named p.name ws) ps
 
-pub negated : (b : Bool) → not b ≡ true → b ≡ false
-negated true e = absurd (cc)
-negated false e = refl
-
 pub apart_from : (a b : List ℕ) → same a b ≡ false → a ≡ b → ⊥
 apart_from a b e is = false≢true (sym e ∙ ap (λ x. same x b) is ∙ same_self b)
 
 pub once : (ps : List Property) → stands_twice (property_names ps) ≡ false → apart ps ≡ true
 once [] e = refl
 once (p ∷ ps) e =
-    let q = neither (is_listed (property_names ps) p.name) (stands_twice (property_names ps)) e in
+    let q = or_parts (is_listed (property_names ps) p.name) (stands_twice (property_names ps)) e in
     (λ i. not ((sym (listed ps) ∙ q.0) i) && once ps q.1 i)
   where
     listed : (xs : List Property) → is_listed (property_names xs) p.name ≡ named p.name xs
@@ -49,14 +44,14 @@ without k (p ∷ ps) = cond (same p.name k) (without k ps) (p ∷ without k ps)
 all_there : (k : List ℕ) (ps : List Property) → named k ps ≡ false → without k ps ≡ ps
 all_there k [] e = refl
 all_there k (p ∷ ps) e =
-    let q = neither (same p.name k) (named k ps) e in
+    let q = or_parts (same p.name k) (named k ps) e in
     ap (λ b. cond b (without k ps) (p ∷ without k ps)) q.0 ∙ ap (λ xs. p ∷ xs) (all_there k ps q.1)
 
 one_less : (k : List ℕ) (ps : List Property) → apart ps ≡ true → length ps ≤ suc (length (without k ps))
 one_less k [] e = omega arith
 one_less k (p ∷ ps) e =
     let q = and_parts (not (named p.name ps)) (apart ps) e in
-    by (same p.name k) refl (one_less k ps q.1) (negated (named p.name ps) q.0)
+    by (same p.name k) refl (one_less k ps q.1) (not-true (named p.name ps) q.0)
   where
     by : (b : Bool) → same p.name k ≡ b → length ps ≤ suc (length (without k ps)) → named p.name ps ≡ false → suc (length ps) ≤ suc (length (cond b (without k ps) (p ∷ without k ps)))
     by false is rest none = omega (arith, rest)
@@ -67,7 +62,7 @@ one_less k (p ∷ ps) e =
 still_none : (m k : List ℕ) (ps : List Property) → named m ps ≡ false → named m (without k ps) ≡ false
 still_none m k [] e = refl
 still_none m k (p ∷ ps) e =
-    let q = neither (same p.name m) (named m ps) e in
+    let q = or_parts (same p.name m) (named m ps) e in
     by (same p.name k) (still_none m k ps q.1) q.0
   where
     by : (b : Bool) → named m (without k ps) ≡ false → same p.name m ≡ false → named m (cond b (without k ps) (p ∷ without k ps)) ≡ false
@@ -78,7 +73,7 @@ still_apart : (k : List ℕ) (ps : List Property) → apart ps ≡ true → apar
 still_apart k [] e = refl
 still_apart k (p ∷ ps) e =
     let q = and_parts (not (named p.name ps)) (apart ps) e in
-    by (same p.name k) (still_apart k ps q.1) (still_none p.name k ps (negated (named p.name ps) q.0))
+    by (same p.name k) (still_apart k ps q.1) (still_none p.name k ps (not-true (named p.name ps) q.0))
   where
     by : (b : Bool) → apart (without k ps) ≡ true → named p.name (without k ps) ≡ false → apart (cond b (without k ps) (p ∷ without k ps)) ≡ true
     by true rest none = rest
@@ -135,18 +130,18 @@ pub apart_front : (xs ys : List Property) → apart (xs ++ ys) ≡ true → apar
 apart_front [] ys e = refl
 apart_front (x ∷ xs) ys e =
     let q = and_parts (not (named x.name (xs ++ ys))) (apart (xs ++ ys)) e in
-    (λ i. not (front xs (negated (named x.name (xs ++ ys)) q.0) i) && apart_front xs ys q.1 i)
+    (λ i. not (front xs (not-true (named x.name (xs ++ ys)) q.0) i) && apart_front xs ys q.1 i)
   where
     front : (zs : List Property) → named x.name (zs ++ ys) ≡ false → named x.name zs ≡ false
     front [] g = refl
-    front (z ∷ zs) g = let p = neither (same z.name x.name) (named x.name (zs ++ ys)) g in (λ i. p.0 i || front zs p.1 i)
+    front (z ∷ zs) g = let p = or_parts (same z.name x.name) (named x.name (zs ++ ys)) g in (λ i. p.0 i || front zs p.1 i)
 
 pub none_before : (xs : List Property) (y : Property) (ys : List Property) → apart (xs ++ y ∷ ys) ≡ true → named y.name xs ≡ false
 none_before [] y ys e = refl
 none_before (x ∷ xs) y ys e =
     let q = and_parts (not (named x.name (xs ++ y ∷ ys))) (apart (xs ++ y ∷ ys)) e in
-    (λ i. (same_other x.name y.name ∙ met xs (negated (named x.name (xs ++ y ∷ ys)) q.0)) i || none_before xs y ys q.1 i)
+    (λ i. (same_other x.name y.name ∙ met xs (not-true (named x.name (xs ++ y ∷ ys)) q.0)) i || none_before xs y ys q.1 i)
   where
     met : (zs : List Property) → named x.name (zs ++ y ∷ ys) ≡ false → same y.name x.name ≡ false
-    met [] g = (neither (same y.name x.name) (named x.name ys) g).0
-    met (z ∷ zs) g = met zs (neither (same z.name x.name) (named x.name (zs ++ y ∷ ys)) g).1
+    met [] g = (or_parts (same y.name x.name) (named x.name ys) g).0
+    met (z ∷ zs) g = met zs (or_parts (same z.name x.name) (named x.name (zs ++ y ∷ ys)) g).1

@@ -3,6 +3,7 @@ use Rattle.std.proofs.Common.{◌≡◌, ℕ, zero, suc, ◌+◌, ◌&&◌, ◌|
 use Rattle.std.specs.Prelude.{not, ◌==◌, is_some, if◌then◌else◌}
 use Rattle.std.specs.List.{list_any}
 use Rattle.std.specs.Result.{result_ok}
+use Rattle.std.proofs.lemmas.Bool.{or_parts}
 use Rattle.mega_base.specs.declared.values.Value.{Value}
 use Rattle.mega_base.specs.declared.values.Row.{Row}
 use Rattle.mega_entry.specs.declared.content.Write.{Write}
@@ -28,10 +29,6 @@ use Rattle.mega_two_outcome_laws.proofs.Keyed.{Keyed, names_key, key_again}
 
 -- ---- tables without a local index
 
-both_false : (a b : Bool) → (a || b) ≡ false → (a ≡ false) × (b ≡ false)
-both_false false b e = (refl, e)
-both_false true b e = absurd (cc)
-
 turned_about : (a b : Bool) → (not a && b) ≡ (b && not a)
 turned_about true true = refl
 turned_about true false = refl
@@ -44,7 +41,7 @@ none_local number [] zero n group key row entries e = refl
 none_local number [] (suc k) n group key row entries e = refl
 none_local number (x ∷ xs) zero n group key row entries e = refl
 none_local number (x ∷ xs) (suc k) n group key row entries e =
-    let p = both_false (is_local_over n x) (list_any (is_local_over n) xs) e in
+    let p = or_parts (is_local_over n x) (list_any (is_local_over n) xs) e in
     let other : ((x.table == n) && not x.global) ≡ false = sym (turned_about x.global (x.table == n)) ∙ p.0 in
     ap (local_in (number + 1) (take k xs) n group key row) (by ((x.table == n) && not x.global) other) ∙ none_local (number + 1) xs k n group key row entries p.1
   where

@@ -3,7 +3,7 @@ use Rattle.std.proofs.Common.{◌≡◌, ℕ, suc, ◌≤◌, ◌||◌, ◌&&◌
 use Rattle.std.specs.Prelude.{◌==◌, codes, nat_le, not, is_some}
 use Rattle.std.specs.List.{list_any, list_all}
 use Rattle.std.specs.Option.{option_to_list}
-use Rattle.std.proofs.lemmas.Bool.{and_parts}
+use Rattle.std.proofs.lemmas.Bool.{and_parts, not-true, or_parts}
 use Rattle.std.proofs.lemmas.Bool.Decides.{nat_tests}
 use Rattle.serde_json.specs.Data.{string, Items, no_items, item}
 use Rattle.mega_base.specs.declared.names.GroupId.{GroupId}
@@ -30,10 +30,9 @@ use Rattle.mega_two_outcome_laws.proofs.Keyed.{spelt, no_more}
 use Rattle.mega_two_outcome_laws.proofs.Named.{has_name as named_so}
 use Rattle.mega_two_outcome_laws.proofs.Tabled.{number_found, all_at, all_numbered, HasProperty, has_property, only_wanted}
 use Rattle.mega_two_outcome_laws.proofs.Letters.{is_text, all_plain, name_plain}
-use Rattle.mega_two_outcome_laws.proofs.Outline.{neither}
 use Rattle.mega_two_outcome_laws.proofs.Joined.{both}
 use Rattle.mega_two_outcome_laws.proofs.PartLines.{group_data}
-use Rattle.mega_two_outcome_laws.proofs.Apart.{named, apart, negated, once, all_apart, are_wanted, none_before}
+use Rattle.mega_two_outcome_laws.proofs.Apart.{named, apart, once, all_apart, are_wanted, none_before}
 use Rattle.mega_two_outcome_laws.proofs.Members.{are_valid, are_plain, AreEqual, kind_in}
 
 -- ---- counted
@@ -178,11 +177,11 @@ all_behind test (x ∷ xs) ys e = all_behind test xs ys (and_parts (test x) (lis
 
 pub named_front : (k : List ℕ) (xs ys : List Property) → named k (xs ++ ys) ≡ false → named k xs ≡ false
 named_front k [] ys e = refl
-named_front k (x ∷ xs) ys e = let q = neither (same x.name k) (named k (xs ++ ys)) e in (λ i. q.0 i || named_front k xs ys q.1 i)
+named_front k (x ∷ xs) ys e = let q = or_parts (same x.name k) (named k (xs ++ ys)) e in (λ i. q.0 i || named_front k xs ys q.1 i)
 
 turned : (k : List ℕ) (ws : List Property) → named k ws ≡ false → list_any (λ (other : Property). same k other.name) ws ≡ false
 turned k [] e = refl
-turned k (w ∷ ws) e = let q = neither (same w.name k) (named k ws) e in (λ i. (same_other k w.name ∙ q.0) i || turned k ws q.1 i)
+turned k (w ∷ ws) e = let q = or_parts (same w.name k) (named k ws) e in (λ i. (same_other k w.name ∙ q.0) i || turned k ws q.1 i)
 
 child : (s : Schema) → IsReady s → AreNamedOnce s → (name : List ℕ) (n : ℕ) (key after names : List Property) → list_any (λ (other : Property). same (codes "gid") other.name) after ≡ false
     → is_child_table n (key ++ name_property ∷ after) names (table_named s name) ≡ true → Child s (table_number s name) n key after names
@@ -201,7 +200,7 @@ child s ready onces name n key after names none_after e = by (table_named s name
         let d = and_parts ((length t.properties == length wanted) && list_all (is_among wanted) t.properties) (list_all (is_among t.properties) wanted) c.0 in
         let f = and_parts (length t.properties == length wanted) (list_all (is_among wanted) t.properties) d.0 in
         let r = readied t (all_at is_ready s.tables number.index t ready.tables number.there) in
-        let once_here = negated (stands_twice (property_names t.properties)) (all_at has_names_once s.tables number.index t onces number.there) in
+        let once_here = not-true (stands_twice (property_names t.properties)) (all_at has_names_once s.tables number.index t onces number.there) in
         let long : length wanted ≤ length t.properties = at_least (length t.properties) (length wanted) f.0 in
         let differ = all_apart wanted t.properties (once t.properties once_here) (are_wanted wanted t.properties f.1) long in
         let one = and_parts (is_among t.properties name_property) (list_all (is_among t.properties) after) (all_behind (is_among t.properties) key (name_property ∷ after) d.1) in

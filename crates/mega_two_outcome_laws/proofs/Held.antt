@@ -4,6 +4,7 @@ use Rattle.std.specs.Prelude.{if◌then◌else◌}
 use Rattle.std.specs.declared.cmp.Ordering.{Ordering}
 use Rattle.std.specs.Ordering.{nat_cmp, match_ordering}
 use Rattle.std.specs.Cmp.Lexicographic.{slice_cmp}
+use Rattle.std.proofs.lemmas.Bool.{or_parts}
 use Rattle.serde_json.specs.Data.{Data, null, boolean, number, string, array, object, Items, item, Members, no_members, member, depth, items_depth, members_depth}
 use Rattle.serde_json.specs.Find.{get_member, get}
 use Rattle.serde_json.specs.Read.{of_json}
@@ -11,7 +12,7 @@ use Rattle.serde_json.specs.Written.{compact_text, outline, items_outline, has_f
 use Rattle.mega_json_laws.specs.Whole.{IsWhole, AreWholeItems, AreWholeMembers}
 use Rattle.mega_two_driver.specs.Texts.{value_text}
 use Rattle.mega_two_outcome_laws.proofs.Trees.{text_of, IsGood, AreGood, value_is}
-use Rattle.mega_two_outcome_laws.proofs.Outline.{neither, good, items_good, again}
+use Rattle.mega_two_outcome_laws.proofs.Outline.{good, items_good, again}
 
 -- ---- a value that was read, with no float, nested no deeper than n
 
@@ -46,15 +47,15 @@ pub held_items : (n : ℕ) (ds : Items) → IsHeld (suc n) (array ds) → AreHel
 held_items n ds h = record { whole = h.whole; deep = omega (arith, h.deep); plain = h.plain }
 
 pub held_first : (n : ℕ) (d : Data) (ds : Items) → AreHeld n (item d ds) → IsHeld n d
-held_first n d ds h = record { whole = (h.whole).0; deep = omega (arith, h.deep); plain = (neither (has_float d) (items_have_float ds) h.plain).0 }
+held_first n d ds h = record { whole = (h.whole).0; deep = omega (arith, h.deep); plain = (or_parts (has_float d) (items_have_float ds) h.plain).0 }
 
 pub held_behind : (n : ℕ) (d : Data) (ds : Items) → AreHeld n (item d ds) → AreHeld n ds
-held_behind n d ds h = record { whole = (h.whole).1; deep = omega (arith, h.deep); plain = (neither (has_float d) (items_have_float ds) h.plain).1 }
+held_behind n d ds h = record { whole = (h.whole).1; deep = omega (arith, h.deep); plain = (or_parts (has_float d) (items_have_float ds) h.plain).1 }
 
 held_member : (n : ℕ) (k : List ℕ) (ms : Members) (y : Data) → AreWholeMembers ms → members_depth ms ≤ n → members_have_float ms ≡ false → get_member k ms ≡ Some y → IsHeld n y
 held_member n k no_members y whole deep plain e = absurd (cc)
 held_member n k (member l d ms) y whole deep plain e =
-    let p = neither (has_float d) (members_have_float ms) plain in
+    let p = or_parts (has_float d) (members_have_float ms) plain in
     by (slice_cmp nat_cmp k l) (record { whole = whole.1.0; deep = omega (arith, deep); plain = p.0 }) (held_member n k ms y whole.1.1.1 (omega (arith, deep)) p.1) e
   where
     by : (o : Ordering) → IsHeld n d → (get_member k ms ≡ Some y → IsHeld n y) → match_ordering o (get_member k ms) (Some d) (get_member k ms) ≡ Some y → IsHeld n y

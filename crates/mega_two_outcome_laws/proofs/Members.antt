@@ -5,7 +5,7 @@ use Rattle.std.specs.List.{list_all}
 use Rattle.std.specs.Option.{option_to_list}
 use Rattle.std.specs.Ordering.{nat_cmp, match_ordering}
 use Rattle.std.specs.Cmp.Lexicographic.{slice_cmp}
-use Rattle.std.proofs.lemmas.Bool.{and_parts}
+use Rattle.std.proofs.lemmas.Bool.{and_parts, not-true, or_parts}
 use Rattle.std.proofs.lemmas.Option.{slice_get_within}
 use Rattle.json.specs.Json as json
 use Rattle.json.specs.Print.{quoted as json_quoted}
@@ -32,10 +32,9 @@ use Rattle.mega_two_outcome_laws.proofs.Trees.{text_of, members_text, HasGood}
 use Rattle.mega_two_outcome_laws.proofs.Cells.{cell_is}
 use Rattle.mega_two_outcome_laws.proofs.Letters.{is_text, plain_quoted, plain_utf8}
 use Rattle.mega_two_outcome_laws.proofs.Tabled.{numbered_slice}
-use Rattle.mega_two_outcome_laws.proofs.Outline.{neither}
 use Rattle.mega_two_outcome_laws.proofs.Held.{AreHeld, held_good, held_again, held_first, held_behind, value_said}
 use Rattle.mega_two_outcome_laws.proofs.Joined.{both, worst_item, worst_behind}
-use Rattle.mega_two_outcome_laws.proofs.Apart.{named, apart, negated, apart_from}
+use Rattle.mega_two_outcome_laws.proofs.Apart.{named, apart, apart_from}
 
 -- the values, each under the name of its property, before the members that are left
 abbrev pub keyed : Items → List Property → json.Members → json.Members
@@ -157,14 +156,14 @@ keys_put ms k x [] no_items none h = tt
 keys_put ms k x [] (item d ds) none h = absurd h
 keys_put ms k x (w ∷ ws) no_items none h = absurd h
 keys_put ms k x (w ∷ ws) (item d ds) none h =
-    let q = neither (same w.name k) (named k ws) none in
+    let q = or_parts (same w.name k) (named k ws) none in
     ((get_member-put_other w.name k x ms (apart_from w.name k q.0) ∙ (h.0).0, (h.0).1), keys_put ms k x ws ds q.1 h.1)
 
 kept : (m : List ℕ) (ds : Items) (ws : List Property) (found : Members) → named m ws ≡ false → get_member m (put_keys ds ws found) ≡ get_member m found
 kept m no_items ws found none = refl
 kept m (item d ds) [] found none = refl
 kept m (item d ds) (w ∷ ws) found none =
-    let q = neither (same w.name m) (named m ws) none in
+    let q = or_parts (same w.name m) (named m ws) none in
     kept m ds ws (put w.name d found) q.1 ∙ get_member-put_other m w.name d found (λ e. apart_from w.name m q.0 (sym e))
 
 -- as many values as properties
@@ -180,7 +179,7 @@ keys_there no_items (w ∷ ws) found e fine same = absurd same
 keys_there (item d ds) [] found e fine same = absurd same
 keys_there (item d ds) (w ∷ ws) found e fine same =
     let q = and_parts (not (named w.name ws)) (apart ws) e in (
-      (kept w.name ds ws (put w.name d found) (negated (named w.name ws) q.0) ∙ get_member-put w.name d found, (single d (worst_item value_check d ds fine)).1),
+      (kept w.name ds ws (put w.name d found) (not-true (named w.name ws) q.0) ∙ get_member-put w.name d found, (single d (worst_item value_check d ds fine)).1),
       keys_there ds ws (put w.name d found) q.1 (worst_behind value_check d ds fine) same,
     )
 

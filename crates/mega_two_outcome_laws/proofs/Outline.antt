@@ -1,11 +1,12 @@
 -- Values that were read are spelled as good trees, and read back.
-use Rattle.std.proofs.Common.{◌≡◌, ℕ, zero, suc, ◌≤◌, ◌||◌, pos, negsuc, Bool, true, false, List, refl, ap, ◌∙◌, Some, arith, Less, Greater, nat_cmp}
+use Rattle.std.proofs.Common.{◌≡◌, ℕ, zero, suc, ◌≤◌, pos, negsuc, false, List, refl, ap, ◌∙◌, Some, arith, Less, Greater, nat_cmp}
 use Rattle.std.specs.Prelude.{option_map, option_and_then}
 use Rattle.std.specs.Ordering.{ordering_reverse}
 use Rattle.std.specs.Cmp.Lexicographic.{slice_cmp}
 use Rattle.std.proofs.lemmas.Cmp.{nat_list_cmp_total}
 use Rattle.std.proofs.lemmas.Fmt.{IsAscii-decimal, IsAscii-signed}
 use Rattle.std.proofs.lemmas.Str.{IsUtf8-from_ascii}
+use Rattle.std.proofs.lemmas.Bool.{or_parts}
 use Rattle.json.specs.Json as json
 use Rattle.json.proofs.Printed.Decimals.{IsNumber-decimal, IsNumber-signed_decimal}
 use Rattle.serde_json.specs.Data.{Num, unsigned, negative, float, Data, null, boolean, number, string, array, object, Items, no_items, item, Members, no_members, member, put, depth, items_depth, members_depth}
@@ -15,10 +16,6 @@ use Rattle.serde_json.specs.Written.{number_text, outline, items_outline, member
 use Rattle.serde_json.proofs.Numbers.{number_of-decimal, number_of-negative}
 use Rattle.mega_json_laws.specs.Whole.{AreWholeItems, AreWholeMembers, IsBelow, IsWhole, IsWholeNumber}
 use Rattle.mega_two_outcome_laws.proofs.Trees.{IsGood, AreGood, HasGood}
-
-pub neither : (a b : Bool) → (a || b) ≡ false → (a ≡ false) × (b ≡ false)
-neither false b e = (refl, e)
-neither true b e = absurd (cc)
 
 number_good : (x : Num) (n : ℕ) → IsWholeNumber x → is_float x ≡ false → IsGood n (json.number (number_text x))
 number_good (unsigned k) n whole plain = (IsNumber-decimal k whole, IsUtf8-from_ascii (number_text (unsigned k)) (IsAscii-decimal k whole))
@@ -40,13 +37,13 @@ mutual
   pub items_good : (n : ℕ) (ds : Items) → AreWholeItems ds → items_depth ds ≤ n → items_have_float ds ≡ false → AreGood n (items_outline ds)
   items_good n no_items whole deep plain = tt
   items_good n (item d ds) whole deep plain =
-      let p = neither (has_float d) (items_have_float ds) plain in
+      let p = or_parts (has_float d) (items_have_float ds) plain in
       (good n d whole.0 (omega (arith, deep)) p.0, items_good n ds whole.1 (omega (arith, deep)) p.1)
 
   members_good : (n : ℕ) (ms : Members) → AreWholeMembers ms → members_depth ms ≤ n → members_have_float ms ≡ false → HasGood n (members_outline ms)
   members_good n no_members whole deep plain = tt
   members_good n (member k d ms) whole deep plain =
-      let p = neither (has_float d) (members_have_float ms) plain in
+      let p = or_parts (has_float d) (members_have_float ms) plain in
       (whole.0, (good n d whole.1.0 (omega (arith, deep)) p.0, members_good n ms whole.1.1.1 (omega (arith, deep)) p.1))
 
 -- ---- members that go in one after another, in order
@@ -107,13 +104,13 @@ mutual
   pub items_again : (ds : Items) → AreWholeItems ds → items_have_float ds ≡ false → of_items (items_outline ds) ≡ Some ds
   items_again no_items s plain = refl
   items_again (item d ds) s plain =
-      let p = neither (has_float d) (items_have_float ds) plain in
+      let p = or_parts (has_float d) (items_have_float ds) plain in
       ap (option_and_then (λ e. option_map (item e) (of_items (items_outline ds)))) (again d s.0 p.0) ∙ ap (option_map (item d)) (items_again ds s.1 p.1)
 
   members_again : (ms found : Members) → AreWholeMembers ms → members_have_float ms ≡ false → AreBelowFirst found ms → of_members (members_outline ms) found ≡ Some (join found ms)
   members_again no_members found s plain below = ap Some (join_nil found)
   members_again (member k d ms) found s plain below =
-      let p = neither (has_float d) (members_have_float ms) plain in
+      let p = or_parts (has_float d) (members_have_float ms) plain in
       ap (option_and_then (λ e. of_members (members_outline ms) (put k e found))) (again d s.1.0 p.0)
       ∙ ap (of_members (members_outline ms)) (put_last k d found below)
       ∙ members_again ms (join found (member k d no_members)) s.1.1.1 p.1 (below_first found k d ms below s.1.1.0)

@@ -1,8 +1,8 @@
 -- The own writes of a part stand under no key of a plan, a lock or an end.
-use Rattle.std.proofs.Common.{◌≡◌, ℕ, ◌||◌, Bool, true, false, List, [], ◌∷◌, ◌++◌, refl, sym, ap, ◌∙◌, Option, Some, None}
+use Rattle.std.proofs.Common.{◌≡◌, ℕ, ◌||◌, true, false, List, [], ◌∷◌, ◌++◌, refl, sym, ap, ◌∙◌, Option, Some, None}
 use Rattle.std.specs.Prelude.{codes, not}
 use Rattle.std.specs.List.{list_any, list_all}
-use Rattle.std.proofs.lemmas.Bool.{and_parts, false≢true}
+use Rattle.std.proofs.lemmas.Bool.{and_parts, false≢true, not-true, or_parts}
 use Rattle.mega_entry.specs.declared.content.Write.{Write}
 use Rattle.mega_schema.specs.declared.schema.Table.{Table}
 use Rattle.mega_schema.specs.declared.schema.Schema.{Schema}
@@ -33,14 +33,6 @@ pub record IsFree (s : Schema) (group : List ℕ) (n : ℕ) : Type 0 where
   pub no_end : same table.name (end_table (root_of s group)) ≡ false
   pub bare : list_any (is_local_over n) s.indexes ≡ false
 
-negated : (b : Bool) → not b ≡ true → b ≡ false
-negated true e = absurd (cc)
-negated false e = refl
-
-neither : (a b : Bool) → (a || b) ≡ false → (a ≡ false) × (b ≡ false)
-neither false b e = (refl, e)
-neither true b e = absurd (cc)
-
 pub is_free : (s : Schema) (group : List ℕ) (n : ℕ) → may_write s group n ≡ true → IsFree s group n
 unfolding may_write
 is_free s group n e = by (numbered s.tables n) refl e
@@ -49,9 +41,9 @@ is_free s group n e = by (numbered s.tables n) refl e
     by None there g = absurd (cc)
     by (Some t) there g =
         let p = and_parts (not (is_own_table (root_of s group) t.name)) (not (list_any (is_local_over n) s.indexes)) g in
-        let q = neither (same t.name (codes "TwoPlan") || same t.name (lock_table (root_of s group))) (same t.name (end_table (root_of s group))) (negated (is_own_table (root_of s group) t.name) p.0) in
-        let r = neither (same t.name (codes "TwoPlan")) (same t.name (lock_table (root_of s group))) q.0 in
-        record { table = t; there = there; no_plan = r.0; no_lock = r.1; no_end = q.1; bare = negated (list_any (is_local_over n) s.indexes) p.1 }
+        let q = or_parts (same t.name (codes "TwoPlan") || same t.name (lock_table (root_of s group))) (same t.name (end_table (root_of s group))) (not-true (is_own_table (root_of s group) t.name) p.0) in
+        let r = or_parts (same t.name (codes "TwoPlan")) (same t.name (lock_table (root_of s group))) q.0 in
+        record { table = t; there = there; no_plan = r.0; no_lock = r.1; no_end = q.1; bare = not-true (list_any (is_local_over n) s.indexes) p.1 }
 
 other_table : (s : Schema) (n : ℕ) (t : Table) (name : List ℕ) → numbered s.tables n ≡ Some t → same t.name name ≡ false → n ≡ table_number s name → ⊥
 other_table s n t name there other is = false≢true (sym other ∙ ap (λ (x : List ℕ). same x name) (has_name s name n t there is) ∙ same_self name)

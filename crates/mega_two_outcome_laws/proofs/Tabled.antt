@@ -2,7 +2,7 @@
 use Rattle.std.proofs.Common.{◌≡◌, ℕ, zero, suc, ◌+◌, ◌-◌, ◌<◌, ◌≤◌, ◌&&◌, ◌||◌, cond, Bool, true, false, List, [], ◌∷◌, ◌++◌, length, refl, sym, ap, ◌∙◌, arith, Some, None}
 use Rattle.std.specs.Prelude.{◌==◌, find, position, slice_get, nat_lt, if◌then◌else◌}
 use Rattle.std.specs.List.{list_any, list_all, position_from}
-use Rattle.std.proofs.lemmas.Bool.{and_parts}
+use Rattle.std.proofs.lemmas.Bool.{and_parts, or_right}
 use Rattle.std.proofs.lemmas.Bool.Decides.{nat_tests}
 use Rattle.std.proofs.lemmas.Iterator.Adapters.{position_from-zero}
 use Rattle.std.proofs.lemmas.Option.{slice_get_within}
@@ -94,11 +94,7 @@ any_weaker {A} f g (x ∷ xs) implies e = by (f x) refl (any_weaker f g xs impli
   where
     by : (b : Bool) → f x ≡ b → (list_any f xs ≡ true → list_any g xs ≡ true) → (b || list_any f xs) ≡ true → (g x || list_any g xs) ≡ true
     by true is rest h = ap (λ c. c || list_any g xs) (implies x is)
-    by false is rest h = either (g x) (list_any g xs) (rest h)
-      where
-        either : (a b : Bool) → b ≡ true → (a || b) ≡ true
-        either true b k = refl
-        either false b k = k
+    by false is rest h = or_right (g x) (list_any g xs) (rest h)
 
 -- ---- properties of a table that has exactly these
 

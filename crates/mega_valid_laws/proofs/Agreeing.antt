@@ -2,6 +2,7 @@
 use Rattle.std.proofs.Common.{◌≡◌, ℕ, ◌==◌, ◌&&◌, ◌||◌, nat_lt, Bool, true, false, not, cond, List, [], ◌∷◌, ◌++◌, map, Option, Some, None, is_none, refl, sym, ap, ◌∙◌}
 use Rattle.std.specs.Option.{option_map_or}
 use Rattle.std.specs.Prelude.{option_map}
+use Rattle.std.proofs.lemmas.Bool.{and_parts, and_from}
 use Rattle.mega_base.specs.declared.names.Epoch.{Epoch}
 use Rattle.mega_base.specs.declared.names.GroupId.{GroupId}
 use Rattle.mega_coordinator.specs.declared.answers.Counted.{Counted}
@@ -37,17 +38,13 @@ left_of : (a b : Bool) → (a && b) ≡ true → a ≡ true
 left_of true b h = refl
 left_of false b h = h
 
-both : (a b : Bool) → (a && b) ≡ true → (a ≡ true) × (b ≡ true)
-both true b h = (refl, h)
-both false b h = cc
-
 -- the epoch that a grant counts for is the present one
-present_is : (start : ℕ) (lease : Lease) (e : Epoch) → is_present start lease e ≡ true → epoch_of start lease ≡ Some e
+pub present_is : (start : ℕ) (lease : Lease) (e : Epoch) → is_present start lease e ≡ true → epoch_of start lease ≡ Some e
 present_is start lease e h = by lease.count h
   where
     by : (o : Option ℕ) → option_map_or (λ count. e.start == start && e.count == count) o false ≡ true → option_map (λ count. record { start = start; count = count }) o ≡ Some e
     by None h = cc
-    by (Some count) h = let parts = both (e.start == start) (e.count == count) h in λ i. Some (record { start = sym (number_is e.start start parts.0) i; count = sym (number_is e.count count parts.1) i })
+    by (Some count) h = let parts = and_parts (e.start == start) (e.count == count) h in λ i. Some (record { start = sym (number_is e.start start parts.0) i; count = sym (number_is e.count count parts.1) i })
 
 -- ---- a grant
 
@@ -108,7 +105,7 @@ module _ (start cells : ℕ) (calls : List Call) (served : Option Epoch) (valid 
       lease = lease_of start cells calls
 
       idle : past_ends start lease epoch ≡ true → serving start cells calls ≡ None
-      idle e = by lease.serves (both (is_present start lease epoch) (not lease.serves) e).1
+      idle e = by lease.serves (and_parts (is_present start lease epoch) (not lease.serves) e).1
         where
           by : (t : Bool) → not t ≡ true → cond t (epoch_of start lease) None ≡ None
           by true h = cc
@@ -141,11 +138,7 @@ module _ (start cells : ℕ) (calls : List Call) (served : Option Epoch) (valid 
       by false u k h = cc
 
   same_self : (e : Epoch) → is_same e e ≡ true
-  same_self e = joined (e.start == e.start) (e.count == e.count) (number_self e.start) (number_self e.count)
-    where
-      joined : (a b : Bool) → a ≡ true → b ≡ true → (a && b) ≡ true
-      joined true b h k = k
-      joined false b h k = cc
+  same_self e = and_from (e.start == e.start) (e.count == e.count) (number_self e.start) (number_self e.count)
 
   pub valid_agrees : (group : GroupId) (p : ℕ) (noted : Epoch) → refused start cells calls group p noted ≡ None
       → Agrees start cells (validated group p (serving start cells calls) ++ calls) served (λ other. next_valid other (Validates group p) (valid other))

@@ -1,5 +1,6 @@
 -- What an epoch that serves stands behind.
 use Rattle.std.proofs.Common.{◌≡◌, ◌⊎◌, inl, inr, ℕ, ◌==◌, ◌&&◌, Bool, true, false, cond, List, [], ◌∷◌, Option, Some, None, refl, sym, ap, ◌∙◌, subst}
+use Rattle.std.proofs.lemmas.Bool.{and_parts, and_from}
 use Rattle.mega_base.specs.declared.names.Epoch.{Epoch}
 use Rattle.mega_base.specs.declared.names.NodeId.{NodeId}
 use Rattle.mega_base.specs.declared.names.OpId.{OpId}
@@ -17,14 +18,6 @@ use Rattle.mega_settled_laws.proofs.of_tape_laws.Lists.{some_is}
 use Rattle.mega_settled_laws.proofs.of_tape_laws.Majorities.{Shared}
 use Rattle.mega_valid_laws.specs.Leases.{AreLeased, HoldsNone, IsHeld, IsLeased, NoneAbove, SaysFree, ServedBehind, counted_on, granted_on, serving_on}
 use Rattle.mega_valid_laws.proofs.Orders.{above_not, below_self, cells_meet, epoch_is, neither_below, stood_first}
-
-both : (a b : Bool) → (a && b) ≡ true → (a ≡ true) × (b ≡ true)
-both true b h = (refl, h)
-both false b h = cc
-
-joined : (a b : Bool) → a ≡ true → b ≡ true → (a && b) ≡ true
-joined true b h k = k
-joined false b h k = cc
 
 node_is : (who : NodeId) (node : ℕ) → (who.0 == node) ≡ true → who ≡ number node
 node_is who node h = λ i. record { 0 = number_is who.0 node h i }
@@ -67,7 +60,7 @@ from_if false one other e h k = k
 granted_from : (cell node : ℕ) (e : Epoch) (tape : List Item) → Stands (Grant cell (number node) e) tape → IsFrom (granted_on tape cell node) e
 granted_from cell node e [] s = absurd s
 granted_from cell node e (item ∷ before) (inl same) = subst (λ x. IsFrom (granted_on (x ∷ before) cell node) e) (sym same)
-    (by (cell == cell && node == node) (joined (cell == cell) (node == node) (number_self cell) (number_self node)))
+    (by (cell == cell && node == node) (and_from (cell == cell) (node == node) (number_self cell) (number_self node)))
   where
     by : (t : Bool) → t ≡ true → IsFrom (cond t (after_grant (granted_on before cell node) e) (granted_on before cell node)) e
     by true h = first_from (granted_on before cell node) e
@@ -94,7 +87,7 @@ granted_shown cell node [] = tt
 granted_shown cell node (Grant other to epoch ∷ before) = by (other == cell && to.0 == node) refl (granted_shown cell node before)
   where
     here : (other == cell && to.0 == node) ≡ true → Stands (Grant cell (number node) epoch) (Grant other to epoch ∷ before)
-    here e = let parts = both (other == cell) (to.0 == node) e in inl (λ i. Grant (number_is other cell parts.0 i) (node_is to node parts.1 i) epoch)
+    here e = let parts = and_parts (other == cell) (to.0 == node) e in inl (λ i. Grant (number_is other cell parts.0 i) (node_is to node parts.1 i) epoch)
 
     granted : (o : Option (Epoch × Bool)) → Shown cell node before o → (other == cell && to.0 == node) ≡ true → Shown cell node (Grant other to epoch ∷ before) (after_grant o epoch)
     granted None h e = (here e, λ lapsed. cc)
@@ -115,7 +108,7 @@ granted_shown cell node (Lapse other to epoch ∷ before) = by (other == cell &&
     lapsed (Some last) h e = within (is_same_epoch last.0 epoch) refl
       where
         within : (t : Bool) → is_same_epoch last.0 epoch ≡ t → Shown cell node (Lapse other to epoch ∷ before) (cond t (Some (last.0, false)) (Some last))
-        within true same = let parts = both (other == cell) (to.0 == node) e in
+        within true same = let parts = and_parts (other == cell) (to.0 == node) e in
             (inr h.0, λ ended. inl (λ i. Lapse (number_is other cell parts.0 i) (node_is to node parts.1 i) (sym (epoch_is last.0 epoch same) i)))
         within false same = (inr h.0, λ ended. inr (h.1 ended))
 
@@ -149,8 +142,8 @@ module _ (c : Cluster) (node : ℕ) (e : Epoch) where
   counted_granted cell [] l h = cc
   counted_granted cell (Counts who other epoch ∷ before) l h = elim (counts_if ((who.0 == node && other == cell) && is_same_epoch epoch e) (counted_on before node cell e) h) [
     | inl t ↦
-        let outer = both (who.0 == node && other == cell) (is_same_epoch epoch e) t in
-        let inner = both (who.0 == node) (other == cell) outer.0 in
+        let outer = and_parts (who.0 == node && other == cell) (is_same_epoch epoch e) t in
+        let inner = and_parts (who.0 == node) (other == cell) outer.0 in
         inr (coe 0 1 (i. Stands (Grant (number_is other cell inner.1 i) (node_is who node inner.0 i) (epoch_is epoch e outer.1 i)) before) (l.0).0)
     | inr k ↦ inr (counted_granted cell before l.1 k)
   ]
@@ -169,8 +162,8 @@ module _ (c : Cluster) (node : ℕ) (e : Epoch) where
   granted_served cell (Crash who ∷ before) l s h = inr (granted_served cell before l.1 (ends_if (who.0 == node) e (serving_on before node) s) h)
   granted_served cell (Counts who other epoch ∷ before) l s h = elim (counts_if ((who.0 == node && other == cell) && is_same_epoch epoch e) (counted_on before node cell e) h) [
     | inl t ↦
-        let outer = both (who.0 == node && other == cell) (is_same_epoch epoch e) t in
-        let inner = both (who.0 == node) (other == cell) outer.0 in
+        let outer = and_parts (who.0 == node && other == cell) (is_same_epoch epoch e) t in
+        let inner = and_parts (who.0 == node) (other == cell) outer.0 in
         absurd (let none = sym (subst (λ v. serving_on before v ≡ None) (number_is who.0 node inner.0) (l.0).1) ∙ s in cc)
     | inr k ↦ inr (granted_served cell before l.1 s k)
   ]

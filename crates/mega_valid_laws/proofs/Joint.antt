@@ -1,5 +1,6 @@
 -- The joint invariant: where a group is valid at a node, under an epoch that is safely held, the node has each position that was settled.
-use Rattle.std.proofs.Common.{◌≡◌, ◌⊎◌, inl, inr, ℕ, ◌<◌, ◌≤◌, ◌==◌, ◌&&◌, ◌||◌, Bool, true, false, cond, List, [], ◌∷◌, ◌++◌, Option, Some, None, refl, sym, ap, ◌∙◌, subst, arith}
+use Rattle.std.proofs.Common.{◌≡◌, ◌⊎◌, inl, inr, ℕ, ◌<◌, ◌≤◌, ◌==◌, ◌&&◌, Bool, true, false, cond, List, [], ◌∷◌, ◌++◌, Option, Some, None, refl, sym, ap, ◌∙◌, subst, arith}
+use Rattle.std.proofs.lemmas.Bool.{and_parts, or_left, or_right, and_from}
 use Rattle.mega_base.specs.declared.names.Epoch.{Epoch}
 use Rattle.mega_base.specs.declared.names.GroupId.{GroupId}
 use Rattle.mega_base.specs.declared.names.NodeId.{NodeId}
@@ -23,33 +24,17 @@ use Rattle.mega_settled_laws.specs.of_tape_laws.Polls.{ArePolls, IsPolling, MayT
 use Rattle.mega_settled_laws.proofs.of_tape_laws.Ballots.{clash, number_is, number_self}
 use Rattle.mega_settled_laws.proofs.of_tape_laws.Lists.{in_tail, kept}
 use Rattle.mega_settled_laws.proofs.of_tape_laws.Majorities.{Shared, meet}
-use Rattle.mega_settled_laws.proofs.Tapes.{polls_before}
+use Rattle.mega_settled_laws.proofs.Tapes.{polls_before, stood_behind}
 use Rattle.mega_settled_laws.specs.Covering.{Earlier, HasSettled, IsCoveredSince, WasCovered, asks_about, free, has_asked_about, invalidated, voted}
 use Rattle.mega_valid_laws.specs.Leases.{AreLeased, HasAtLeast, IsHeld, IsLeased, MayBeValid, MayFree, MayObey, ServedBehind, WasChosen, accepted, asks_end, decided, has_polled, serving_on, valid_on}
 use Rattle.mega_valid_laws.proofs.Epochs.{served_behind, serving_stands}
-use Rattle.mega_valid_laws.proofs.Orders.{before_behind, between, moments_ordered, stands_behind, stood_first}
-
-both : (a b : Bool) → (a && b) ≡ true → (a ≡ true) × (b ≡ true)
-both true b h = (refl, h)
-both false b h = cc
-
-left : (a b : Bool) → a ≡ true → (a || b) ≡ true
-left true b h = refl
-left false b h = cc
-
-right : (a b : Bool) → b ≡ true → (a || b) ≡ true
-right true b h = refl
-right false b h = h
-
-joined : (a b : Bool) → a ≡ true → b ≡ true → (a && b) ≡ true
-joined true b h k = k
-joined false b h k = cc
+use Rattle.mega_valid_laws.proofs.Orders.{before_behind, between, moments_ordered, stood_first}
 
 node_is : (who : NodeId) (node : ℕ) → (who.0 == node) ≡ true → who ≡ number node
 node_is who node h = λ i. record { 0 = number_is who.0 node h i }
 
 pub on_longer : (moment tape : List Item) → Earlier moment tape → (item : Item) → Stands item moment → Stands item tape
-on_longer moment tape e item s = subst (Stands item) (sym e.is) (stands_behind e.later moment item s)
+on_longer moment tape e item s = subst (Stands item) (sym e.is) (stood_behind e.later moment item s)
 
 leased_before : (c : Cluster) (later tape : List Item) → AreLeased c (later ++ tape) → AreLeased c tape
 leased_before c [] tape l = l
@@ -92,7 +77,7 @@ vote_heard tape p key voter to op b e s = kept (act_of voter p) (Sent key (messa
   where
     told : act_of voter p (Sent key (message voter to (Accepted op p.group p.position b e))) ≡ Some (Voted b e)
     told = by (voter == voter) (number_self voter) (same_group p.group p.group && p.position.0 == p.position.0)
-        (joined (same_group p.group p.group) (p.position.0 == p.position.0) (same_group_self p.group) (number_self p.position.0))
+        (and_from (same_group p.group p.group) (p.position.0 == p.position.0) (same_group_self p.group) (number_self p.position.0))
       where
         by : (t : Bool) → t ≡ true → (u : Bool) → u ≡ true → cond t (cond u (Some (Voted b e)) None) None ≡ Some (Voted b e)
         by true h true k = refl
@@ -106,11 +91,11 @@ pub polled_is : (tape : List Item) (key from to : ℕ) (op : OpId) (group : Grou
 polled_is [] key from to op group s = absurd s
 polled_is (item ∷ before) key from to op group (inl same) =
     subst (λ x. has_polled (x ∷ before) op group ≡ true) (sym same)
-    (left (same_op op op && same_group group group) (has_polled before op group) (joined (same_op op op) (same_group group group) (same_op_self op) (same_group_self group)))
+    (or_left (same_op op op && same_group group group) (has_polled before op group) (and_from (same_op op op) (same_group group group) (same_op_self op) (same_group_self group)))
 polled_is (item ∷ before) key from to op group (inr s) = then_polled item before (polled_is before key from to op group s)
   where
     then_polled : (item : Item) (before : List Item) → has_polled before op group ≡ true → has_polled (item ∷ before) op group ≡ true
-    then_polled (Sent number m) before h = right (asks_end op group m.body) (has_polled before op group) h
+    then_polled (Sent number m) before h = or_right (asks_end op group m.body) (has_polled before op group) h
     then_polled _ before h = h
 
 told_polled : (tape : List Item) → ArePolls tape → (key voter to : ℕ) (op : OpId) (group : GroupId) (top : Position) → Stands (Sent key (message voter to (Top op group top))) tape → has_polled tape op group ≡ true
@@ -118,7 +103,7 @@ told_polled [] w key voter to op group top s = absurd s
 told_polled (item ∷ before) w key voter to op group top s = then_polled item before (by s (told_polled before w.1 key voter to op group top))
   where
     then_polled : (item : Item) (before : List Item) → has_polled before op group ≡ true → has_polled (item ∷ before) op group ≡ true
-    then_polled (Sent number m) before h = right (asks_end op group m.body) (has_polled before op group) h
+    then_polled (Sent number m) before h = or_right (asks_end op group m.body) (has_polled before op group) h
     then_polled _ before h = h
 
     by : (item ≡ Sent key (message voter to (Top op group top))) ⊎ Stands (Sent key (message voter to (Top op group top))) before
@@ -176,7 +161,7 @@ module _ (c : Cluster) (node : ℕ) (group : GroupId) where
 
   not_noted : (item : Item) (n : Position) → IsOther item → item ≡ Invalid (number node) group n → ⊥
   not_noted item n other same =
-      clash (node == node && same_group group group) (joined (node == node) (same_group group group) (number_self node) (same_group_self group)) (subst IsOther same other)
+      clash (node == node && same_group group group) (and_from (node == node) (same_group group group) (number_self node) (same_group_self group)) (subst IsOther same other)
 
   later_valid : (item : Item) (tape : List Item) → IsOther item → serving_on (item ∷ tape) node ≡ serving_on tape node → LastValid tape → LastValid (item ∷ tape)
   later_valid item tape other same v = record {
@@ -196,7 +181,7 @@ module _ (c : Cluster) (node : ℕ) (group : GroupId) where
   valid_serves : (tape : List Item) → AreLeased c tape → valid_on tape node group ≡ true → Serves tape
   valid_serves [] l h = cc
   valid_serves (Valid who g p ∷ before) l h = elim (valid_if (who.0 == node && same_group g group) (valid_on before node group) h) [
-    | inl t ↦ (let at = both (who.0 == node) (same_group g group) t in record { epoch = (l.0).epoch; is = ap (serving_on before) (sym (number_is who.0 node at.0)) ∙ (l.0).serves })
+    | inl t ↦ (let at = and_parts (who.0 == node) (same_group g group) t in record { epoch = (l.0).epoch; is = ap (serving_on before) (sym (number_is who.0 node at.0)) ∙ (l.0).serves })
     | inr rest ↦ (let s = valid_serves before l.1 rest.1 in record { epoch = s.epoch; is = s.is })
   ]
   valid_serves (Invalid who g p ∷ before) l h = let s = valid_serves before l.1 (ends_if (who.0 == node && same_group g group) (valid_on before node group) h).1 in record { epoch = s.epoch; is = s.is }
@@ -213,7 +198,7 @@ module _ (c : Cluster) (node : ℕ) (group : GroupId) where
   last_valid : (tape : List Item) → AreLeased c tape → valid_on tape node group ≡ true → LastValid tape
   last_valid [] l h = cc
   last_valid (Valid who g p ∷ before) l h = elim (valid_if (who.0 == node && same_group g group) (valid_on before node group) h) [
-    | inl t ↦ (let at = both (who.0 == node) (same_group g group) t in record {
+    | inl t ↦ (let at = and_parts (who.0 == node) (same_group g group) t in record {
       before = before;
       position = p;
       rule = coe 0 1 (i. MayBeValid c before (number_is who.0 node at.0 i) (same_group_equal g group at.1 i) p) l.0;
@@ -243,18 +228,18 @@ module _ (c : Cluster) (node : ℕ) (group : GroupId) where
   behind_later : (e : Epoch) (first : Item) (later moment : List Item) → AreLeased c (later ++ moment) → serving_on moment node ≡ Some e → StoodBefore first (Serving (number node) e) (later ++ moment) → Stands first moment
   behind_later e first [] moment l serves s = stood_first first (Serving (number node) e) moment s
   behind_later e first (item ∷ later) moment l serves (inl head) =
-      absurd ((subst (IsLeased c (later ++ moment)) head.0 l.0).once (stands_behind later moment (Serving (number node) e) (serving_stands c node e moment serves)))
+      absurd ((subst (IsLeased c (later ++ moment)) head.0 l.0).once (stood_behind later moment (Serving (number node) e) (serving_stands c node e moment serves)))
   behind_later e first (item ∷ later) moment l serves (inr s) = behind_later e first later moment l.1 serves s
 
   -- a question about a node that did not stand at a moment
   asked_is : (tape : List Item) (key from to cell : ℕ) (op : OpId) → Stands (Sent key (message from to (Dead op cell (number node)))) tape → has_asked_about tape op node ≡ true
   asked_is [] key from to cell op s = absurd s
   asked_is (item ∷ before) key from to cell op (inl same) =
-      subst (λ x. has_asked_about (x ∷ before) op node ≡ true) (sym same) (left (same_op op op && node == node) (has_asked_about before op node) (joined (same_op op op) (node == node) (same_op_self op) (number_self node)))
+      subst (λ x. has_asked_about (x ∷ before) op node ≡ true) (sym same) (or_left (same_op op op && node == node) (has_asked_about before op node) (and_from (same_op op op) (node == node) (same_op_self op) (number_self node)))
   asked_is (item ∷ before) key from to cell op (inr s) = then_asked item before (asked_is before key from to cell op s)
     where
       then_asked : (item : Item) (before : List Item) → has_asked_about before op node ≡ true → has_asked_about (item ∷ before) op node ≡ true
-      then_asked (Sent number m) before h = right (asks_about op node m.body) (has_asked_about before op node) h
+      then_asked (Sent number m) before h = or_right (asks_about op node m.body) (has_asked_about before op node) h
       then_asked _ before h = h
 
   module _ (tape : List Item) (l : AreLeased c tape) (w : ArePolls tape) (e : Epoch) (held : IsHeld c tape node e) (v : LastValid tape) (n : Position) where

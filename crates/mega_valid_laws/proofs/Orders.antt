@@ -1,7 +1,8 @@
 -- The order in which items stand, and of epochs.
-use Rattle.std.proofs.Common.{◌≡◌, ◌⊎◌, inl, inr, ℕ, ◌+◌, ◌*◌, ◌<◌, ◌≤◌, ◌==◌, ◌&&◌, ◌||◌, nat_lt, Bool, true, false, List, [], ◌∷◌, ◌++◌, length, refl, sym, ap, ◌∙◌, arith}
+use Rattle.std.proofs.Common.{◌≡◌, ◌⊎◌, inl, inr, ℕ, ◌+◌, ◌*◌, ◌<◌, ◌≤◌, ◌==◌, ◌&&◌, nat_lt, Bool, true, false, List, [], ◌∷◌, ◌++◌, length, refl, sym, ap, ◌∙◌, arith}
 use Rattle.std.proofs.lemmas.Bool.Decides.{nat_tests}
 use Rattle.std.proofs.lemmas.List.FromFn.{length-range_with_len}
+use Rattle.std.proofs.lemmas.Bool.{or_cases, or_left, or_right, and_from, false_from_ne_true, and_parts}
 use Rattle.mega_base.specs.declared.names.Epoch.{Epoch}
 use Rattle.mega_cluster.specs.declared.cluster.Cluster.{Cluster}
 use Rattle.mega_wal.specs.History.{is_epoch_below, is_same_epoch}
@@ -16,16 +17,8 @@ use Rattle.mega_settled_laws.specs.Covering.{Earlier}
 
 -- ---- epochs
 
-both : (a b : Bool) → (a && b) ≡ true → (a ≡ true) × (b ≡ true)
-both true b h = (refl, h)
-both false b h = cc
-
-either_true : (a b : Bool) → (a || b) ≡ true → (a ≡ true) ⊎ (b ≡ true)
-either_true true b h = inl refl
-either_true false b h = inr h
-
 pub epoch_is : (a b : Epoch) → is_same_epoch a b ≡ true → a ≡ b
-epoch_is a b h = let parts = both (a.start == b.start) (a.count == b.count) h in λ i. record { start = number_is a.start b.start parts.0 i; count = number_is a.count b.count parts.1 i }
+epoch_is a b h = let parts = and_parts (a.start == b.start) (a.count == b.count) h in λ i. record { start = number_is a.start b.start parts.0 i; count = number_is a.count b.count parts.1 i }
 
 abbrev pub Below : Epoch → Epoch → Type 0
 Below a b = (a.start < b.start) ⊎ ((a.start ≡ b.start) × (a.count < b.count))
@@ -39,27 +32,15 @@ less_is a b h = grind (arith, nat_tests)
 same_is : (a b : ℕ) → a ≡ b → (a == b) ≡ true
 same_is a b h = grind (arith, nat_tests)
 
-left : (a b : Bool) → a ≡ true → (a || b) ≡ true
-left true b h = refl
-left false b h = cc
-
-right : (a b : Bool) → b ≡ true → (a || b) ≡ true
-right true b h = refl
-right false b h = h
-
-joined : (a b : Bool) → a ≡ true → b ≡ true → (a && b) ≡ true
-joined true b h k = k
-joined false b h k = cc
-
 pub below_of : (a b : Epoch) → is_epoch_below a b ≡ true → Below a b
-below_of a b h = elim (either_true (nat_lt a.start b.start) (a.start == b.start && nat_lt a.count b.count) h) [
+below_of a b h = elim (or_cases (nat_lt a.start b.start) (a.start == b.start && nat_lt a.count b.count) h) [
   | inl e ↦ inl (is_less a.start b.start e)
-  | inr e ↦ let parts = both (a.start == b.start) (nat_lt a.count b.count) e in inr (number_is a.start b.start parts.0, is_less a.count b.count parts.1)
+  | inr e ↦ let parts = and_parts (a.start == b.start) (nat_lt a.count b.count) e in inr (number_is a.start b.start parts.0, is_less a.count b.count parts.1)
 ]
 
 of_below : (a b : Epoch) → Below a b → is_epoch_below a b ≡ true
-of_below a b (inl less) = left (nat_lt a.start b.start) (a.start == b.start && nat_lt a.count b.count) (less_is a.start b.start less)
-of_below a b (inr parts) = right (nat_lt a.start b.start) (a.start == b.start && nat_lt a.count b.count) (joined (a.start == b.start) (nat_lt a.count b.count) (same_is a.start b.start parts.0) (less_is a.count b.count parts.1))
+of_below a b (inl less) = or_left (nat_lt a.start b.start) (a.start == b.start && nat_lt a.count b.count) (less_is a.start b.start less)
+of_below a b (inr parts) = or_right (nat_lt a.start b.start) (a.start == b.start && nat_lt a.count b.count) (and_from (a.start == b.start) (nat_lt a.count b.count) (same_is a.start b.start parts.0) (less_is a.count b.count parts.1))
 
 below_below : (a b c : Epoch) → Below a b → Below b c → Below a c
 below_below a b c (inl h) (inl k) = inl (omega (arith, h, k))
@@ -71,19 +52,15 @@ not_below : (a : Epoch) → Below a a → ⊥
 not_below a (inl h) = omega (arith, h)
 not_below a (inr h) = let less = h.1 in omega (arith, less)
 
-false_of : (t : Bool) → (t ≡ true → ⊥) → t ≡ false
-false_of true h = absurd (h refl)
-false_of false h = refl
-
 clash : (t : Bool) → t ≡ true → t ≡ false → ⊥
 clash t h k = cc
 
 pub below_self : (a : Epoch) → is_epoch_below a a ≡ false
-below_self a = false_of (is_epoch_below a a) (λ t. not_below a (below_of a a t))
+below_self a = false_from_ne_true (is_epoch_below a a) (λ t. not_below a (below_of a a t))
 
 -- what is not below stays so for what is above
 pub above_not : (a b e : Epoch) → is_epoch_below a e ≡ false → is_epoch_below a b ≡ true → is_epoch_below b e ≡ false
-above_not a b e h k = false_of (is_epoch_below b e) (λ t. clash (is_epoch_below a e) (of_below a e (below_below a b e (below_of a b k) (below_of b e t))) h)
+above_not a b e h k = false_from_ne_true (is_epoch_below b e) (λ t. clash (is_epoch_below a e) (of_below a e (below_below a b e (below_of a b k) (below_of b e t))) h)
 
 -- two epochs of which neither is below the other are one
 pub neither_below : (a b : Epoch) → is_epoch_below a b ≡ false → is_epoch_below b a ≡ false → a ≡ b
@@ -142,10 +119,6 @@ between first item other (one ∷ before) (inl both) (inl same) apart = absurd (
 between first item other (one ∷ before) (inl both) (inr s) apart = inl (inl (both.0, s))
 between first item other (one ∷ before) (inr h) (inl same) apart = inr (inl (same, stood_first first item before h))
 between first item other (one ∷ before) (inr h) (inr s) apart = elim (between first item other before h s apart) [ inl a ↦ inl (inr a) | inr b ↦ inr (inr b) ]
-
-pub stands_behind : (later tape : List Item) (item : Item) → Stands item tape → Stands item (later ++ tape)
-stands_behind [] tape item s = s
-stands_behind (one ∷ later) tape item s = inr (stands_behind later tape item s)
 
 pub before_behind : (later tape : List Item) (first item : Item) → StoodBefore first item tape → StoodBefore first item (later ++ tape)
 before_behind [] tape first item s = s

@@ -15,13 +15,13 @@ use Rattle.mega_settled_laws.specs.of_tape_laws.of_promises.of_rules.Coordinator
 use Rattle.mega_settled_laws.specs.of_tape_laws.of_promises.of_rules.Logs.{groups_of, prefix_of}
 use Rattle.mega_settled_laws.specs.of_tape_laws.of_promises.of_rules.Members.{has_rows, is_full}
 use Rattle.mega_settled_laws.specs.of_tape_laws.of_promises.of_rules.Operations.{Node, Setting}
-use Rattle.mega_settled_laws.specs.of_tape_laws.of_promises.of_rules.Replies.{reply_to}
-use Rattle.mega_settled_laws.specs.of_tape_laws.of_promises.of_rules.Steps.{Begin, Decision, Event, Heard, Step, Take, Tick, crashed, first_settled, hears_message, if_new, news, onto, op_of, start, start_items, start_note, start_notes, step, taken, told_decision, told_notes}
+use Rattle.mega_settled_laws.specs.of_tape_laws.of_promises.of_rules.Steps.{Begin, Decision, Event, Heard, Step, Take, Tick, crashed, hears_message, onto, op_of, start, start_items, start_note, start_notes, step, told_decision}
 use Rattle.mega_settled_laws.proofs.of_tape_laws.Ballots.{number_is}
 use Rattle.mega_settled_laws.specs.of_run_laws.Justified.{Each, sent}
 use Rattle.mega_settled_laws.proofs.of_run_laws.Events.{each_append as each_both, onto_append}
 use Rattle.mega_settled_laws.proofs.of_run_laws.Noted.{with_append, with_sent}
 use Rattle.mega_settled_laws.proofs.of_run_laws.Runs.{IsMark, Keeps, run_keeps}
+use Rattle.mega_settled_laws.proofs.of_run_laws.Whole.{take_by}
 use Rattle.mega_valid_laws.specs.Leases.{serving_on, valid_on}
 use Rattle.mega_valid_laws.specs.Showing.{next_serving, next_valid, serving_met, valid_met}
 use Rattle.mega_valid_laws.proofs.Folds.{IsOwn, IsOwnNote, Told, after, notes_told, sends_after, sends_told, tells_serving, tells_valid}
@@ -107,11 +107,7 @@ module _ {X : Type 0} (on : List Item → ℕ → X) (next : Met → X → X) (t
 
 -- ---- what a step met
 
-abbrev take_by : Setting → Node → Message → List Heard → Option Decision → Step
-take_by s node m ts (Some d) = taken s node m (told_notes s node.met m.from m.body) ts (if_new node.met (Some d)) (reply_to s.cluster s.me node.met m) []
-take_by s node m ts None = taken s node m (told_notes s node.met m.from m.body) ts (if_new node.met (first_settled ts)) (reply_to s.cluster s.me node.met m) (news s (if_new node.met (first_settled ts)))
-
-step_met : (s : Setting) (node : Node) (event : Event) → ((step s node event).node).met ≡ onto (map Sends (step s node event).sends) (onto (step s node event).notes (met_in s node.met event ∷ node.met))
+pub step_met : (s : Setting) (node : Node) (event : Event) → ((step s node event).node).met ≡ onto (map Sends (step s node event).sends) (onto (step s node event).notes (met_in s node.met event ∷ node.met))
 step_met s node (Tick clock) = refl
 step_met s node (Begin request text) = refl
 step_met s node (Take m) = by (told_decision m.body)

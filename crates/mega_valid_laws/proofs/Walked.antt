@@ -26,12 +26,13 @@ use Rattle.mega_settled_laws.specs.of_tape_laws.of_promises.of_rules.Logs.{group
 use Rattle.mega_settled_laws.specs.of_tape_laws.of_promises.of_rules.Members.{cells, has_rows, is_full, keep_of}
 use Rattle.mega_settled_laws.specs.of_tape_laws.of_promises.of_rules.Operations.{Node, Now, Operation, Setting}
 use Rattle.mega_settled_laws.specs.of_tape_laws.of_promises.of_rules.Acting.{completes_read, ends, sends_more, validated_by}
-use Rattle.mega_settled_laws.specs.of_tape_laws.of_promises.of_rules.Steps.{Begin, Decision, Event, Heard, Step, Take, Tick, acts_in_turn, all_act, applied_at, apply_note, apply_notes, at_first, at_open, background, begin_step, decision_note, does_due, first_settled, hears_message, if_new, is_out, lapse_notes, last_answer, lease_notes, new_operation, news, onto, op_of, portion_of, refusal, step, stored_after, take_step, taken, tick_step, ticked, told_decision, told_notes, unless_refused}
+use Rattle.mega_settled_laws.specs.of_tape_laws.of_promises.of_rules.Steps.{Begin, Decision, Event, Heard, Take, Tick, acts_in_turn, all_act, applied_at, apply_note, apply_notes, at_first, at_open, background, begin_step, decision_note, does_due, first_settled, hears_message, if_new, is_out, lapse_notes, last_answer, lease_notes, new_operation, news, onto, op_of, portion_of, refusal, step, stored_after, take_step, taken, tick_step, ticked, told_decision, told_notes, unless_refused}
 use Rattle.mega_settled_laws.specs.of_tape_laws.of_promises.of_rules.Replies.{reply_to}
 use Rattle.mega_settled_laws.specs.of_run_laws.Justified.{Each}
 use Rattle.mega_settled_laws.proofs.of_run_laws.Events.{IsAnswer, each_append as each_both, onto_append}
 use Rattle.mega_settled_laws.proofs.of_run_laws.Turns.{each_on}
 use Rattle.mega_settled_laws.proofs.Walk.{Walks, begun_it, goes_on_it}
+use Rattle.mega_settled_laws.proofs.of_run_laws.Whole.{take_by}
 use Rattle.mega_valid_laws.specs.Showing.{serving_met, valid_met}
 use Rattle.mega_valid_laws.proofs.Agreeing.{Agrees, grant_agrees, invalid_agrees, pass_agrees, tick_agrees, valid_agrees}
 use Rattle.mega_valid_laws.proofs.Folds.{after_serving, after_valid, onto_serving, onto_valid}
@@ -347,17 +348,13 @@ module _ (s : Setting) (full : is_full s.cluster s.me ≡ true) (node : Node) (a
       now : Now
       now = all_act s (at_first base (stored_after s base node.stored d)) ts
 
-  abbrev take_by : Message → List Heard → Option Decision → Step
-  take_by m ts (Some d) = taken s node m (told_notes s node.met m.from m.body) ts (if_new node.met (Some d)) (reply_to s.cluster s.me node.met m) []
-  take_by m ts None = taken s node m (told_notes s node.met m.from m.body) ts (if_new node.met (first_settled ts)) (reply_to s.cluster s.me node.met m) (news s (if_new node.met (first_settled ts)))
-
   take_agrees : (m : Message) → AgreesAt s.cluster ((take_step s node m).node).met
   take_agrees m = by (told_decision m.body)
     where
       ts : List Heard
       ts = map (hears_message s (clock_of node.met) m) node.open_operations
 
-      by : (told : Option Decision) → AgreesAt s.cluster ((take_by m ts told).node).met
+      by : (told : Option Decision) → AgreesAt s.cluster ((take_by s node m ts told).node).met
       by (Some d) = taken_step m ts (if_new node.met (Some d)) (reply_to s.cluster s.me node.met m) []
       by None = taken_step m ts (if_new node.met (first_settled ts)) (reply_to s.cluster s.me node.met m) (news s (if_new node.met (first_settled ts)))
 

@@ -1,12 +1,10 @@
 -- A tape that is leased, on which a group is valid under an epoch that is held, and an entry settled.
-use Rattle.std.proofs.Common.{◌≡◌, inl, inr, ℕ, zero, suc, ◌≤◌, ◌==◌, Bool, true, false, List, [], ◌∷◌, ◌++◌, refl, ◌∙◌, subst, sym, arith}
-use Rattle.std.specs.List.{cons_option, list_any}
+use Rattle.std.proofs.Common.{◌≡◌, inl, inr, ℕ, zero, suc, ◌≤◌, Bool, true, false, List, [], ◌∷◌, ◌++◌, refl, ◌∙◌, subst, sym, arith}
+use Rattle.std.specs.List.{list_any}
+use Rattle.std.proofs.lemmas.Bool.{false_from_ne_true}
 use Rattle.mega_base.specs.declared.names.Position.{Position}
-use Rattle.mega_ballot.specs.declared.ballot.Ballot.{Ballot}
 use Rattle.mega_ballot.specs.Order.{zero_ballot}
-use Rattle.mega_entry.specs.declared.content.Content.{Content}
 use Rattle.mega_wire.specs.declared.message.Body.TheVariants.{Accepted, Top}
-use Rattle.mega_wal.specs.Acceptor.{Voted}
 use Rattle.mega_wal.specs.History.{is_epoch_below}
 use Rattle.mega_settled_laws.specs.of_tape_laws.of_promises.of_transcript.declared.item.Item.{Item}
 use Rattle.mega_settled_laws.specs.of_tape_laws.of_promises.of_transcript.declared.item.Item.TheVariants.{Counts, Decide, Grant, Invalid, Lapse, Serving, Valid}
@@ -14,17 +12,16 @@ use Rattle.mega_settled_laws.specs.of_tape_laws.of_promises.of_transcript.Tape.{
 use Rattle.mega_settled_laws.specs.of_tape_laws.of_promises.Items.{number}
 use Rattle.mega_settled_laws.specs.of_tape_laws.of_promises.of_rules.Examples.{cluster, entry_of, group, op_of}
 use Rattle.mega_settled_laws.specs.of_tape_laws.of_promises.of_rules.Members.{full_nodes}
-use Rattle.mega_settled_laws.specs.of_tape_laws.of_promises.of_rules.Voting.{act_if}
 use Rattle.mega_settled_laws.specs.of_tape_laws.Examples.{all_accept, first, place}
 use Rattle.mega_settled_laws.specs.of_tape_laws.Lawful.{Heard}
 use Rattle.mega_settled_laws.specs.of_tape_laws.Places.{In}
 use Rattle.mega_settled_laws.specs.of_tape_laws.Polls.{ArePolls}
-use Rattle.mega_settled_laws.proofs.of_tape_laws.Ballots.{number_is}
 use Rattle.mega_settled_laws.proofs.of_tape_laws.Witnesses.{first_two, two_of_three}
 use Rattle.mega_settled_laws.specs.Covering.{IsCoveredSince, WasCovered, voted}
 use Rattle.mega_valid_laws.specs.Leases.{AreLeased, IsHeld, MayBeValid, MayServe, NoneAbove}
 use Rattle.mega_valid_laws.specs.Examples.{epoch, granted, polling, served, validated}
-use Rattle.mega_settled_laws.proofs.of_tape_laws.Settling.{finds}
+use Rattle.mega_settled_laws.proofs.of_tape_laws.Settling.{finds, heard}
+use Rattle.mega_settled_laws.proofs.of_tape_laws.Polling.{one_vote}
 use Rattle.mega_valid_laws.proofs.Orders.{stood_second}
 
 abbrev is_serving : Item → Bool
@@ -43,12 +40,8 @@ abbrev is_above : Item → Bool
 is_above (Grant cell node e) = is_epoch_below epoch e
 is_above _ = false
 
-false_of : (t : Bool) → (t ≡ true → ⊥) → t ≡ false
-false_of true h = absurd (h refl)
-false_of false h = refl
-
 none_above : (tape : List Item) → list_any is_above tape ≡ false → NoneAbove tape 2 epoch
-none_above tape none cell other g = false_of (is_epoch_below epoch other) (λ t. let e : false ≡ true = sym none ∙ finds is_above (Grant cell (number 2) other) tape g t in cc)
+none_above tape none cell other g = false_from_ne_true (is_epoch_below epoch other) (λ t. let e : false ≡ true = sym none ∙ finds is_above (Grant cell (number 2) other) tape g t in cc)
 
 -- ---- the tape
 
@@ -97,24 +90,10 @@ leased = (valid, (tt, (tt, (tt, (tt, (tt, (tt, (tt, (tt, (serves, ((inr (inl ref
 
 -- ---- polls
 
--- the one vote is at position 1
-one_vote : (n : Position) (b : Ballot) (e : Content) → In (Voted b e) (cons_option (act_if (1 == n.0) (Voted zero_ballot (entry_of 1))) []) → n.0 ≤ 1
-one_vote n b e i = go (1 == n.0) (number_is 1 n.0) i
-  where
-    go : (t : Bool) → (t ≡ true → 1 ≡ n.0) → In (Voted b e) (cons_option (act_if t (Voted zero_ballot (entry_of 1))) []) → n.0 ≤ 1
-    go true is j = let same = is refl in omega arith
-    go false is j = absurd j
-
 pub polls : ArePolls validated
 polls = (tt, (tt, (tt, (record { asked = record { number = 8; sent = inr (inr (inr (inl refl))); taken = inl refl }; most = one_vote }, (tt, (record { asked = record { number = 7; sent = inr (inr (inl refl)); taken = inl refl }; most = one_vote }, (tt, (tt, (tt, (tt, (tt, (tt, (tt, (tt, (tt, (tt, (tt, (tt, (tt, (tt, (tt, (tt, (tt, (tt, (tt, (tt, (tt, tt)))))))))))))))))))))))))))
 
 -- ---- what is settled
-
-heard : (voter : ℕ) → first_two voter ≡ true → Heard (newest all_accept) voter (op_of 1) (Accepted (op_of 1) group first zero_ballot (entry_of 1))
-heard zero h = cc
-heard (suc zero) h = record { number = 2; sent = inr (inr (inr (inr (inr (inr (inr (inr (inr (inl refl))))))))); taken = inr (inr (inr (inr (inr (inr (inr (inr (inl refl)))))))) }
-heard (suc (suc zero)) h = record { number = 4; sent = inr (inr (inr (inr (inr (inl refl))))); taken = inr (inl refl) }
-heard (suc (suc (suc n))) h = cc
 
 third : Heard (newest all_accept) 3 (op_of 1) (Accepted (op_of 1) group first zero_ballot (entry_of 1))
 third = record { number = 6; sent = inr (inr (inl refl)); taken = inl refl }

@@ -1,6 +1,7 @@
 -- A group that is valid by what was asked while an earlier epoch served.
 use Rattle.std.proofs.Common.{◌≡◌, inl, inr, ℕ, ◌&&◌, Bool, true, false, not, List, Option, Some, None, refl, ap, sym, ◌∙◌, subst}
 use Rattle.std.specs.List.{list_any}
+use Rattle.std.proofs.lemmas.Bool.{and_from, false_from_ne_true}
 use Rattle.mega_base.specs.declared.names.Epoch.{Epoch}
 use Rattle.mega_base.specs.declared.names.OpId.{OpId}
 use Rattle.mega_base.specs.declared.names.Position.{Position}
@@ -18,7 +19,7 @@ use Rattle.mega_valid_laws.specs.Leases.{AreLeased, MayBeValid, MayServe, NoneAb
 use Rattle.mega_valid_laws.proofs.of_settled_laws.of_tape_laws.Majorities.{Shared, meet}
 use Rattle.mega_valid_laws.proofs.of_settled_laws.of_tape_laws.Witnesses.{first_two, two_of_three}
 use Rattle.mega_witness_laws.specs.Tapes.{next_epoch, polled_across, valid_across}
-use Rattle.mega_witness_laws.proofs.Shown.{AllOf, both, false_of, no_moment, none_stands, stands_of}
+use Rattle.mega_witness_laws.proofs.Shown.{AllOf, no_moment, none_stands, stands_of}
 
 -- ---- all but the last item is allowed
 
@@ -32,7 +33,7 @@ grants_above e _ = false
 
 none_above : (tape : List Item) (e : Epoch) → list_any (grants_above e) tape ≡ false → NoneAbove tape 2 e
 unfolding grants_above
-none_above tape e none cell other g = false_of (is_epoch_below e other) (λ t. none_stands (grants_above e) (Grant cell (number 2) other) tape none t g)
+none_above tape e none cell other g = false_from_ne_true (is_epoch_below e other) (λ t. none_stands (grants_above e) (Grant cell (number 2) other) tape none t g)
 
 may_serve : (tape : List Item) (e : Epoch) → is_same_epoch e e ≡ true → serving_on tape 2 ≡ None → list_any (serves_epoch e) tape ≡ false → list_any (grants_above e) tape ≡ false → MayServe tape (number 2) e
 unfolding serves_epoch
@@ -70,7 +71,7 @@ all_of_one = (refl, (refl, (refl, (refl, (refl, (refl, (refl, (refl, (refl, (ref
 
 heard_across : (m : MayBeValid cluster (newest polled_across) 2 group first) (voter : ℕ) (top : Position) → Heard (newest polled_across) voter m.op (Top m.op group top) → ⊥
 heard_across m voter top h = no_moment unasked m.moment (newest polled_across) refl m.earlier
-    (both (is_second (serving_on m.moment 2)) (not (has_polled m.moment (op_of 2) group)) (ap is_second (m.served ∙ sym m.serves))
+    (and_from (is_second (serving_on m.moment 2)) (not (has_polled m.moment (op_of 2) group)) (ap is_second (m.served ∙ sym m.serves))
     (ap not (subst (λ (op : OpId). has_polled m.moment op group ≡ false) own m.fresh)))
   where
     own : m.op ≡ op_of 2

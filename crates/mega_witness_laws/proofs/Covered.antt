@@ -1,6 +1,7 @@
 -- A full node that is not covered, or by what cells said while an earlier position was covered.
 use Rattle.std.proofs.Common.{◌≡◌, inl, inr, ℕ, zero, suc, ◌<◌, ◌==◌, ◌&&◌, Bool, true, false, not, List, [], ◌∷◌, ◌++◌, Some, None, refl, ap, sym, subst, arith}
 use Rattle.std.specs.List.{list_any}
+use Rattle.std.proofs.lemmas.Bool.{and_from}
 use Rattle.mega_base.specs.declared.names.NodeId.{NodeId}
 use Rattle.mega_base.specs.declared.names.OpId.{OpId}
 use Rattle.mega_ballot.specs.declared.ballot.Ballot.{Ballot}
@@ -26,10 +27,10 @@ use Rattle.mega_valid_laws.proofs.of_settled_laws.of_tape_laws.Majorities.{Share
 use Rattle.mega_valid_laws.proofs.of_settled_laws.of_tape_laws.Witnesses.{first_two, two_of_three}
 use Rattle.mega_valid_laws.proofs.of_settled_laws.of_tape_laws.Writing as put
 use Rattle.mega_valid_laws.specs.of_settled_laws.Covering.{AreSettled, Earlier, HasSettled, IsCoveredSince, OwnSettled, WasCovered, free, has_asked_about, invalidated, voted}
-use Rattle.mega_valid_laws.proofs.of_settled_laws.Tapes.{earlier_stood, now_is, then_later}
-use Rattle.mega_valid_laws.proofs.Orders.{cells_meet, stands_behind}
+use Rattle.mega_valid_laws.proofs.of_settled_laws.Tapes.{earlier_stood, now_is, then_later, stood_behind}
+use Rattle.mega_valid_laws.proofs.Orders.{cells_meet}
 use Rattle.mega_witness_laws.specs.Tapes.{accepted_first, accepted_second, cells_answer, committed_uncovered, covered_before, first_covered}
-use Rattle.mega_witness_laws.proofs.Shown.{AllOf, both, clash, finds, no_moment, none_stands, stands_of}
+use Rattle.mega_witness_laws.proofs.Shown.{AllOf, clash, finds, no_moment, none_stands, stands_of}
 
 -- ---- what no node and no cell says
 
@@ -173,10 +174,10 @@ decisions node p e before stood = by stood.later stood.is
     by : (later : List Item) → newest first_covered ≡ later ++ decides_at node p e ∷ before → WasCovered cluster before p e
     by [] is = coe 0 1 (i. WasCovered cluster (tail_of (is i)) (place_of (head_of (is i))) (entry_in (head_of (is i)))) first_settled
     by (one ∷ later) is = absurd (none_stands is_decision (decides_at node p e) (newest asked_first) refl refl
-        (subst (Stands (decides_at node p e)) (sym (ap tail_of is)) (stands_behind later (decides_at node p e ∷ before) (decides_at node p e) (inl refl))))
+        (subst (Stands (decides_at node p e)) (sym (ap tail_of is)) (stood_behind later (decides_at node p e ∷ before) (decides_at node p e) (inl refl))))
 
 no_answer : {X : Type 0} (op : OpId) (answer : Told) (before : List Item) → StoodOn (Answer op answer) before (newest first_covered) → X
-no_answer op answer before stood = absurd (none_stands is_answer (Answer op answer) (newest first_covered) refl refl (subst (Stands (Answer op answer)) (sym stood.is) (stands_behind stood.later (Answer op answer ∷ before) (Answer op answer) (inl refl))))
+no_answer op answer before stood = absurd (none_stands is_answer (Answer op answer) (newest first_covered) refl refl (subst (Stands (Answer op answer)) (sym stood.is) (stood_behind stood.later (Answer op answer ∷ before) (Answer op answer) (inl refl))))
 
 pub settled_first : AreSettled cluster (newest first_covered)
 settled_first = record {
@@ -220,7 +221,7 @@ accepted_at key voter op b = Sent key (message voter op.node.0 (Accepted op grou
 
 asked_before : (op : OpId) (moment : List Item) (b : Ballot) (voter : ℕ) → Earlier moment (newest asked_second) → Heard moment voter op (Accepted op group second.position b (entry_of 1)) → has_asked_about moment op 3 ≡ false → ⊥
 asked_before op moment b voter earlier h fresh = no_moment unasked moment (newest asked_second) refl earlier
-    (both (list_any accepts_second moment) (not (has_asked_about moment (op_of 1) 3)) (finds accepts_second (accepted_at h.number voter op b) moment h.sent refl)
+    (and_from (list_any accepts_second moment) (not (has_asked_about moment (op_of 1) 3)) (finds accepts_second (accepted_at h.number voter op b) moment h.sent refl)
     (ap not (subst (λ (o : OpId). has_asked_about moment o 3 ≡ false) own fresh)))
   where
     own : op ≡ op_of 1

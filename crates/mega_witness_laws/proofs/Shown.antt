@@ -1,6 +1,7 @@
 -- What a tape that is written out shows: that nothing of a kind stands on it, what all its items have, and that no moment of it passes a test.
-use Rattle.std.proofs.Common.{◌≡◌, inl, inr, ◌&&◌, ◌||◌, Bool, true, false, not, List, [], ◌∷◌, ◌++◌, refl, ap, sym, ◌∙◌, subst}
+use Rattle.std.proofs.Common.{◌≡◌, inl, inr, ◌&&◌, Bool, true, false, not, List, [], ◌∷◌, ◌++◌, refl, ap, sym, ◌∙◌, subst}
 use Rattle.std.specs.List.{list_any}
+use Rattle.std.proofs.lemmas.Bool.{or_left, or_right, not-true}
 use Rattle.mega_base.specs.declared.names.OpId.{OpId}
 use Rattle.mega_valid_laws.specs.of_settled_laws.of_tape_laws.of_transcript.declared.item.Item.{Item}
 use Rattle.mega_valid_laws.specs.of_settled_laws.of_tape_laws.of_promises.Promises.{Stands}
@@ -11,10 +12,6 @@ use Rattle.mega_valid_laws.specs.of_settled_laws.Covering.{Earlier}
 pub clash : (t : Bool) → t ≡ true → t ≡ false → ⊥
 clash t h k = cc
 
-pub both : (a b : Bool) → a ≡ true → b ≡ true → (a && b) ≡ true
-both true b h k = k
-both false b h k = cc
-
 first_of : (a b : Bool) → (a && b) ≡ true → a ≡ true
 first_of true b h = refl
 first_of false b h = h
@@ -23,25 +20,13 @@ second_of : (a b : Bool) → (a && b) ≡ true → b ≡ true
 second_of true b h = h
 second_of false b h = cc
 
-pub false_of : (t : Bool) → (t ≡ true → ⊥) → t ≡ false
-false_of true h = absurd (h refl)
-false_of false h = refl
-
 -- ---- items
 
 -- what stands on a tape is found there
 pub finds : (test : Item → Bool) (item : Item) (tape : List Item) → Stands item tape → test item ≡ true → list_any test tape ≡ true
 finds test item [] s t = absurd s
-finds test item (other ∷ before) (inl same) t = left (test other) (list_any test before) (ap test same ∙ t)
-  where
-    left : (a b : Bool) → a ≡ true → (a || b) ≡ true
-    left true b e = refl
-    left false b e = cc
-finds test item (other ∷ before) (inr earlier) t = right (test other) (list_any test before) (finds test item before earlier t)
-  where
-    right : (a b : Bool) → b ≡ true → (a || b) ≡ true
-    right true b e = refl
-    right false b e = e
+finds test item (other ∷ before) (inl same) t = or_left (test other) (list_any test before) (ap test same ∙ t)
+finds test item (other ∷ before) (inr earlier) t = or_right (test other) (list_any test before) (finds test item before earlier t)
 
 -- where nothing passes a test, nothing that passes it stands
 pub none_stands : (test : Item → Bool) (item : Item) (tape : List Item) → list_any test tape ≡ false → test item ≡ true → Stands item tape → ⊥
@@ -64,13 +49,9 @@ abbrev pub never : (List Item → Bool) → List Item → Bool
 never test [] = not (test [])
 never test (item ∷ before) = not (test (item ∷ before)) && never test before
 
-negated : (t : Bool) → not t ≡ true → t ≡ false
-negated true h = cc
-negated false h = refl
-
 fails : (test : List Item → Bool) (later moment : List Item) → never test (later ++ moment) ≡ true → test moment ≡ false
-fails test [] [] h = negated (test []) h
-fails test [] (item ∷ before) h = negated (test (item ∷ before)) (first_of (not (test (item ∷ before))) (never test before) h)
+fails test [] [] h = not-true (test []) h
+fails test [] (item ∷ before) h = not-true (test (item ∷ before)) (first_of (not (test (item ∷ before))) (never test before) h)
 fails test (item ∷ later) moment h = fails test later moment (second_of (not (test (item ∷ (later ++ moment)))) (never test (later ++ moment)) h)
 
 pub no_moment : (test : List Item → Bool) (moment tape : List Item) → never test tape ≡ true → Earlier moment tape → test moment ≡ true → ⊥

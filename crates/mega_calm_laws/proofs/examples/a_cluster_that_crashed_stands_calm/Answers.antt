@@ -1,8 +1,9 @@
 -- After a crash each message was taken and no vote is left undecided, so the three nodes stand calm once more.
-use Rattle.std.proofs.Common.{◌≡◌, inl, inr, ℕ, zero, suc, ◌+◌, ◌≤◌, ◌<◌, ◌==◌, ◌&&◌, ◌||◌, nat_le, not, Bool, true, false, List, [], ◌∷◌, filter_map, find, None, refl, subst, arith}
+use Rattle.std.proofs.Common.{◌≡◌, inl, inr, ℕ, zero, suc, ◌+◌, ◌≤◌, ◌<◌, ◌==◌, ◌||◌, nat_le, not, Bool, true, false, List, [], ◌∷◌, filter_map, find, None, refl, subst, arith}
 use Rattle.std.specs.List.{range_with_len}
 use Rattle.std.specs.Prelude.{IsSome}
 use Rattle.std.proofs.lemmas.Bool.Decides.{nat_tests}
+use Rattle.std.proofs.lemmas.Bool.{and_parts, not-false}
 use Rattle.mega_wire.specs.declared.message.Message.{Message}
 use Rattle.mega_ballot.specs.Order.{zero_ballot}
 use Rattle.mega_wal.specs.Acceptor.{Act, Voted, best}
@@ -30,17 +31,13 @@ most k h = absurd (over (suc (suc (suc (suc k)))) h (omega arith))
     over : (a : ℕ) → nat_le a 3 ≡ true → 4 ≤ a → ⊥
     over a e le = grind (arith, nat_tests)
 
-both : (a b : Bool) → (a && b) ≡ true → (a ≡ true) × (b ≡ true)
-both true b h = (refl, h)
-both false b h = cc
-
 -- what holds of the nodes 1, 2 and 3 holds of each node
 each_node : (P : ℕ → Type 0) → P 1 → P 2 → P 3 → (node : ℕ) → is_node cluster node ≡ true → P node
 each_node P one two three zero h = cc
 each_node P one two three (suc zero) h = one
 each_node P one two three (suc (suc zero)) h = two
 each_node P one two three (suc (suc (suc zero))) h = three
-each_node P one two three (suc (suc (suc (suc k)))) h = absurd (most k (both (nat_le 1 (suc (suc (suc (suc k))))) (nat_le (suc (suc (suc (suc k)))) 3) h).1)
+each_node P one two three (suc (suc (suc (suc k)))) h = absurd (most k (and_parts (nat_le 1 (suc (suc (suc (suc k))))) (nat_le (suc (suc (suc (suc k)))) 3) h).1)
 
 -- ---- every message was taken
 
@@ -48,20 +45,16 @@ abbrev is_left : List Item → ℕ → Bool
 is_left tape n = not (is_taken tape n || is_dropped tape n)
 
 none_left : (tape : List Item) → find (is_left tape) (range_with_len 1 (sent_count tape)) ≡ None → (n : ℕ) → is_sent tape n ≡ true → (is_taken tape n || is_dropped tape n) ≡ true
-none_left tape none n sent = gone (is_taken tape n || is_dropped tape n) (none_passes (is_left tape) 1 (sent_count tape) n none (from n tests.0) (within n (sent_count tape) tests.1))
+none_left tape none n sent = not-false (is_taken tape n || is_dropped tape n) (none_passes (is_left tape) 1 (sent_count tape) n none (from n tests.0) (within n (sent_count tape) tests.1))
   where
     tests : (nat_le 1 n ≡ true) × (nat_le n (sent_count tape) ≡ true)
-    tests = both (nat_le 1 n) (nat_le n (sent_count tape)) sent
+    tests = and_parts (nat_le 1 n) (nat_le n (sent_count tape)) sent
 
     from : (k : ℕ) → nat_le 1 k ≡ true → 1 ≤ k
     from k e = grind (arith, nat_tests)
 
     within : (k end : ℕ) → nat_le k end ≡ true → k < 1 + end
     within k end e = grind (arith, nat_tests)
-
-    gone : (t : Bool) → not t ≡ false → t ≡ true
-    gone true e = refl
-    gone false e = cc
 
 -- ---- each node voted once, for the entry at the first position, and decided it
 
