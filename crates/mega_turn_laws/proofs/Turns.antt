@@ -142,7 +142,8 @@ module _ {S : Type 0} (steps : StepsGhosts S) (may : (s : Setting) (node : Node)
   may_go : (given : List (ℕ × Option Datagram)) (now : Served) → AreTimes given → IsNode now.node → Owns c.schema (served_by s now (turns_of h given)).node → MayServe steps s now (turns_of h given)
   may_go [] now clocks is own = tt
   may_go (one ∷ given) now clocks is own =
-      let here = owns_first given (next_of now one) own in (
+      let here = owns_first given (next_of now one) own in
+      let clock : IsClock one.0 = (omega arith, clocks.0) in (
         (may s now.node (Tick one.0) (may_step s now.node (Tick one.0) set is clock (owns_behind_tick now one here)), may_receive now one is clock here),
         may_go given (next_of now one) clocks.1 (turn_formed now one is clock) own,
       )
