@@ -1,5 +1,5 @@
 -- What an operation does once its node has heard what the step brings proposes and sends only own entries.
-use Rattle.std.proofs.Common.{◌≡◌, ℕ, zero, suc, ◌+◌, List, [], ◌∷◌, length, Option, Some, None, Result, Ok, Err, refl}
+use Rattle.std.proofs.Common.{◌≡◌, ℕ, zero, suc, ◌+◌, List, [], length, Option, Some, None, Result, Ok, Err, refl}
 use Rattle.std.specs.Prelude.{nat_le, take}
 use Rattle.std.specs.List.{list_any}
 use Rattle.mega_base.specs.declared.names.Epoch.{Epoch}
@@ -24,7 +24,7 @@ use Rattle.mega_outcome.specs.declared.request.Request.{Request}
 use Rattle.mega_outcome.specs.declared.request.Request.TheVariants.{Txn, Batch, Read, Find, PumpEnter, PumpHandle, Refresh}
 use Rattle.mega_outcome.specs.declared.transaction.Transaction.{Transaction}
 use Rattle.mega_outcome.specs.Outcome.{batch_outcome, entry_of_batch, entry_of_done, outcome}
-use Rattle.mega_node_laws.specs.About.{IsAbout, IsOf, group_in}
+use Rattle.mega_node_laws.specs.About.{IsOf}
 use Rattle.mega_run_laws.specs.of_rules.of_read.of_propose.declared.round.Move.{Move as RoundMove}
 use Rattle.mega_run_laws.specs.of_rules.of_read.of_propose.Rounds.{asks}
 use Rattle.mega_run_laws.specs.of_rules.of_read.declared.reading.Move.{Move as ReadMove}
@@ -32,22 +32,22 @@ use Rattle.mega_run_laws.specs.of_rules.of_read.declared.reading.Reading.{Readin
 use Rattle.mega_run_laws.specs.of_rules.of_read.declared.reading.Stage.{Stage}
 use Rattle.mega_run_laws.specs.of_rules.of_read.declared.reading.Stage.TheVariants.{Polling, Catching}
 use Rattle.mega_run_laws.specs.of_rules.of_read.Catching.{asked_by, local_read, polled_read, seeks, site}
-use Rattle.mega_run_laws.specs.of_rules.Met.{Met, Answers, Validates}
+use Rattle.mega_run_laws.specs.of_rules.Met.{Answers, Validates}
 use Rattle.mega_run_laws.specs.of_rules.Clock.{clock_of}
 use Rattle.mega_run_laws.specs.of_rules.Coordinators.{refused_at, serves_at, valid_at}
 use Rattle.mega_run_laws.specs.of_rules.Logs.{decided, groups_of, log_of, prefix_of, top_of}
 use Rattle.mega_run_laws.specs.of_rules.Queues.{Posted, enter_entry, is_named, names_entered, next_to_enter, next_to_handle, oldest_unhandled}
 use Rattle.mega_run_laws.specs.of_rules.Operations.{Now, Operation, Phase, Promised, Proposes, Reads, Replies, Results, Setting}
-use Rattle.mega_run_laws.specs.of_rules.Acting.{acts, acts_within, applied_logs, batch_sealed, begins_read, completes_read, ends, enters, finishes, goes_on, handles, handling, has_nothing, in_phase, is_taken, is_visited, keeps, leader_after, listed_at, picks_group, picks_message, picks_to_enter, picks_to_handle, proposes, proposes_by, proposes_there, read_begun, reader_of, reads_group, reads_on, rows_at, sealed, seeks_on, sends_more, table_rows, unless_decided, unless_full, validated_by, validates, verdict, visiting}
+use Rattle.mega_run_laws.specs.of_rules.Acting.{acts, acts_within, applied_logs, batch_sealed, begins_read, completes_read, ends, enters, finishes, goes_on, handles, handling, in_phase, is_taken, is_visited, keeps, leader_after, listed_at, picks_group, picks_message, picks_to_enter, picks_to_handle, proposes, proposes_by, proposes_there, read_begun, reader_of, reads_group, reads_on, rows_at, sealed, seeks_on, sends_more, table_rows, unless_decided, unless_full, validated_by, validates, verdict, visiting}
 use Rattle.mega_run_laws.specs.of_rules.Steps.{begins, find_begins, local_find_begins, read_begins, unless_refused}
 use Rattle.mega_run_laws.specs.of_tape_laws.Indexed.{IsDeclared}
 use Rattle.mega_run_laws.specs.Justified.{Each}
 use Rattle.mega_run_laws.proofs.Events.{each_append}
 use Rattle.mega_run_laws.proofs.Turns.{each_push}
 use Rattle.mega_own_laws.specs.Entries.{IsOwn}
-use Rattle.mega_own_laws.specs.Messages.{TellOwn, TellsOwn}
-use Rattle.mega_own_laws.specs.Rounds.{MoveOwn, ReadMoveOwn, ReadingOwn}
-use Rattle.mega_own_laws.specs.Nodes.{ItemOwn, MetOwn, OperationOwn, PhaseOwn}
+use Rattle.mega_own_laws.specs.Messages.{AllTellOwn, TellsOwn}
+use Rattle.mega_own_laws.specs.Rounds.{MoveOwn, ReadMoveOwn}
+use Rattle.mega_own_laws.specs.Nodes.{ItemOwn, MetOwn, OperationOwn}
 use Rattle.mega_own_laws.proofs.Lists.{either}
 use Rattle.mega_own_laws.proofs.Making.{batch_own, done_own, handling_own}
 use Rattle.mega_own_laws.proofs.Rounds.{asks_own}
@@ -58,7 +58,7 @@ pub record NowOwn (schema : Schema) (now : Now) : Type 0 where
   pub kept : Each (OperationOwn schema) now.kept
   pub valid : MetOwn schema now.valid
   pub answers : MetOwn schema now.answers
-  pub sends : TellOwn schema now.sends
+  pub sends : AllTellOwn schema now.sends
 
 module _ (s : Setting) where
   abbrev pub Stands : Now → Type 0
@@ -72,7 +72,7 @@ module _ (s : Setting) where
   pub ends_own : (now : Now) (op : OpId) (answer : Answer) → Stands now → Stands (ends now op answer)
   ends_own now op answer h = record { kept = h.kept; valid = h.valid; answers = each_push (ItemOwn s.cluster.schema) now.answers (Answers op answer) h.answers tt; sends = h.sends }
 
-  pub sends_own : (now : Now) (sends : List Message) → Stands now → TellOwn s.cluster.schema sends → Stands (sends_more now sends)
+  pub sends_own : (now : Now) (sends : List Message) → Stands now → AllTellOwn s.cluster.schema sends → Stands (sends_more now sends)
   sends_own now sends h m = record { kept = h.kept; valid = h.valid; answers = h.answers; sends = each_append (TellsOwn s.cluster.schema) now.sends sends h.sends m }
 
   -- ---- an operation proposes

@@ -11,7 +11,7 @@ use Rattle.mega_entry.specs.Entries.{entry_text}
 use Rattle.mega_schema.specs.declared.schema.Schema.{Schema}
 use Rattle.mega_index.specs.Rows.{Listed, Rows, row_under}
 use Rattle.mega_index.specs.Fitted.{most_bytes}
-use Rattle.mega_handler.specs.Effects.{Effect, entry_handling, handle_entry, handled}
+use Rattle.mega_handler.specs.Effects.{Effect, entry_handling, handled}
 use Rattle.mega_handler.specs.Named.{effect_by, meaning}
 use Rattle.mega_outcome.specs.declared.answer.Done.{Done}
 use Rattle.mega_outcome.specs.declared.transaction.Transaction.{Transaction}

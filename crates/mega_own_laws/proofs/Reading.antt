@@ -13,13 +13,12 @@ use Rattle.mega_run_laws.specs.of_rules.of_read.of_propose.Members.{has, is_majo
 use Rattle.mega_run_laws.specs.of_rules.of_read.of_propose.declared.round.Move.{Move as RoundMove}
 use Rattle.mega_run_laws.specs.of_rules.of_read.of_propose.Rounds.{completes, due, is_due, settled, takes}
 use Rattle.mega_run_laws.specs.of_rules.of_read.declared.reading.Reader.{Reader}
-use Rattle.mega_run_laws.specs.of_rules.of_read.declared.reading.Search.{Search}
 use Rattle.mega_run_laws.specs.of_rules.of_read.declared.reading.Search.TheVariants.{Fetching, Filling}
 use Rattle.mega_run_laws.specs.of_rules.of_read.declared.reading.Stage.{Stage}
 use Rattle.mega_run_laws.specs.of_rules.of_read.declared.reading.Stage.TheVariants.{Polling, Catching}
 use Rattle.mega_run_laws.specs.of_rules.of_read.declared.reading.Reading.{Reading}
 use Rattle.mega_run_laws.specs.of_rules.of_read.declared.reading.Move.{Move}
-use Rattle.mega_run_laws.specs.of_rules.of_read.Catching.{asked_by, denied, falls_due, fetch_to, fetches, filled, fills, hears, helpers, is_position, local_read, move, no_op, polled_read, read_settled, searched, seeks, settled_there, site, stays, topped, where_to}
+use Rattle.mega_run_laws.specs.of_rules.of_read.Catching.{asked_by, falls_due, fetch_to, fetches, filled, fills, hears, helpers, is_position, local_read, move, no_op, polled_read, read_settled, searched, seeks, settled_there, site, stays, where_to}
 use Rattle.mega_own_laws.specs.Entries.{IsOwn}
 use Rattle.mega_own_laws.specs.Messages.{CarriesOwn, TellsOwn}
 use Rattle.mega_own_laws.specs.Rounds.{MoveOwn, ReadMoveOwn, ReadingOwn, StageOwn}

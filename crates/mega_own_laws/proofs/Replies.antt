@@ -18,7 +18,7 @@ use Rattle.mega_schema.specs.declared.schema.Schema.{Schema}
 use Rattle.mega_wire.specs.declared.message.Message.{Message}
 use Rattle.mega_wire.specs.declared.message.Body.{Body}
 use Rattle.mega_wire.specs.declared.message.Body.TheVariants.{Where, Top, Accept, Prepare, Invalidate, Invalidated, Dead, Fetch, Acquire}
-use Rattle.mega_wal.specs.Acceptor.{Act, Vote, accept_answer, answer_beside, best, is_ballot_below, is_same_ballot, shown}
+use Rattle.mega_wal.specs.Acceptor.{Act, Vote, answer_beside, best, is_ballot_below, is_same_ballot, shown}
 use Rattle.mega_wal.specs.Same.{same_entry}
 use Rattle.mega_wal.specs.declared.answers.Promised.{Promised as PromiseAnswer}
 use Rattle.mega_wal.specs.declared.answers.Promised.TheVariants as promise
@@ -37,7 +37,7 @@ use Rattle.mega_run_laws.specs.of_rules.Operations.{Setting}
 use Rattle.mega_run_laws.specs.of_rules.Steps.{Decision, background, decide_to, fetch_to, fetches_for, news}
 use Rattle.mega_run_laws.specs.Justified.{Each}
 use Rattle.mega_own_laws.specs.Entries.{IsOwn}
-use Rattle.mega_own_laws.specs.Messages.{CarriesOwn, TellOwn, TellsOwn, VoteOwn}
+use Rattle.mega_own_laws.specs.Messages.{AllTellOwn, CarriesOwn, TellsOwn, VoteOwn}
 use Rattle.mega_own_laws.specs.Nodes.{DecisionOwn, MetOwn}
 use Rattle.mega_own_laws.proofs.Lists.{any_flat, any_map, either}
 use Rattle.mega_own_laws.proofs.Histories.{ActOwn, acts_own, best_own, decided_own}
@@ -96,31 +96,31 @@ module _ (schema : Schema) where
   answer_own c me met from (Acquire cell epoch clock) h b = served (cell == me && is_cell c me) (lock_answer cell epoch clock (asked_for c me met from epoch)) (lock_own cell epoch clock (asked_for c me met from epoch))
   answer_own c me met from _ h b = tt
 
-  sent_back : (me to : ℕ) (answer : Option Body) → IsOption (CarriesOwn schema) answer → TellOwn schema (reply_message me to answer)
+  sent_back : (me to : ℕ) (answer : Option Body) → IsOption (CarriesOwn schema) answer → AllTellOwn schema (reply_message me to answer)
   sent_back me to None h = tt
   sent_back me to (Some body) h = (h, tt)
 
-  pub reply_own : (c : Cluster) (me : ℕ) (met : List Met) (m : Message) → MetOwn schema met → TellsOwn schema m → TellOwn schema (reply_to c me met m)
+  pub reply_own : (c : Cluster) (me : ℕ) (met : List Met) (m : Message) → MetOwn schema met → TellsOwn schema m → AllTellOwn schema (reply_to c me met m)
   reply_own c me met m h b = sent_back me m.from (answer_to c me met m.from m.body) (answer_own c me met m.from m.body h b)
 
   -- ---- what a node sends by itself
 
-  pub news_own : (s : Setting) (d : Option Decision) → DecisionOwn schema d → TellOwn schema (news s d)
+  pub news_own : (s : Setting) (d : Option Decision) → DecisionOwn schema d → AllTellOwn schema (news s d)
   news_own s None h = tt
   news_own s (Some d) h = any_map (TellsOwn schema) (decide_to s.me d) (λ to. h) (others s.me (nodes s.cluster))
 
-  fetches_own : (s : Setting) (met : List Met) (group : GroupId) → TellOwn schema (fetches_for s met group)
-  fetches_own s met group = either (TellOwn schema) (nat_lt (prefix_of met group) (newest_of met group)) (map (fetch_to s met group) (others s.me (voters s.cluster))) []
+  fetches_own : (s : Setting) (met : List Met) (group : GroupId) → AllTellOwn schema (fetches_for s met group)
+  fetches_own s met group = either (AllTellOwn schema) (nat_lt (prefix_of met group) (newest_of met group)) (map (fetch_to s met group) (others s.me (voters s.cluster))) []
       (any_map (TellsOwn schema) (fetch_to s met group) (λ to. tt) (others s.me (voters s.cluster))) tt
 
-  pub background_own : (s : Setting) (met : List Met) (now : ℕ) → TellOwn schema (background s met now)
-  background_own s met now = either (TellOwn schema) (has_rows s.cluster s.me && does_again s.cluster.retry (ticks_of met) now) (flat_map (fetches_for s met) (groups_of met)) []
+  pub background_own : (s : Setting) (met : List Met) (now : ℕ) → AllTellOwn schema (background s met now)
+  background_own s met now = either (AllTellOwn schema) (has_rows s.cluster s.me && does_again s.cluster.retry (ticks_of met) now) (flat_map (fetches_for s met) (groups_of met)) []
       (any_flat (TellsOwn schema) (fetches_for s met) (fetches_own s met) (groups_of met)) tt
 
-  acquires_own : (c : Cluster) (me : ℕ) (calls : List Call) (start now : ℕ) (epoch : Option Epoch) → TellOwn schema (acquires c me calls start now epoch)
+  acquires_own : (c : Cluster) (me : ℕ) (calls : List Call) (start now : ℕ) (epoch : Option Epoch) → AllTellOwn schema (acquires c me calls start now epoch)
   acquires_own c me calls start now None = tt
   acquires_own c me calls start now (Some epoch) = any_map (TellsOwn schema) (acquire_to me epoch now) (λ cell. tt) (asked_cells c (counted_cells start c.cells calls) (serving start c.cells calls))
 
-  pub acquires_at_own : (c : Cluster) (me : ℕ) (met : List Met) (now : ℕ) → TellOwn schema (acquires_at c me met now)
-  acquires_at_own c me met now = either (TellOwn schema) (is_full c me && does_again c.retry (ticks_of met) now) _ []
+  pub acquires_at_own : (c : Cluster) (me : ℕ) (met : List Met) (now : ℕ) → AllTellOwn schema (acquires_at c me met now)
+  acquires_at_own c me met now = either (AllTellOwn schema) (is_full c me && does_again c.retry (ticks_of met) now) _ []
       (acquires_own c me (Told now ∷ coordinator_calls c met) (start_of met) now (epoch_after (start_of met) c.cells (Told now ∷ coordinator_calls c met))) tt

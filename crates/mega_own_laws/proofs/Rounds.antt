@@ -20,13 +20,12 @@ use Rattle.mega_run_laws.specs.of_rules.of_read.of_propose.declared.round.Report
 use Rattle.mega_run_laws.specs.of_rules.of_read.of_propose.declared.round.Round.{Round}
 use Rattle.mega_run_laws.specs.of_rules.of_read.of_propose.declared.round.Site.{Site}
 use Rattle.mega_run_laws.specs.of_rules.of_read.of_propose.declared.round.Proposal.{Proposal}
-use Rattle.mega_run_laws.specs.of_rules.of_read.of_propose.declared.round.Move.{Move}
 use Rattle.mega_run_laws.specs.of_rules.of_read.of_propose.declared.round.Round.TheVariants.{Asking, Preparing, Accepting, Covering, Settled, Waiting}
 use Rattle.mega_run_laws.specs.of_rules.of_read.of_propose.Rounds.{accept_to, accepted, accepts, asks, cell_numbers, completes, covers, dead_to, due, first_cover, greater_vote, greatest_vote, invalidate_to, invalidated, is_covered, is_due, is_here, is_sent, last_round, move, next_ballot, picked, prepare_to, prepares, presses, promised, proposes, refused, same_ballot, settled, stays, takes, uncovered, unheld, vote_round, with_accepted, with_cell, with_invalidated}
 use Rattle.mega_run_laws.specs.Justified.{Each}
 use Rattle.mega_run_laws.proofs.Events.{each_append}
 use Rattle.mega_own_laws.specs.Entries.{IsOwn}
-use Rattle.mega_own_laws.specs.Messages.{CarriesOwn, TellOwn, TellsOwn, VoteOwn}
+use Rattle.mega_own_laws.specs.Messages.{AllTellOwn, CarriesOwn, TellsOwn, VoteOwn}
 use Rattle.mega_own_laws.specs.Rounds.{MoveOwn, ProposalOwn, ReportOwn, RoundOwn}
 use Rattle.mega_own_laws.proofs.Lists.{any_flat, any_map, either}
 
@@ -52,7 +51,7 @@ module _ (schema : Schema) (s : Site) where
   stays_own : (p : Proposal) → ProposalOwn schema s.group p → MoveOwn schema s.group (stays p)
   stays_own p h = still p p.round h h.round
 
-  accepts_to : (b : Ballot) (entry : Content) → IsOwn schema s.group entry → (nodes : List ℕ) → TellOwn schema (map (accept_to s b entry) nodes)
+  accepts_to : (b : Ballot) (entry : Content) → IsOwn schema s.group entry → (nodes : List ℕ) → AllTellOwn schema (map (accept_to s b entry) nodes)
   accepts_to b entry h nodes = any_map (TellsOwn schema) (accept_to s b entry) (λ to. h) nodes
 
   prepares_own : (p : Proposal) (now : ℕ) → IsOwn schema s.group p.own → MoveOwn schema s.group (prepares s p now)
@@ -130,7 +129,7 @@ module _ (schema : Schema) (s : Site) where
         (still (at (Covering ballot entry cover sent)) _ h (covers_own ballot entry (with_cell cover (record { cell = cell; node = node })) sent h.round)) (stays_own (at (Covering ballot entry cover sent)) h)
     unheld_own round cell node h = stays_own (at round) h
 
-    presses_own : (nodes : List ℕ) → TellOwn schema (presses s nodes)
+    presses_own : (nodes : List ℕ) → AllTellOwn schema (presses s nodes)
     presses_own nodes = each_append (TellsOwn schema) (map (invalidate_to s) nodes) (flat_map (λ node. map (dead_to s node) (cell_numbers s)) nodes)
         (any_map (TellsOwn schema) (invalidate_to s) (λ to. tt) nodes)
         (any_flat (TellsOwn schema) (λ node. map (dead_to s node) (cell_numbers s)) (λ node. any_map (TellsOwn schema) (dead_to s node) (λ cell. tt) (cell_numbers s)) nodes)

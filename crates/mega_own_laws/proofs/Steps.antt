@@ -1,5 +1,5 @@
 -- The step of a node notes, sends and leaves only own entries.
-use Rattle.std.proofs.Common.{◌≡◌, ℕ, List, [], ◌∷◌, ◌++◌, map, fold, Option, Some, None, refl}
+use Rattle.std.proofs.Common.{ℕ, List, [], ◌∷◌, ◌++◌, map, fold, Option, Some, None}
 use Rattle.std.specs.Prelude.{is_none}
 use Rattle.mega_base.specs.Codec.{IsOption}
 use Rattle.mega_base.specs.declared.names.GroupId.{GroupId}
@@ -11,7 +11,6 @@ use Rattle.mega_wire.specs.declared.message.Message.{Message}
 use Rattle.mega_wire.specs.declared.message.Body.{Body}
 use Rattle.mega_wire.specs.declared.message.Body.TheVariants.{Decide, Have}
 use Rattle.mega_outcome.specs.declared.request.Request.{Request}
-use Rattle.mega_node_laws.specs.About.{IsOf}
 use Rattle.mega_node_laws.specs.Acted.{acted_on}
 use Rattle.mega_node_laws.specs.Own.{HasOwnRows}
 use Rattle.mega_node_laws.proofs.Ending.{step_ends}
@@ -32,7 +31,7 @@ use Rattle.mega_run_laws.proofs.Events.{IsPlain, apply_plain, each_append, lapse
 use Rattle.mega_run_laws.proofs.Runs.{starts_plain}
 use Rattle.mega_run_laws.proofs.Turns.{each_on}
 use Rattle.mega_own_laws.specs.Entries.{IsOwn}
-use Rattle.mega_own_laws.specs.Messages.{CarriesOwn, TellOwn, TellsOwn}
+use Rattle.mega_own_laws.specs.Messages.{AllTellOwn, CarriesOwn, TellsOwn}
 use Rattle.mega_own_laws.specs.Nodes.{ActOnOwn, DecisionOwn, EventOwn, ItemOwn, MetOwn, NodeOwn, OperationOwn, PhaseOwn, StepOwn}
 use Rattle.mega_own_laws.proofs.Lists.{each_fold, each_map, either}
 use Rattle.mega_own_laws.proofs.Rounds.{due_own, settled_own, takes_own}
@@ -63,7 +62,7 @@ both_own schema items more h k = each_append (ItemOwn schema) items more h k
 
 pub record HeardOwn (schema : Schema) (t : Heard) : Type 0 where
   pub operation : OperationOwn schema t.operation
-  pub sends : TellOwn schema t.sends
+  pub sends : AllTellOwn schema t.sends
 
 hears_by : (s : Setting) (now : ℕ) (m : Message) (id : OpId) (request : Request) (began : ℕ) (visited : List GroupId) (message : Option Enter) (phase : Phase) → TellsOwn s.cluster.schema m
     → OperationOwn s.cluster.schema (record { id = id; request = request; began = began; visited = visited; message = message; phase = phase })
@@ -136,7 +135,7 @@ note_own schema (Some d) h = (h, tt)
 
 -- ---- a step ends
 
-ended_own : (schema : Schema) (node : Node) (own : Met) (locks durable applies : List Met) (sends : List Message) (now : Now) → NodeOwn schema node → ItemOwn schema own → MetOwn schema locks → MetOwn schema durable → MetOwn schema applies → TellOwn schema sends
+ended_own : (schema : Schema) (node : Node) (own : Met) (locks durable applies : List Met) (sends : List Message) (now : Now) → NodeOwn schema node → ItemOwn schema own → MetOwn schema locks → MetOwn schema durable → MetOwn schema applies → AllTellOwn schema sends
     → NowOwn schema now → StepOwn schema (step_of node own locks durable applies sends now)
 ended_own schema node own locks durable applies sends now n o l d a m k = record {
   notes = notes;
@@ -157,7 +156,7 @@ module _ (s : Setting) (declared : IsDeclared s.cluster.schema) where
   -- ---- a message is taken
 
   taken_own : (node : Node) (m : Message) (ts : List Heard) (d : Option Decision) (reply told_news : List Message) → NodeOwn s.cluster.schema node → Each (HeardOwn s.cluster.schema) ts → DecisionOwn s.cluster.schema d
-      → TellOwn s.cluster.schema reply → TellOwn s.cluster.schema told_news → StepOwn s.cluster.schema (taken s node m (told_notes s node.met m.from m.body) ts d reply told_news)
+      → AllTellOwn s.cluster.schema reply → AllTellOwn s.cluster.schema told_news → StepOwn s.cluster.schema (taken s node m (told_notes s node.met m.from m.body) ts d reply told_news)
   taken_own node m ts d reply told_news n heard f r w =
       ended_own s.cluster.schema node (Takes m) told (decision_note d) (apply_notes s node.met node.stored acc.met acc.stored) ((reply ++ told_news) ++ acc.sends) acc n tt
       (plain_met s.cluster.schema told (told_plain s node.met m.from m.body)) (note_own s.cluster.schema d f) (plain_met s.cluster.schema _ (apply_plain s node.met node.stored acc.met acc.stored))
@@ -184,7 +183,7 @@ module _ (s : Setting) (declared : IsDeclared s.cluster.schema) where
       heard : Each (HeardOwn s.cluster.schema) ts
       heard = each_map (OperationOwn s.cluster.schema) (HeardOwn s.cluster.schema) (hears_message s (clock_of node.met) m) (λ o k. heard_own s (clock_of node.met) m o b k) node.open_operations n.open_operations
 
-      reply : TellOwn s.cluster.schema (reply_to s.cluster s.me node.met m)
+      reply : AllTellOwn s.cluster.schema (reply_to s.cluster s.me node.met m)
       reply = reply_own s.cluster.schema s.cluster s.me node.met m n.met b
 
       by : Option Decision → Step

@@ -28,5 +28,5 @@ CarriesOwn schema _ = Unit {0}
 abbrev pub TellsOwn : Schema → Message → Type 0
 TellsOwn schema message = CarriesOwn schema message.body
 
-abbrev pub TellOwn : Schema → List Message → Type 0
-TellOwn schema messages = Each (TellsOwn schema) messages
+abbrev pub AllTellOwn : Schema → List Message → Type 0
+AllTellOwn schema messages = Each (TellsOwn schema) messages

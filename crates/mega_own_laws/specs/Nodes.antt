@@ -11,7 +11,7 @@ use Rattle.mega_run_laws.specs.of_rules.Operations.{Node, Operation, Phase, Prop
 use Rattle.mega_run_laws.specs.of_rules.Steps.{Decision, Event, Step, Take, step}
 use Rattle.mega_run_laws.specs.Justified.{Each}
 use Rattle.mega_own_laws.specs.Entries.{IsOwn}
-use Rattle.mega_own_laws.specs.Messages.{TellOwn, TellsOwn}
+use Rattle.mega_own_laws.specs.Messages.{AllTellOwn, TellsOwn}
 use Rattle.mega_own_laws.specs.Rounds.{ProposalOwn, ReadingOwn}
 
 -- what the rules look at again of what a node met: the messages that it made, and the entries that it decided
@@ -48,7 +48,7 @@ EventOwn schema _ = Unit {0}
 -- what a step notes, sends and leaves
 pub record StepOwn (schema : Schema) (made : Step) : Type 0 where
   pub notes : MetOwn schema made.notes
-  pub sends : TellOwn schema made.sends
+  pub sends : AllTellOwn schema made.sends
   pub node : NodeOwn schema made.node
 
 -- the operations of each step, of one event after another, act on logs whose rows are each group's own

@@ -15,7 +15,7 @@ use Rattle.mega_run_laws.specs.of_rules.of_read.declared.reading.Reading.{Readin
 use Rattle.mega_run_laws.specs.of_rules.of_read.declared.reading.Move.{Move as ReadMove}
 use Rattle.mega_run_laws.specs.Justified.{Each}
 use Rattle.mega_own_laws.specs.Entries.{IsOwn}
-use Rattle.mega_own_laws.specs.Messages.{TellOwn, VoteOwn}
+use Rattle.mega_own_laws.specs.Messages.{AllTellOwn, VoteOwn}
 
 abbrev pub ReportOwn : Schema → GroupId → Report → Type 0
 ReportOwn schema group report = VoteOwn schema group report.vote
@@ -34,7 +34,7 @@ pub record ProposalOwn (schema : Schema) (group : GroupId) (p : Proposal) : Type
 
 pub record MoveOwn (schema : Schema) (group : GroupId) (move : Move) : Type 0 where
   pub proposal : ProposalOwn schema group move.proposal
-  pub sends : TellOwn schema move.sends
+  pub sends : AllTellOwn schema move.sends
 
 -- the round that completes a position for a read
 abbrev pub SearchOwn : Schema → GroupId → Option Search → Type 0
@@ -50,4 +50,4 @@ pub record ReadingOwn (schema : Schema) (group : GroupId) (r : Reading) : Type 0
 
 pub record ReadMoveOwn (schema : Schema) (group : GroupId) (move : ReadMove) : Type 0 where
   pub reading : ReadingOwn schema group move.reading
-  pub sends : TellOwn schema move.sends
+  pub sends : AllTellOwn schema move.sends
