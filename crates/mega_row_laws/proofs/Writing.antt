@@ -108,7 +108,7 @@ module _ (s : Schema) (group : List ℕ) where
       subst (WritesIn s group) same
       (each_append (WriteOf s group) a.0 b.0 (change_in rows i c a.0 a.1) (changes_in (written a.0 rows) (i + 1) cs b.0 b.1))
 
-  outcome_writes : (rows : Rows) (transaction : Transaction) (done : Done) → outcome_in s group transaction rows ≡ Ok done → WritesIn s group done.writes
+  pub outcome_writes : (rows : Rows) (transaction : Transaction) (done : Done) → outcome_in s group transaction rows ≡ Ok done → WritesIn s group done.writes
   outcome_writes rows transaction done h =
       let checks = bind_turn (all_checks s group rows 0 transaction.checks) (λ _. all_reads s group rows (first_read transaction) transaction.reads >>= λ replies.
       all_changes s group rows (first_change transaction) transaction.writes >>= λ writes. all_sends s (first_send transaction) transaction.sends >>= λ _.
@@ -138,7 +138,7 @@ module _ (s : Schema) (group : List ℕ) where
           tested true = before
           tested false = each_append (WriteOf s group) b.writes done.writes before (outcome_writes (written b.writes rows) transaction done is)
 
-  batch_writes : (rows : Rows) (transactions : List Transaction) (b : Batch) → WritesIn s group b.writes → WritesIn s group (fold (with_next s group rows) b transactions).writes
+  pub batch_writes : (rows : Rows) (transactions : List Transaction) (b : Batch) → WritesIn s group b.writes → WritesIn s group (fold (with_next s group rows) b transactions).writes
   batch_writes rows [] b before = before
   batch_writes rows (t ∷ ts) b before = batch_writes rows ts (with_next s group rows b t) (next_writes rows b t before)
 
@@ -170,7 +170,7 @@ module _ (s : Schema) (group : List ℕ) where
       by None at = tt
       by (Some n) at = tested n at (is_kept s n write) refl
 
-  fitted_in : IsDeclared s → (seen : Rows) (writes : List Write) → WritesIn s group (fitted_writes s group seen writes)
+  pub fitted_in : IsDeclared s → (seen : Rows) (writes : List Write) → WritesIn s group (fitted_writes s group seen writes)
   fitted_in d seen [] = tt
   fitted_in d seen (write ∷ writes) =
       each_append (WriteOf s group) (kept_write s (table_of s group write.key) seen write) (fitted_writes s group (written (kept_write s (table_of s group write.key) seen write) seen) writes)

@@ -1,0 +1,9 @@
+pub mod Lists
+pub mod Owned
+pub mod Making
+pub mod Rounds
+pub mod Reading
+pub mod Histories
+pub mod Replies
+pub mod Acting
+pub mod Steps
