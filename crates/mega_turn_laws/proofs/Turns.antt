@@ -35,7 +35,7 @@ use Rattle.mega_turn_laws.proofs.Started.{start_formed}
 use Rattle.mega_turn_laws.proofs.Steps.{may_step, owned_back}
 
 -- a node behind an event, if there is one
-abbrev after : Setting → Node → Option Event → Node
+abbrev pub after : Setting → Node → Option Event → Node
 after s node None = node
 after s node (Some event) = (step s node event).node
 
@@ -71,7 +71,7 @@ module _ (c : Cluster) (me : ℕ) (wish : List ℕ → Wish) (h : Meanings) (now
   given_goes got from (Err at) = refl
   given_goes got from (Ok m) = either_goes (is_from from m.from && m.to == me) (message_event wish from m) None _ _ (message_goes got from m) refl
 
-  received_goes : (datagram : Option (Peer × List ℕ)) → Goes (event_in me wish datagram) (received c me wish h now datagram)
+  pub received_goes : (datagram : Option (Peer × List ℕ)) → Goes (event_in me wish datagram) (received c me wish h now datagram)
   received_goes None = refl
   received_goes (Some one) = given_goes (Got one.0 one.1 ∷ []) one.0 (whole_of message_at one.1)
 
