@@ -1,11 +1,10 @@
 //! Files that were changed at random: an opening finds what a plain reading of their bytes does, and nothing else.
-use crate::device::{append_many, bytes_on, device, records_on};
+use crate::asserted::same;
+use crate::device::{append_many, bytes_on, chain_on, device, opened, records_on};
 use crate::draws::Draws;
 use crate::plain::records_in;
 use mega_base::Bytes;
-use mega_checkpoint::Checkpoint;
-use mega_disk::{MemDisk, RecordError, Records};
-use mega_journal::Journal;
+use mega_disk::{MemDisk, Records};
 use std::alloc::Global;
 use std::process::Abort;
 
@@ -42,27 +41,42 @@ fn changed(rt: &impl Abort, alloc: Global, draws: &mut Draws, file: &[u8]) -> Ve
     bytes
 }
 
-fn assert_same(rt: &impl Abort, found: &[Bytes], wanted: &[Bytes], number: u64) {
-    assert_eq!(rt; found.len(), wanted.len(), "file {number}");
-    for (one, other) in found.iter().zip(wanted) {
-        assert!(rt; one.as_slice() == other.as_slice(), "file {number}");
+/// Whether two lists have the same texts.
+fn are_same(found: &[Bytes], wanted: &[Bytes]) -> bool {
+    if found.len() != wanted.len() {
+        return false;
     }
+    for (one, other) in found.iter().zip(wanted) {
+        if one.as_slice() != other.as_slice() {
+            return false;
+        }
+    }
+    true
+}
+
+/// Asserts which records an opening finds.
+fn check_records(
+    rt: &impl Abort,
+    alloc: Global,
+    disk: &mut MemDisk,
+    wanted: &[Bytes],
+    number: u64,
+) {
+    let found = records_on(rt, alloc, disk);
+    let is_wanted = are_same(found.as_slice(), wanted);
+    assert!(rt; is_wanted, "file {number}");
 }
 
 /// Opens a file twice, appends to it, and opens it again.
 fn assert_opens(rt: &impl Abort, alloc: Global, bytes: &[u8], number: u64) {
     let mut wanted = records_in(alloc, bytes).expect(rt, "refused");
     let mut disk = device(rt, alloc, bytes);
-    for _ in 0..2 {
-        let found = records_on(alloc, &mut disk).expect(rt, "refused");
-        assert_same(rt, found.as_slice(), wanted.as_slice(), number);
-    }
-    append_many(alloc, &mut disk, 1).expect(rt, "refused");
-    wanted
-        .push(Bytes::from_slice(alloc, b"x").expect(rt, "refused"))
-        .expect(rt, "refused");
-    let found = records_on(alloc, &mut disk).expect(rt, "refused");
-    assert_same(rt, found.as_slice(), wanted.as_slice(), number);
+    check_records(rt, alloc, &mut disk, wanted.as_slice(), number);
+    check_records(rt, alloc, &mut disk, wanted.as_slice(), number);
+    append_many(rt, alloc, &mut disk, 1);
+    let last = Bytes::from_slice(alloc, b"x").expect(rt, "refused");
+    wanted.push(last).expect(rt, "refused");
+    check_records(rt, alloc, &mut disk, wanted.as_slice(), number);
 }
 
 /// Changes a file so often, each time anew.
@@ -75,54 +89,49 @@ fn assert_all_open(rt: &impl Abort, alloc: Global, file: &[u8], count: u64) {
 }
 
 /// Appends records of many lengths.
-fn append_drawn<R: Records>(alloc: Global, store: &mut R) -> Result<(), RecordError> {
+fn append_drawn<R: Records>(rt: &impl Abort, alloc: Global, store: &mut R) {
     let body = [7u8; 400];
     let mut draws = Draws::new(1);
     for _ in 0..40 {
         let size = draws.draw(400) as usize;
         if let Some(front) = body.get(..size) {
-            store.append(alloc, front)?;
+            store.append(alloc, front).expect(rt, "refused");
         }
     }
-    Ok(())
 }
 
 #[test]
 fn changed_files_of_areas_open_as_their_bytes_say(rt: HostRuntime) {
     let alloc = rt.alloc();
-    let mut store = match Checkpoint::open(alloc, MemDisk::new(alloc)) {
-        Ok(store) => store,
-        Err((error, _)) => panic!(rt; "refused: {error:?}"),
-    };
-    append_drawn(alloc, &mut store).expect(&rt, "refused");
+    let mut store = opened(&rt, alloc, MemDisk::new(alloc));
+    append_drawn(&rt, alloc, &mut store);
     let file = bytes_on(&rt, alloc, &mut store.close());
-    assert_eq!(rt; file.len(), 20480);
+    same(&rt, file.len(), 20480);
     assert_all_open(&rt, alloc, file.as_slice(), 4000);
 }
 
 #[test]
 fn changed_chains_open_as_their_bytes_say(rt: HostRuntime) {
     let alloc = rt.alloc();
-    let mut journal = match Journal::open(alloc, MemDisk::new(alloc)) {
-        Ok(journal) => journal,
-        Err((error, _)) => panic!(rt; "refused: {error:?}"),
-    };
-    append_drawn(alloc, &mut journal).expect(&rt, "refused");
+    let mut journal = chain_on(&rt, alloc, MemDisk::new(alloc));
+    append_drawn(&rt, alloc, &mut journal);
     let file = bytes_on(&rt, alloc, &mut journal.close());
     assert_all_open(&rt, alloc, file.as_slice(), 3000);
+}
+
+/// Replaces the records of a store by one, and appends others.
+fn replace_and_append<R: Records>(rt: &impl Abort, alloc: Global, store: &mut R) {
+    store.replace(alloc, b"all").expect(rt, "refused");
+    append_drawn(rt, alloc, store);
 }
 
 #[test]
 fn changed_files_with_a_replacement_open_as_their_bytes_say(rt: HostRuntime) {
     let alloc = rt.alloc();
     let mut disk = MemDisk::new(alloc);
-    append_many(alloc, &mut disk, 4096).expect(&rt, "refused");
-    let mut store = match Checkpoint::open(alloc, disk) {
-        Ok(store) => store,
-        Err((error, _)) => panic!(rt; "refused: {error:?}"),
-    };
-    store.replace(alloc, b"all").expect(&rt, "refused");
-    append_drawn(alloc, &mut store).expect(&rt, "refused");
+    append_many(&rt, alloc, &mut disk, 4096);
+    let mut store = opened(&rt, alloc, disk);
+    replace_and_append(&rt, alloc, &mut store);
     let file = bytes_on(&rt, alloc, &mut store.close());
     assert_all_open(&rt, alloc, file.as_slice(), 3000);
 }

@@ -1,63 +1,79 @@
 //! A voter's logs over a store in two areas.
-ghost use Rattle.std.specs.Prelude.{◌≡◌, [], IfOk, OnOk};
+ghost use Rattle.std.specs.Prelude.{◌≡◌, []};
 ghost use Rattle.mega_wal.specs.Compaction.{IsOfFormat};
 
-use crate::device::records_on;
+use crate::asserted::same;
+use crate::device::{opened, records_on};
 use mega_checkpoint::Checkpoint;
-use mega_disk::{MemDisk, RecordError};
-use mega_wal::{LogFault, Logs};
+use mega_disk::{MemDisk, Records};
+use mega_wal::Logs;
 use std::alloc::Global;
-use std::test::Fail;
+use std::process::Abort;
 
-fn fresh(alloc: Global) -> Result<Checkpoint<MemDisk>, RecordError> {
-    match Checkpoint::open(alloc, MemDisk::new(alloc)) {
-        Ok(store) => Ok(store),
-        Err((error, _)) => Err(error),
-    }
-}
-
-/// Logs over a store.
-fn opened(alloc: Global, store: Checkpoint<MemDisk>) -> Result<Logs<Checkpoint<MemDisk>>, LogFault>
-    ensures staged { IfOk result (λ logs. logs.staged.items ≡ []) }
-    ensures format { IfOk result (λ logs. IsOfFormat logs.kept) }
+/// Logs over a new store.
+fn fresh(rt: &impl Abort, alloc: Global) -> Logs<Checkpoint<MemDisk>>
+    ensures staged { result.staged.items ≡ [] }
+    ensures format { IsOfFormat result.kept }
 {
-    match Logs::open(alloc, store) {
-        Ok(logs) => Ok(logs),
-        Err((fault, _)) => Err(fault),
-    }
+    let store = opened(rt, alloc, MemDisk::new(alloc));
+    let Ok(logs) = Logs::open(alloc, store) else {
+        panic!(rt; "refused");
+    };
+    logs
 }
 
 /// Starts once more, and makes a record of it.
-fn start(alloc: Global, logs: &mut Logs<Checkpoint<MemDisk>>) -> Result<(), LogFault>
+fn start<R: Records>(rt: &impl Abort, alloc: Global, logs: &mut Logs<R>)
     requires staged { logs.old.staged.items ≡ [] }
     requires format { IsOfFormat logs.old.kept }
-    ensures staged { OnOk result (logs.new.staged.items ≡ []) }
-    ensures format { OnOk result (IsOfFormat logs.new.kept) }
+    ensures staged { logs.new.staged.items ≡ [] }
+    ensures format { IsOfFormat logs.new.kept }
 {
     if logs.starts() == u32::MAX {
-        return Ok(());
+        panic!(rt; "too many starts");
     }
-    logs.begin(alloc)?;
-    logs.flush(alloc)?;
-    Ok(())
+    let Ok(()) = logs.begin(alloc) else {
+        panic!(rt; "refused");
+    };
+    let Ok(()) = logs.flush(alloc) else {
+        panic!(rt; "refused");
+    };
+}
+
+/// Logs with so many starts, each a record of its own.
+fn started(rt: &impl Abort, alloc: Global, starts: u32) -> Logs<Checkpoint<MemDisk>>
+    ensures staged { result.staged.items ≡ [] }
+    ensures format { IsOfFormat result.kept }
+{
+    let mut logs = fresh(rt, alloc);
+    for _ in 0..starts {
+        start(rt, alloc, &mut logs);
+    }
+    logs
+}
+
+/// Compacts the records, which are due for it.
+fn compact<R: Records>(rt: &impl Abort, alloc: Global, logs: &mut Logs<R>)
+    requires staged { logs.old.staged.items ≡ [] }
+    requires format { IsOfFormat logs.old.kept }
+{
+    if !logs.due() {
+        panic!(rt; "not due");
+    }
+    logs.compact(alloc).expect(rt, "refused");
 }
 
 #[test]
-fn many_starts_become_one_record(rt: HostRuntime) -> Result<(), Fail> {
+fn many_starts_become_one_record(rt: HostRuntime) {
     let alloc = rt.alloc();
-    let mut logs = opened(alloc, fresh(alloc)?)?;
-    for _ in 0..4096 {
-        start(alloc, &mut logs)?;
-    }
-    assert!(rt; logs.due());
-    logs.compact(alloc)?;
-    assert_eq!(rt; logs.starts(), 4096);
-    assert!(rt; !logs.due());
-    let found = records_on(alloc, &mut logs.close().close())?;
-    assert_eq!(rt; found.len(), 1);
-    assert_eq!(rt;
-        found[0].as_slice(),
-        [0, 0, 0, 1, 7, 0, 0, 0x10, 0].as_slice()
-    );
-    Ok(())
+    let mut logs = started(&rt, alloc, 4096);
+    compact(&rt, alloc, &mut logs);
+    same(&rt, logs.starts(), 4096);
+    same(&rt, logs.due(), false);
+    let found = records_on(&rt, alloc, &mut logs.close().close());
+    let [record] = found.as_slice() else {
+        panic!(rt; "not one record");
+    };
+    let wanted: &[u8] = &[0, 0, 0, 1, 7, 0, 0, 0x10, 0];
+    same(&rt, record.as_slice(), wanted);
 }

@@ -1,7 +1,8 @@
 //! Devices in memory that hold given bytes, and the records that an opening finds on them.
 use mega_base::Bytes;
 use mega_checkpoint::Checkpoint;
-use mega_disk::{Disk, MemDisk, RecordError, Records};
+use mega_disk::{Disk, MemDisk, Records};
+use mega_journal::Journal;
 use std::alloc::Global;
 use std::process::Abort;
 
@@ -25,26 +26,44 @@ pub fn bytes_on(rt: &impl Abort, alloc: Global, disk: &mut MemDisk) -> Vec<u8> {
     bytes
 }
 
-/// The records that an opening finds.
-pub fn records_on<D: Disk + Drop>(alloc: Global, disk: &mut D) -> Result<Vec<Bytes>, RecordError> {
+/// The store on a device.
+pub fn opened<D: Disk + Drop>(rt: &impl Abort, alloc: Global, disk: D) -> Checkpoint<D> {
     match Checkpoint::open(alloc, disk) {
-        Ok(mut store) => Ok(store.take_opened()),
-        Err((error, _)) => Err(error),
+        Ok(store) => store,
+        Err((error, _)) => panic!(rt; "refused: {error:?}"),
     }
 }
 
-/// Appends so many records of one byte; the number of those that were acknowledged.
+/// The chain on a device.
+pub fn chain_on<D: Disk + Drop>(rt: &impl Abort, alloc: Global, disk: D) -> Journal<D> {
+    match Journal::open(alloc, disk) {
+        Ok(journal) => journal,
+        Err((error, _)) => panic!(rt; "refused: {error:?}"),
+    }
+}
+
+/// The records that an opening finds.
+pub fn records_on<D: Disk + Drop>(rt: &impl Abort, alloc: Global, disk: &mut D) -> Vec<Bytes> {
+    let mut store = opened(rt, alloc, disk);
+    store.take_opened()
+}
+
+/// How many records an opening finds.
+pub fn count_on<D: Disk + Drop>(rt: &impl Abort, alloc: Global, disk: &mut D) -> usize {
+    let found = records_on(rt, alloc, disk);
+    found.len()
+}
+
+/// Appends so many records of one byte; the number of all that are acknowledged.
 pub fn append_many<D: Disk + Drop>(
+    rt: &impl Abort,
     alloc: Global,
     disk: &mut D,
     count: u64,
-) -> Result<u64, RecordError> {
-    let mut store = match Checkpoint::open(alloc, disk) {
-        Ok(store) => store,
-        Err((error, _)) => return Err(error),
-    };
+) -> u64 {
+    let mut store = opened(rt, alloc, disk);
     for _ in 0..count {
-        store.append(alloc, b"x")?;
+        store.append(alloc, b"x").expect(rt, "refused");
     }
-    Ok(store.count())
+    store.count()
 }

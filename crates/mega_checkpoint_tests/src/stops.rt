@@ -1,20 +1,40 @@
 //! A store over a device that stops at any call.
-use crate::device::{append_many, bytes_on, device, records_on};
+use crate::asserted::same;
+use crate::device::{append_many, bytes_on, count_on, device, opened, records_on};
 use mega_checkpoint::Checkpoint;
 use mega_disk::{Disk, MemDisk, RecordError, Records};
 use std::alloc::Global;
 use std::process::Abort;
 
+/// Whether bytes have this front from a place on.
+fn stands_at(bytes: &[u8], place: usize, front: &[u8]) -> bool {
+    match bytes.get(place..) {
+        Some(rest) => rest.starts_with(front),
+        None => false,
+    }
+}
+
 #[test]
 fn a_new_file_has_three_pages(rt: HostRuntime) {
     let alloc = rt.alloc();
     let mut disk = device(&rt, alloc, b"\0");
-    let found = records_on(alloc, &mut disk).expect(&rt, "refused");
-    assert_eq!(rt; found.len(), 0);
+    same(&rt, count_on(&rt, alloc, &mut disk), 0);
     let bytes = bytes_on(&rt, alloc, &mut disk);
-    assert_eq!(rt; bytes.len(), 12288);
-    assert!(rt; bytes.as_slice().starts_with(b"\x01\x47\x41\x32\0"));
-    assert!(rt; bytes.as_slice()[4096..].starts_with(b"\x01\0\0\0\0\0\0\0\x01\0"));
+    same(&rt, bytes.len(), 12288);
+    let mark = stands_at(bytes.as_slice(), 0, b"\x01\x47\x41\x32\0");
+    same(&rt, mark, true);
+    let odd = stands_at(bytes.as_slice(), 4096, b"\x01\0\0\0\0\0\0\0\x01\0");
+    same(&rt, odd, true);
+}
+
+/// Asserts how many records are found on a device that stopped before its call `calls + 1`.
+fn check_count(rt: &impl Abort, calls: u64, image: u8, found: usize, wanted: usize) {
+    assert_eq!(rt; found, wanted, "{calls} {image}");
+}
+
+/// Whether what stopped there was the last call, or reached the device before it stopped.
+fn is_kept(calls: u64, image: u8) -> bool {
+    calls == 4 || calls == 3 && image == 1
 }
 
 /// Whether an append of `second` behind `first` was acknowledged, on a device that stops before its call `calls + 1`.
@@ -25,103 +45,117 @@ fn append_second(
     calls: u64,
     image: u8,
 ) -> bool {
-    let mut store = match Checkpoint::open(alloc, disk) {
-        Ok(store) => store,
-        Err((error, _)) => panic!(rt; "refused: {error:?}"),
-    };
+    let mut store = opened(rt, alloc, disk);
     store.append(alloc, b"first").expect(rt, "refused");
     store.fuse(calls, image);
     let answer = store.append(alloc, b"second");
     answer.is_ok()
 }
 
+/// Asserts what is found behind an append that stopped.
+fn check_append(rt: &impl Abort, alloc: Global, calls: u64, image: u8) {
+    let mut disk = MemDisk::new(alloc);
+    let acknowledged = append_second(rt, alloc, &mut disk, calls, image);
+    same(rt, acknowledged, calls == 4);
+    disk.fuse(1000, 0);
+    let found = count_on(rt, alloc, &mut disk);
+    let wanted = if is_kept(calls, image) { 2 } else { 1 };
+    check_count(rt, calls, image, found, wanted);
+}
+
 #[test]
 fn an_append_is_kept_where_its_gate_was_written(rt: HostRuntime) {
-    let alloc = rt.alloc();
     for calls in 0..5u64 {
         for image in 0..3u8 {
-            let mut disk = MemDisk::new(alloc);
-            let acknowledged = append_second(&rt, alloc, &mut disk, calls, image);
-            assert_eq!(rt; acknowledged, calls == 4);
-            disk.fuse(1000, 0);
-            let found = records_on(alloc, &mut disk).expect(&rt, "refused");
-            let kept = calls == 4 || calls == 3 && image == 1;
-            assert_eq!(rt; found.len(), if kept { 2 } else { 1 }, "{calls} {image}");
+            check_append(&rt, rt.alloc(), calls, image);
+        }
+    }
+}
+
+/// Opens a device that may stop.
+fn try_opening(alloc: Global, disk: &mut MemDisk) {
+    let _ = Checkpoint::open(alloc, disk).is_ok();
+}
+
+/// Asserts that no record is found behind an opening that stopped.
+fn check_start(rt: &impl Abort, alloc: Global, mut disk: MemDisk, calls: u64, image: u8) {
+    disk.fuse(calls, image);
+    try_opening(alloc, &mut disk);
+    disk.fuse(1000, 0);
+    let found = count_on(rt, alloc, &mut disk);
+    check_count(rt, calls, image, found, 0);
+}
+
+/// Stops the opening of a file at each of its calls.
+fn check_starts(rt: &impl Abort, alloc: Global, bytes: &[u8]) {
+    for calls in 0..16u64 {
+        for image in 0..3u8 {
+            let disk = device(rt, alloc, bytes);
+            check_start(rt, alloc, disk, calls, image);
         }
     }
 }
 
 #[test]
 fn a_start_that_stops_keeps_the_list(rt: HostRuntime) {
-    let alloc = rt.alloc();
-    for size in 0..2usize {
-        for calls in 0..16u64 {
-            for image in 0..3u8 {
-                let mut disk = device(&rt, alloc, &b"\x01"[..size]);
-                disk.fuse(calls, image);
-                let _ = records_on(alloc, &mut disk);
-                disk.fuse(1000, 0);
-                let found = records_on(alloc, &mut disk).expect(&rt, "refused");
-                assert_eq!(rt; found.len(), 0, "{calls} {image}");
-            }
-        }
-    }
+    check_starts(&rt, rt.alloc(), b"");
+    check_starts(&rt, rt.alloc(), b"\x01");
 }
 
 /// Replaces the list of a device by `all`, which stops before its call `calls + 1`: whether it was acknowledged.
 fn replace_list(rt: &impl Abort, alloc: Global, disk: &mut MemDisk, calls: u64, image: u8) -> bool {
-    let mut store = match Checkpoint::open(alloc, disk) {
-        Ok(store) => store,
-        Err((error, _)) => panic!(rt; "refused: {error:?}"),
-    };
+    let mut store = opened(rt, alloc, disk);
     store.fuse(calls, image);
     let answer = store.replace(alloc, b"all");
     answer.is_ok()
+}
+
+/// Asserts what is found behind a replacement that stopped.
+fn check_replacement(rt: &impl Abort, alloc: Global, mut disk: MemDisk, calls: u64, image: u8) {
+    let acknowledged = replace_list(rt, alloc, &mut disk, calls, image);
+    same(rt, acknowledged, calls == 4);
+    disk.fuse(1000, 0);
+    let found = count_on(rt, alloc, &mut disk);
+    let wanted = if is_kept(calls, image) { 1 } else { 4096 };
+    check_count(rt, calls, image, found, wanted);
 }
 
 #[test]
 fn a_replacement_that_stops_leaves_the_old_list_or_the_new_one(rt: HostRuntime) {
     let alloc = rt.alloc();
     let mut full = MemDisk::new(alloc);
-    assert_eq!(rt;
-        append_many(alloc, &mut full, 4096).expect(&rt, "refused"),
-        4096
-    );
+    same(&rt, append_many(&rt, alloc, &mut full, 4096), 4096);
     let bytes = bytes_on(&rt, alloc, &mut full);
     for calls in 0..5u64 {
         for image in 0..3u8 {
-            let mut disk = device(&rt, alloc, bytes.as_slice());
-            let acknowledged = replace_list(&rt, alloc, &mut disk, calls, image);
-            disk.fuse(1000, 0);
-            let found = records_on(alloc, &mut disk).expect(&rt, "refused");
-            let kept = calls == 4 || calls == 3 && image == 1;
-            assert_eq!(rt; acknowledged, calls == 4);
-            assert_eq!(rt; found.len(), if kept { 1 } else { 4096 }, "{calls} {image}");
+            let disk = device(&rt, alloc, bytes.as_slice());
+            check_replacement(&rt, alloc, disk, calls, image);
         }
     }
+}
+
+/// Asserts that one more record makes a list due, which is then replaced.
+fn check_due<R: Records>(rt: &impl Abort, alloc: Global, store: &mut R) {
+    same(rt, store.due(), false);
+    let early = store.replace(alloc, b"all");
+    same(rt, early, Err(RecordError::Spent));
+    store.append(alloc, b"x").expect(rt, "refused");
+    same(rt, store.due(), true);
+    store.replace(alloc, b"all").expect(rt, "refused");
+    same(rt, store.due(), false);
+    same(rt, store.count(), 1);
 }
 
 #[test]
 fn a_list_is_due_where_many_records_follow(rt: HostRuntime) {
     let alloc = rt.alloc();
     let mut disk = MemDisk::new(alloc);
-    assert_eq!(rt;
-        append_many(alloc, &mut disk, 4095).expect(&rt, "refused"),
-        4095
-    );
-    let mut store = match Checkpoint::open(alloc, disk) {
-        Ok(store) => store,
-        Err((error, _)) => panic!(rt; "refused: {error:?}"),
+    same(&rt, append_many(&rt, alloc, &mut disk, 4095), 4095);
+    let mut store = opened(&rt, alloc, disk);
+    check_due(&rt, alloc, &mut store);
+    let found = records_on(&rt, alloc, &mut store.close());
+    let [record] = found.as_slice() else {
+        panic!(rt; "not one record");
     };
-    assert!(rt; !store.due());
-    assert!(rt; matches!(store.replace(alloc, b"all"), Err(RecordError::Spent)));
-    store.append(alloc, b"x").expect(&rt, "refused");
-    assert!(rt; store.due());
-    store.replace(alloc, b"all").expect(&rt, "refused");
-    assert!(rt; !store.due());
-    assert_eq!(rt; store.count(), 1);
-    let mut disk = store.close();
-    let found = records_on(alloc, &mut disk).expect(&rt, "refused");
-    assert_eq!(rt; found.len(), 1);
-    assert_eq!(rt; found[0].as_slice(), b"all".as_slice());
+    same(&rt, record.as_slice(), b"all".as_slice());
 }

@@ -1,6 +1,6 @@
 use Rattle.std.proofs.Common.{◌≡◌, []}
 use Rattle.mega_wal.specs.Compaction.{IsOfFormat}
-use Rattle.mega_checkpoint_tests.proofs.compacted.many_starts_become_one_record.Given as goal
+use Rattle.mega_checkpoint_tests.proofs.compacted.started.Given as goal
 
 abbrev pub invariant-loop : goal.invariant-loop
 invariant-loop g l = (l.logs.staged.items ≡ []) × IsOfFormat l.logs.kept
