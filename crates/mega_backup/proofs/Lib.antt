@@ -5,7 +5,7 @@ pub mod NoFloats
 pub mod Cells
 pub mod Answered
 pub mod Emptied
-pub mod Numbered
 pub mod Refused
 pub mod Spaces
 pub mod Joined
+pub mod Adding

@@ -1,5 +1,5 @@
 pub mod Faults
-pub mod Places
+pub use Rattle.mega_backup_rows.specs.Places
 pub mod Texts
 pub mod Words
 pub mod Lines

@@ -6,30 +6,16 @@ use Rattle.mega_entry.specs.declared.content.Write.{Write}
 use Rattle.mega_entry.specs.declared.content.Content.{Content}
 use Rattle.mega_schema.specs.declared.schema.Schema.{Schema}
 use Rattle.mega_index.specs.Rows.{Rows, Listed, no_rows, written, list_after}
-use Rattle.mega_index.specs.Fits.{numbered, stands_in}
-use Rattle.mega_index.specs.Fitted.{table_of}
 use Rattle.mega_outcome.specs.declared.answer.Done.{Done}
 use Rattle.mega_outcome.specs.declared.answer.Turn.{Turn}
 use Rattle.mega_outcome.specs.declared.answer.Turn.TheVariants.{OtherGroup, BadRow, CheckFailed, NoRow, Overflow, TooLarge as LargeTurn, DiskFault, Full, BadRecord, NoMemory as StoreMemory}
-use Rattle.mega_outcome.specs.declared.transaction.Change.TheVariants.{Put}
 use Rattle.mega_outcome.specs.declared.transaction.Transaction.{Transaction}
 use Rattle.mega_outcome.specs.Outcome.{outcome}
+pub use Rattle.mega_backup_rows.specs.Puts.{put_of, put_at, put_in}
 use Rattle.mega_backup.specs.declared.fault.BackupFault.{BackupFault}
 use Rattle.mega_backup.specs.declared.fault.BackupFault.TheVariants.{Short, Malformed, TooLarge, SinkFault, NoMemory}
 use Rattle.mega_backup.specs.declared.reading.Backup.{Backup}
 use Rattle.mega_backup.specs.Lines.{backup_in}
-
--- the put of one row
-abbrev pub put_of : GroupId → ℕ → Row → Transaction
-put_of group n row = record { group = group; checks = []; reads = []; writes = Put n row ∷ []; sends = [] }
-
--- that of a row under a row key of the group, where it fits the table and stands under its own key
-abbrev pub put_at : Schema → GroupId → Option ℕ → List ℕ → Row → Option Transaction
-put_at s group None key row = None
-put_at s group (Some n) key row = if stands_in s n (numbered s.tables n) key row then Some (put_of group n row) else None
-
-abbrev pub put_in : Schema → GroupId → List ℕ → Row → Option Transaction
-put_in s group key row = put_at s group (table_of s group.key key) key row
 
 -- the put alone on an empty group is refused as too large
 abbrev pub is_large_turn : Result Done Turn → Bool
@@ -96,11 +82,15 @@ abbrev pub prepended : List Transaction → Result (List Transaction) (List ℕ)
 prepended found (Err key) = Err key
 prepended found (Ok txns) = Ok (found ++ txns)
 
--- a row's put is added to those found before, whatever comes behind it; or this key is the answer
+-- a put, if there is one, is added to those found before, whatever comes behind it; or this key is the answer
+abbrev pub AddsPut : Schema → List ℕ → Option Transaction → List Transaction → List Transaction → Result (Unit {0}) BackupFault → Type 0
+AddsPut s key found old new (Ok _) = (more : Result (List Transaction) (List ℕ)) → prepended old (with_put s key found more) ≡ prepended new more
+AddsPut s key found old new (Err (Short has)) = ⊥
+AddsPut s key found old new (Err (Malformed line)) = ⊥
+AddsPut s key found old new (Err (TooLarge large)) = (more : Result (List Transaction) (List ℕ)) → with_put s key found more ≡ Err large
+AddsPut s key found old new (Err SinkFault) = ⊥
+AddsPut s key found old new (Err NoMemory) = Unit {0}
+
+-- that of a row
 abbrev pub Adds : Schema → GroupId → List ℕ → Row → List Transaction → List Transaction → Result (Unit {0}) BackupFault → Type 0
-Adds s group key row old new (Ok _) = (more : Result (List Transaction) (List ℕ)) → prepended old (with_put s key (put_in s group key row) more) ≡ prepended new more
-Adds s group key row old new (Err (Short has)) = ⊥
-Adds s group key row old new (Err (Malformed line)) = ⊥
-Adds s group key row old new (Err (TooLarge large)) = (more : Result (List Transaction) (List ℕ)) → with_put s key (put_in s group key row) more ≡ Err large
-Adds s group key row old new (Err SinkFault) = ⊥
-Adds s group key row old new (Err NoMemory) = Unit {0}
+Adds s group key row old new result = AddsPut s key (put_in s group key row) old new result

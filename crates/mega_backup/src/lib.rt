@@ -9,7 +9,6 @@ mod restoring;
 mod rows;
 mod showing;
 mod spelling;
-mod tables;
 mod words;
 mod writing;
 

@@ -1,5 +1,5 @@
 //! The transactions that bring back the rows of a backup at a position.
-ghost use Rattle.std.specs.Prelude.{◌≡◌, ◌≤◌, take, length};
+ghost use Rattle.std.specs.Prelude.{◌≤◌, length};
 ghost use Rattle.mega_backup.specs.Faults.{GivesBy};
 ghost use Rattle.mega_backup.specs.Restoring.{from_backup, read_of, restoring};
 
@@ -7,6 +7,7 @@ use crate::fault::BackupFault;
 use crate::puts::puts_of;
 use crate::reading::{Backup, backup_in};
 use crate::rows::rows_after;
+use mega_backup_rows::first_entries;
 use mega_base::{Bytes, Position};
 use mega_outcome::Transaction;
 use mega_schema::Schema;
@@ -22,7 +23,7 @@ fn restoring(
     requires { through ≤ length backup.now.entries }
     ensures { GivesBy (λ txns. txns.items) result (restoring schema.now backup.now.group backup.now.entries through) }
 {
-    let (first, _) = backup.entries.as_slice().split_at(through as usize);
+    let first = first_entries(backup.entries.as_slice(), through);
     let rows = rows_after(alloc, first)?;
     puts_of(alloc, schema, &backup.group, &rows)
 }

@@ -4,10 +4,12 @@ ghost use Rattle.std.specs.Option.{option_copied};
 ghost use Rattle.hex.specs.Hex.{encode_lower};
 ghost use Rattle.serde_json.specs.Data.{string, array, object, no_members};
 ghost use Rattle.serde_json.specs.View.{view, items_of, members_view};
+ghost use Rattle.mega_keys.specs.Reading.{read_key_of};
+ghost use Rattle.mega_schema.specs.Shaping.{shape_of};
 ghost use Rattle.mega_index.specs.Fits.{numbered};
-ghost use Rattle.mega_backup.specs.Spelling.{cell_data, cells_members, group_data, name_of, properties_of, root_number, root_values, row_data, value_data, values_data, with_cell};
+ghost use Rattle.mega_backup.specs.Spelling.{cell_data, cells_members, group_data, name_of, properties_of, root_number, root_values, row_data, value_data, values_data, values_or_none, with_cell};
 
-use crate::tables::shape_of;
+use mega_backup_rows::shape_of;
 use mega_base::{Bytes, Cell, Items, NoMemory, Row, Value};
 use mega_index::{property_at, table_at};
 use mega_keys::{KeyFault, read_key};
@@ -122,6 +124,25 @@ fn root_number(key: &[u8]) -> u8
     }
 }
 
+/// The values that a row key spells, none where the bytes are no row key of this table.
+fn key_values(
+    alloc: Global,
+    schema: &Schema,
+    number: u8,
+    table: &Table,
+    row_key: &[u8],
+) -> Result<Items<Value>, NoMemory>
+    requires { numbered schema.now.tables number ≡ Some table.now }
+    ensures { IfOk result (λ values. values ≡ values_or_none (read_key_of (shape_of schema.now number table.now) row_key.now)) }
+{
+    let shape = shape_of(alloc, schema, number, table)?;
+    match read_key(alloc, &shape, row_key) {
+        Ok(values) => Ok(values),
+        Err(KeyFault::NoMemory) => Err(NoMemory),
+        Err(_) => Ok(Items::new(alloc)),
+    }
+}
+
 /// The values that a key of this table spells, none where it spells none.
 fn values_of(
     alloc: Global,
@@ -133,14 +154,9 @@ fn values_of(
     requires { numbered schema.now.tables number ≡ Some table.now }
     ensures { IfOk result (λ values. values ≡ root_values schema.now number (Some table.now) key.now) }
 {
-    let shape = shape_of(alloc, schema, number, table)?;
     let mut row_key = Bytes::from_slice(alloc, key)?;
     row_key.push(number)?;
-    match read_key(alloc, &shape, row_key.as_slice()) {
-        Ok(values) => Ok(values),
-        Err(KeyFault::NoMemory) => Err(NoMemory),
-        Err(_) => Ok(Items::new(alloc)),
-    }
+    key_values(alloc, schema, number, table, row_key.as_slice())
 }
 
 /// The root key values of a group.
@@ -158,13 +174,25 @@ fn root_values(
     }
 }
 
+/// The root key values of a group, as a list.
+fn root_values_json(
+    alloc: Global,
+    schema: &Schema,
+    number: u8,
+    key: &[u8],
+) -> Result<Json, NoMemory>
+    ensures { IfOk result (λ made. view made ≡ values_data (root_values schema.now number (numbered schema.now.tables number) key.now)) }
+{
+    let values = root_values(alloc, schema, number, key)?;
+    values_json(alloc, values.as_slice())
+}
+
 /// A group: its root's name, and its root key values.
 pub fn group_json(alloc: Global, schema: &Schema, key: &[u8]) -> Result<Json, NoMemory>
     ensures { IfOk result (λ made. view made ≡ group_data schema.now key.now) }
 {
     let number = root_number(key);
+    let values = root_values_json(alloc, schema, number, key)?;
     let name = name_json(alloc, table_at(schema, number))?;
-    let values = root_values(alloc, schema, number, key)?;
-    let values = values_json(alloc, values.as_slice())?;
     pair(alloc, name, values)
 }

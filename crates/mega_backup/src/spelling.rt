@@ -1,8 +1,10 @@
 //! Appends the schedule line of a put.
 ghost use Rattle.std.specs.Prelude.{◌≡◌, ◌++◌, length, take, OnOk, OnErr, false};
+ghost use Rattle.serde_json.specs.Data.{string};
 ghost use Rattle.serde_json.specs.View.{view};
 ghost use Rattle.serde_json.specs.Written.{compact_text, has_float};
-ghost use Rattle.mega_backup.specs.Spelling.{line_of, put_line};
+ghost use Rattle.mega_index.specs.Fits.{numbered};
+ghost use Rattle.mega_backup.specs.Spelling.{group_data, line_of, name_of, put_line, row_data};
 
 use crate::showing::{group_json, name_json, row_json};
 use mega_base::{Bytes, NoMemory, Row};
@@ -24,8 +26,57 @@ fn put_json(alloc: Global, front: &[u8], value: &Json, out: &mut Bytes) -> Resul
     out.extend_from_slice(text.as_bytes())
 }
 
+/// Appends bytes and a group as compact JSON. A refusal may leave a part of it in `out`.
+#[tactic(auto, using(mega_base::proofs::Keeps::keeps_front, crate::proofs::NoFloats::group))]
+fn put_group(
+    alloc: Global,
+    schema: &Schema,
+    front: &[u8],
+    group: &[u8],
+    out: &mut Bytes,
+) -> Result<(), NoMemory>
+    ensures ok { OnOk result (out.new ≡ out.old ++ (front.now ++ compact_text (group_data schema.now group.now))) }
+    ensures err { OnErr result (take (length out.old) out.new ≡ out.old) }
+{
+    let group = group_json(alloc, schema, group)?;
+    put_json(alloc, front, &group, out)
+}
+
+/// Appends bytes and the name of a table as JSON. A refusal may leave a part of it in `out`.
+#[tactic(auto, using(mega_base::proofs::Keeps::keeps_front))]
+fn put_name(
+    alloc: Global,
+    schema: &Schema,
+    front: &[u8],
+    table: u8,
+    out: &mut Bytes,
+) -> Result<(), NoMemory>
+    ensures ok { OnOk result (out.new ≡ out.old ++ (front.now ++ compact_text (string (name_of (numbered schema.now.tables table))))) }
+    ensures err { OnErr result (take (length out.old) out.new ≡ out.old) }
+{
+    let name = name_json(alloc, table_at(schema, table))?;
+    put_json(alloc, front, &name, out)
+}
+
+/// Appends bytes and a row of a table as compact JSON. A refusal may leave a part of it in `out`.
+#[tactic(auto, using(mega_base::proofs::Keeps::keeps_front, crate::proofs::NoFloats::row))]
+fn put_row(
+    alloc: Global,
+    schema: &Schema,
+    front: &[u8],
+    table: u8,
+    row: &Row,
+    out: &mut Bytes,
+) -> Result<(), NoMemory>
+    ensures ok { OnOk result (out.new ≡ out.old ++ (front.now ++ compact_text (row_data (numbered schema.now.tables table) row.now))) }
+    ensures err { OnErr result (take (length out.old) out.new ≡ out.old) }
+{
+    let row = row_json(alloc, table_at(schema, table), row)?;
+    put_json(alloc, front, &row, out)
+}
+
 /// Appends the line of a put at node 1. A refusal may leave a part of it in `out`.
-#[tactic(auto, using(mega_base::proofs::Keeps::keeps_front, crate::proofs::NoFloats::group, crate::proofs::NoFloats::row))]
+#[tactic(auto, using(mega_base::proofs::Keeps::keeps_front))]
 fn put_line(
     alloc: Global,
     schema: &Schema,
@@ -37,18 +88,21 @@ fn put_line(
     ensures ok { OnOk result (out.new ≡ out.old ++ put_line schema.now group.now table row.now) }
     ensures err { OnErr result (take (length out.old) out.new ≡ out.old) }
 {
-    let there = table_at(schema, table);
-    let group = group_json(alloc, schema, group)?;
-    let name = name_json(alloc, there)?;
-    let row = row_json(alloc, there, row)?;
-    put_json(alloc, br#"{"checks":[],"do":"txn","group":"#, &group, out)?;
-    put_json(
+    put_group(
         alloc,
-        br#","node":1,"reads":[],"sends":[],"writes":[{"put":"#,
-        &name,
+        schema,
+        br#"{"checks":[],"do":"txn","group":"#,
+        group,
         out,
     )?;
-    put_json(alloc, br#","row":"#, &row, out)?;
+    put_name(
+        alloc,
+        schema,
+        br#","node":1,"reads":[],"sends":[],"writes":[{"put":"#,
+        table,
+        out,
+    )?;
+    put_row(alloc, schema, br#","row":"#, table, row, out)?;
     out.extend_from_slice(b"}]}")
 }
 

@@ -16,6 +16,7 @@ ghost use Rattle.mega_backup.specs.Texts.{backup_text, entries_text, entry_line,
 
 use crate::fault::BackupFault;
 use itoa::Buffer;
+use mega_backup_rows::entry_behind;
 use mega_base::{Bytes, GroupId, NoMemory, Position};
 use mega_disk::Records;
 use mega_entry::{Entry, encode};
@@ -105,7 +106,7 @@ fn write_entries<R: Records, O: Sink>(
     ensures count { O.faults out.old ≤ O.faults out.new }
 {
     for n in 0..most {
-        match logs.decided(group, Position(n + 1)) {
+        match entry_behind(logs, group, n) {
             Some(entry) => write_entry(alloc, entry, out)?,
             None => return Ok(()),
         }

@@ -1,6 +1,6 @@
 use Rattle.std.proofs.Common.{◌≡◌, ◌+◌, drop, take}
 use Rattle.mega_index.specs.Fitted.{table_in, table_of}
-use Rattle.mega_backup.proofs.tables.table_of.Given as goal
+use Rattle.mega_backup_rows.proofs.tables.table_of.Given as goal
 
 abbrev pub invariant-loop-place : goal.invariant-loop-place
 invariant-loop-place l =

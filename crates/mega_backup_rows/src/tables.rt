@@ -3,7 +3,7 @@ ghost use Rattle.std.specs.Prelude.{◌≡◌, ◌≤◌, length, take, IfOk, So
 ghost use Rattle.mega_schema.specs.Shaping.{shape_of};
 ghost use Rattle.mega_index.specs.Fits.{numbered, group_of};
 ghost use Rattle.mega_index.specs.Fitted.{is_key_of, table_of};
-ghost use Rattle.mega_backup.specs.Places.{is_group};
+ghost use Rattle.mega_backup_rows.specs.Places.{is_group};
 
 use mega_base::{NoMemory, Shape, Value};
 use mega_index::group_of;

@@ -1,5 +1,5 @@
-use Rattle.mega_backup.proofs.Numbered.{numbered_there}
-use Rattle.mega_backup.proofs.tables.table_of.Goals as goal
+use Rattle.mega_backup_rows.proofs.Numbered.{numbered_there}
+use Rattle.mega_backup_rows.proofs.tables.table_of.Goals as goal
 
 pub is_key_of-requires : goal.is_key_of-requires
 is_key_of-requires c =
