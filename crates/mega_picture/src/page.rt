@@ -1,6 +1,6 @@
 //! A whole page: its head, what is drawn, and what is written around it.
 ghost use Rattle.std.specs.Prelude.{◌≡◌, ◌≤◌, ◌<◌, ◌++◌, OnOk, length};
-ghost use Rattle.mega_picture.specs.Pages.{opening, paper, head_with, head, lane_bands, all_bands, drawing, page};
+ghost use Rattle.mega_picture.specs.Pages.{opening, paper, head_with, head, lane_bands, all_bands, drawing, page, page_on, sheet_of};
 
 use crate::arrow_names::put_arrow_names;
 use crate::arrow_texts::put_arrows;
@@ -116,9 +116,41 @@ fn put_drawing(
     put_marks(alloc, out, sheet, &journeys, groups, told)
 }
 
+/// The measures of the page of these lines.
+fn sheet_of(nodes: &[NodeKind], told: &[Told]) -> Sheet
+    requires { length told.now ≤ 4000 }
+    ensures { result ≡ sheet_of nodes.now told.now }
+{
+    Sheet {
+        nodes: nodes.len().min(255) as u8,
+        steps: told.len() as u32,
+    }
+}
+
+/// Appends the page with these measures, of lines with these groups.
+#[tactic(auto, unfolding(crate::specs::Pages::page_on))]
+fn put_page_on(
+    alloc: Global,
+    out: &mut Bytes,
+    sheet: Sheet,
+    groups: &Groups,
+    nodes: &[NodeKind],
+    first: u64,
+    told: &[Told],
+) -> Result<(), NoMemory>
+    requires told { length told.now ≤ 4000 }
+    requires groups { length groups.now ≤ 4000 }
+    ensures { OnOk result (out.new ≡ out.old ++ page_on sheet groups.now nodes.now first told.now) }
+{
+    let count = groups.keys().len() as u32;
+    put_head(alloc, out, sheet.width(), sheet.height(count))?;
+    put_drawing(alloc, out, sheet, groups, told)?;
+    put_writing(alloc, out, sheet, groups.keys(), nodes, first, told)?;
+    out.extend_from_slice(b"</svg>\n")
+}
+
 /// Appends the page of a transcript's items, at most 4,000, under a header with these nodes; `first` is the number of the
 /// first one's line. `NoMemory` alone refuses, and may leave a part of the page.
-#[tactic(auto, unfolding(crate::specs::Pages::page_on))]
 pub fn put_page(
     alloc: Global,
     out: &mut Bytes,
@@ -129,14 +161,14 @@ pub fn put_page(
     requires { length told.now ≤ 4000 }
     ensures { OnOk result (out.new ≡ out.old ++ page nodes.now first told.now) }
 {
-    let sheet = Sheet {
-        nodes: nodes.len().min(255) as u8,
-        steps: told.len() as u32,
-    };
     let groups = Groups::new(alloc, told)?;
-    let count = groups.keys().len() as u32;
-    put_head(alloc, out, sheet.width(), sheet.height(count))?;
-    put_drawing(alloc, out, sheet, &groups, told)?;
-    put_writing(alloc, out, sheet, groups.keys(), nodes, first, told)?;
-    out.extend_from_slice(b"</svg>\n")
+    put_page_on(
+        alloc,
+        out,
+        sheet_of(nodes, told),
+        &groups,
+        nodes,
+        first,
+        told,
+    )
 }
