@@ -1,5 +1,5 @@
 //! The word `two`: a change is driven over a link, and the last line says how it ended.
-ghost use Rattle.std.specs.Prelude.{◌≡◌, ◌≤◌, ◌⊎◌, Err, IfOk, IfErr, false};
+ghost use Rattle.std.specs.Prelude.{◌≡◌, ◌≤◌, ◌⊎◌, Err, IfOk, IfErr, OnErr, false};
 ghost use Rattle.std.specs.Option.{option_copied};
 ghost use Rattle.std.specs.Io.KnownBytes.{Appends};
 ghost use Rattle.mega_base.specs.Causes.{Rose};
@@ -29,6 +29,19 @@ fn ended_so(alloc: Global, two: &Two) -> Result<Last, NoMemory>
     })
 }
 
+/// How a change ended, which is let go.
+fn last_of(alloc: Global, two: Two) -> Result<Last, Stop>
+    ensures value { IfOk result (λ last. last ≡ Last.Ended two.plan.name (ending two)) }
+    ensures memory { OnErr result (result ≡ Err Stop.NoMemory) }
+{
+    let last = ended_so(alloc, &two);
+    drop(two);
+    match last {
+        Ok(last) => Ok(last),
+        Err(NoMemory) => Err(Stop::NoMemory),
+    }
+}
+
 /// Drives a change over a link that is bound as a client's.
 fn drive_from<L: Link, C: Clock>(
     alloc: Global,
@@ -43,16 +56,18 @@ fn drive_from<L: Link, C: Clock>(
     ensures only { IfErr result IsDriveStop }
     ensures links { L.faults link.old ≤ L.faults link.new }
 {
-    let Start { cluster, two } = start;
-    match link.bind(NodeId(0), cluster.addresses.as_slice()) {
+    let patience = start.cluster.patience;
+    match link.bind(NodeId(0), start.cluster.addresses.as_slice()) {
         Ok(()) => {}
         Err(Failed) => {
-            drop(two);
+            drop(start);
             return Err(Stop::Link);
         }
     }
-    match drive(alloc, number, cluster.patience, turns, two, link, clock) {
-        Ok(two) => Ok(ended_so(alloc, &two)?),
+    let Start { cluster, two } = start;
+    drop(cluster);
+    match drive(alloc, number, patience, turns, two, link, clock) {
+        Ok(two) => last_of(alloc, two),
         Err(NoMemory) => Err(Stop::NoMemory),
     }
 }
