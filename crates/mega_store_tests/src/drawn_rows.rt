@@ -99,6 +99,43 @@ fn scanned_in(list: &[Kept], from: u8, to: u8, at: u64) -> i64 {
     sum
 }
 
+/// Puts a drawn row, and keeps it in the list.
+fn put_drawn(
+    rt: &impl Abort,
+    alloc: Global,
+    rows: &mut VersionedRows,
+    list: &mut Vec<Kept>,
+    kept: Kept,
+) {
+    let key = key_bytes(rt, alloc, kept.key);
+    let row = row_of(rt, alloc, kept.number);
+    rows.put(alloc, &key, Position(kept.at), row)
+        .expect(rt, "refused");
+    list.push(kept).expect(rt, "refused");
+}
+
+/// The number of the latest row of a key.
+fn latest(rt: &impl Abort, alloc: Global, rows: &mut VersionedRows, key: u8) -> i64 {
+    let bytes = key_bytes(rt, alloc, key);
+    let row = rows.latest(alloc, &bytes).expect(rt, "refused");
+    i64::from(number_of(row))
+}
+
+/// The number of the row that a read of a key at a position sees.
+fn read(rt: &impl Abort, alloc: Global, rows: &mut VersionedRows, key: u8, at: u64) -> i64 {
+    let bytes = key_bytes(rt, alloc, key);
+    let row = rows.get(alloc, &bytes, Position(at)).expect(rt, "refused");
+    i64::from(number_of(row))
+}
+
+/// Cleans the rows from one key to another.
+fn clean(rt: &impl Abort, alloc: Global, rows: &mut VersionedRows, from: u8, to: u8, at: u64) {
+    let from = key_bytes(rt, alloc, from);
+    let to = key_bytes(rt, alloc, to);
+    rows.clean(alloc, &from, &to, Position(at))
+        .expect(rt, "refused");
+}
+
 /// One drawn call of the rows, and of the list; what they answer, as two numbers.
 fn call(
     rt: &impl Abort,
@@ -110,59 +147,51 @@ fn call(
 ) -> (i64, i64) {
     let key = draws.draw(12) as u8;
     let at = draws.draw(100);
-    let bytes = key_bytes(rt, alloc, key);
+    let later = at.max(*cleaned);
     match draws.draw(8) {
         0..=3 => {
             let number = draws.draw(1000) as i32;
-            rows.put(alloc, &bytes, Position(at), row_of(rt, alloc, number))
-                .expect(rt, "refused");
-            list.push(Kept { key, at, number }).expect(rt, "refused");
+            put_drawn(rt, alloc, rows, list, Kept { key, at, number });
             (0, 0)
         }
-        4 => {
-            let row = rows.latest(alloc, &bytes).expect(rt, "refused");
-            (
-                i64::from(number_of(row)),
-                i64::from(number_in(list.as_slice(), key, u64::MAX)),
-            )
-        }
+        4 => (
+            latest(rt, alloc, rows, key),
+            i64::from(number_in(list.as_slice(), key, u64::MAX)),
+        ),
         5 => {
             let to = draws.draw(12) as u8;
-            let at = at.max(*cleaned);
             (
-                scanned(rt, alloc, rows, key, to, at),
-                scanned_in(list.as_slice(), key, to, at),
+                scanned(rt, alloc, rows, key, to, later),
+                scanned_in(list.as_slice(), key, to, later),
             )
         }
         6 if at % 8 == 0 => {
-            let end = key_bytes(rt, alloc, draws.draw(12) as u8);
-            rows.clean(alloc, &bytes, &end, Position(at))
-                .expect(rt, "refused");
-            *cleaned = at.max(*cleaned);
+            clean(rt, alloc, rows, key, draws.draw(12) as u8, at);
+            *cleaned = later;
             (0, 0)
         }
-        _ => {
-            let at = at.max(*cleaned);
-            let row = rows.get(alloc, &bytes, Position(at)).expect(rt, "refused");
-            (
-                i64::from(number_of(row)),
-                i64::from(number_in(list.as_slice(), key, at)),
-            )
-        }
+        _ => (
+            read(rt, alloc, rows, key, later),
+            i64::from(number_in(list.as_slice(), key, later)),
+        ),
+    }
+}
+
+/// A thousand drawn calls.
+fn run(rt: &impl Abort, alloc: Global, seed: u64) {
+    let mut draws = Draws::new(seed);
+    let mut rows = VersionedRows::new(alloc);
+    let mut list = Vec::new(alloc);
+    let mut cleaned = 0;
+    for number in 0..1000u32 {
+        let (told, kept) = call(rt, alloc, &mut draws, &mut rows, &mut list, &mut cleaned);
+        assert_eq!(rt; told, kept, "call {number} of seed {seed}");
     }
 }
 
 #[test]
 fn ten_thousand_calls_beside_a_list_that_keeps_everything(rt: HostRuntime) {
-    let alloc = rt.alloc();
     for seed in 1..=10u64 {
-        let mut draws = Draws::new(seed);
-        let mut rows = VersionedRows::new(alloc);
-        let mut list = Vec::new(alloc);
-        let mut cleaned = 0;
-        for number in 0..1000u32 {
-            let (told, kept) = call(&rt, alloc, &mut draws, &mut rows, &mut list, &mut cleaned);
-            assert_eq!(rt; told, kept, "call {number} of seed {seed}");
-        }
+        run(&rt, rt.alloc(), seed);
     }
 }

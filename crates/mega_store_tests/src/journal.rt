@@ -1,5 +1,6 @@
 //! A journal over devices that stop at any call, and over any bytes.
-use mega_base::Bytes;
+use crate::asserted::same;
+use crate::draws::Draws;
 use mega_disk::{Disk, FileDisk, MemDisk, MemRecords, RecordError, Records};
 use mega_journal::Journal;
 use std::alloc::Global;
@@ -14,84 +15,140 @@ fn device(rt: &impl Abort, alloc: Global, bytes: &[u8]) -> MemDisk {
     disk
 }
 
-/// The records that an opening finds.
-fn records_on<D: Disk + Drop>(alloc: Global, disk: &mut D) -> Result<Vec<Bytes>, RecordError> {
+/// The journal on a device.
+fn opened<D: Disk + Drop>(rt: &impl Abort, alloc: Global, disk: D) -> Journal<D> {
     match Journal::open(alloc, disk) {
-        Ok(mut journal) => Ok(journal.take_opened()),
-        Err((error, _)) => Err(error),
+        Ok(journal) => journal,
+        Err((error, _)) => panic!(rt; "refused: {error:?}"),
     }
 }
 
-/// A device with one record, `first`, on which an append of `second` was cut before its call `calls + 1`.
-fn cut_append(rt: &impl Abort, alloc: Global, calls: u64, image: u8) -> (bool, MemDisk) {
-    let mut disk = MemDisk::new(alloc);
-    let kept = append_both(rt, alloc, &mut disk, calls, image);
-    (kept, disk)
+/// How many records an opening finds.
+fn count_on<D: Disk + Drop>(rt: &impl Abort, alloc: Global, disk: &mut D) -> usize {
+    let mut journal = opened(rt, alloc, disk);
+    journal.take_opened().len()
 }
 
+/// Asserts how many records are found on a device that stopped before its call `calls + 1`.
+fn check_count(rt: &impl Abort, calls: u64, image: u8, found: usize, wanted: usize) {
+    assert_eq!(rt; found, wanted, "{calls} {image}");
+}
+
+/// Whether an append of `second` behind `first` was acknowledged, which was cut before its call `calls + 1`.
 fn append_both(rt: &impl Abort, alloc: Global, disk: &mut MemDisk, calls: u64, image: u8) -> bool {
-    let mut journal = match Journal::open(alloc, disk) {
-        Ok(journal) => journal,
-        Err((error, _)) => panic!(rt; "refused: {error:?}"),
-    };
+    let mut journal = opened(rt, alloc, disk);
     journal.append(alloc, b"first").expect(rt, "refused");
     journal.fuse(calls, image);
     let answer = journal.append(alloc, b"second");
     answer.is_ok()
 }
 
+/// Asserts what two openings find behind an append that was cut.
+fn check_append(rt: &impl Abort, alloc: Global, calls: u64, image: u8) {
+    let mut disk = MemDisk::new(alloc);
+    let acknowledged = append_both(rt, alloc, &mut disk, calls, image);
+    same(rt, acknowledged, calls == 4);
+    disk.fuse(1000, 0);
+    let kept = calls == 4 || calls == 3 && image == 1;
+    let wanted = if kept { 2 } else { 1 };
+    let found = count_on(rt, alloc, &mut disk);
+    check_count(rt, calls, image, found, wanted);
+    let again = count_on(rt, alloc, &mut disk);
+    check_count(rt, calls, image, again, wanted);
+}
+
 #[test]
 fn an_append_is_kept_where_its_gate_was_written(rt: HostRuntime) {
-    let alloc = rt.alloc();
     for calls in 0..5u64 {
         for image in 0..3u8 {
-            let (acknowledged, mut disk) = cut_append(&rt, alloc, calls, image);
-            let kept = calls == 4 || calls == 3 && image == 1;
-            assert_eq!(rt; acknowledged, calls == 4);
-            disk.fuse(1000, 0);
-            let found = records_on(alloc, &mut disk).expect(&rt, "refused");
-            assert_eq!(rt; found.len(), if kept { 2 } else { 1 }, "{calls} {image}");
-            let again = records_on(alloc, &mut disk).expect(&rt, "refused");
-            assert_eq!(rt; again.len(), found.len());
+            check_append(&rt, rt.alloc(), calls, image);
         }
     }
 }
 
+/// Asserts that a journal whose append failed at this call takes no other, and what is found on its device.
+fn check_refused(rt: &impl Abort, alloc: Global, failing: u64, wanted: usize) {
+    let mut disk = MemDisk::new(alloc);
+    disk.fail_at(failing.saturating_add(4));
+    let mut journal = opened(rt, alloc, disk);
+    let fault = journal.append(alloc, b"body");
+    same(rt, fault, Err(RecordError::DiskFault));
+    let spent = journal.append(alloc, b"body");
+    same(rt, spent, Err(RecordError::Spent));
+    same(rt, journal.count(), 0);
+    same(rt, count_on(rt, alloc, &mut journal.close()), wanted);
+}
+
 #[test]
 fn a_refused_append_leaves_the_journal_spent(rt: HostRuntime) {
-    let alloc = rt.alloc();
-    for failing in 1..5u64 {
-        let mut disk = MemDisk::new(alloc);
-        disk.fail_at(4 + failing);
-        let Ok(mut journal) = Journal::open(alloc, disk) else {
-            return;
-        };
-        assert!(rt; matches!(journal.append(alloc, b"body"), Err(RecordError::DiskFault)));
-        assert!(rt; matches!(journal.append(alloc, b"body"), Err(RecordError::Spent)));
-        assert_eq!(rt; journal.count(), 0);
-        let mut disk = journal.close();
-        let found = records_on(alloc, &mut disk).expect(&rt, "refused");
-        assert_eq!(rt; found.len(), if failing == 4 { 1 } else { 0 });
+    check_refused(&rt, rt.alloc(), 1, 0);
+    check_refused(&rt, rt.alloc(), 2, 0);
+    check_refused(&rt, rt.alloc(), 3, 0);
+    check_refused(&rt, rt.alloc(), 4, 1);
+}
+
+/// Whether a device is opened.
+fn opens(alloc: Global, disk: &mut MemDisk) -> bool {
+    Journal::open(alloc, disk).is_ok()
+}
+
+/// Asserts whether an opening that is cut ends, and how many records the next one finds.
+fn check_opening(
+    rt: &impl Abort,
+    alloc: Global,
+    mut disk: MemDisk,
+    cut: (u64, u8),
+    wanted: (bool, usize),
+) {
+    let (calls, image) = cut;
+    disk.fuse(calls, image);
+    same(rt, opens(alloc, &mut disk), wanted.0);
+    disk.fuse(1000, 0);
+    let found = count_on(rt, alloc, &mut disk);
+    check_count(rt, calls, image, found, wanted.1);
+}
+
+/// Cuts the opening of a file at each of its calls; so many are needed for it to end.
+fn check_openings(rt: &impl Abort, alloc: Global, bytes: &[u8], records: usize, needed: u64) {
+    for calls in 0..6u64 {
+        for image in 0..3u8 {
+            let disk = device(rt, alloc, bytes);
+            let wanted = (calls >= needed, records);
+            check_opening(rt, alloc, disk, (calls, image), wanted);
+        }
     }
 }
 
 #[test]
 fn an_opening_that_is_cut_keeps_the_records(rt: HostRuntime) {
-    let alloc = rt.alloc();
-    let torn: [&[u8]; 3] = [b"\x01\0\0\0\x02ab\x01\0\0\0\x09x", b"\x01", b""];
-    for (bytes, (records, needed)) in torn.iter().zip([(1, 5), (0, 5), (0, 4)]) {
-        for calls in 0..6u64 {
-            for image in 0..3u8 {
-                let mut disk = device(&rt, alloc, bytes);
-                disk.fuse(calls, image);
-                let first = records_on(alloc, &mut disk);
-                assert_eq!(rt; first.is_ok(), calls >= needed);
-                disk.fuse(1000, 0);
-                let found = records_on(alloc, &mut disk).expect(&rt, "refused");
-                assert_eq!(rt; found.len(), records, "{calls} {image}");
-            }
-        }
+    let torn = b"\x01\0\0\0\x02ab\x01\0\0\0\x09x";
+    check_openings(&rt, rt.alloc(), torn, 1, 5);
+    check_openings(&rt, rt.alloc(), b"\x01", 0, 5);
+    check_openings(&rt, rt.alloc(), b"", 0, 4);
+}
+
+/// Appends two records to the journal on a device, and gives the device's length.
+fn append_two<D: Disk + Drop>(rt: &impl Abort, alloc: Global, disk: &mut D) -> u64 {
+    {
+        let mut journal = opened(rt, alloc, &mut *disk);
+        journal.append(alloc, b"abc").expect(rt, "refused");
+        journal.append(alloc, b"defgh").expect(rt, "refused");
     }
+    disk.len().expect(rt, "no length")
+}
+
+/// Asserts how many records are found on a device with two that is cut to a length.
+fn check_cut<D: Disk + Drop>(rt: &impl Abort, alloc: Global, disk: &mut D, length: u64) {
+    same(rt, append_two(rt, alloc, disk), 19);
+    let Ok(size) = disk.len() else {
+        panic!(rt; "no length");
+    };
+    if length <= size {
+        disk.cut(length).expect(rt, "refused");
+    }
+    let found = count_on(rt, alloc, disk);
+    let whole = if length < 9 { 0 } else { 1 };
+    assert_eq!(rt; found, whole, "{length}");
 }
 
 #[test]
@@ -100,26 +157,9 @@ fn a_file_is_read_up_to_its_first_closed_gate(rt: HostRuntime) {
     let name = "mega_journal_file_test";
     for length in 0..19u64 {
         let _ = fs::remove_file(&rt, name);
-        let disk = FileDisk::new(
-            rt.clone().expect(&rt, "refused"),
-            String::from_str(alloc, name).expect(&rt, "refused"),
-        );
-        let Ok(mut journal) = Journal::open(alloc, disk) else {
-            return;
-        };
-        journal.append(alloc, b"abc").expect(&rt, "refused");
-        journal.append(alloc, b"defgh").expect(&rt, "refused");
-        let mut disk = journal.close();
-        let Ok(size) = disk.len() else {
-            panic!(rt; "no length");
-        };
-        assert_eq!(rt; size, 19);
-        if length <= size {
-            disk.cut(length).expect(&rt, "refused");
-        }
-        let found = records_on(alloc, &mut disk).expect(&rt, "refused");
-        let whole = if length < 9 { 0 } else { 1 };
-        assert_eq!(rt; found.len(), whole, "{length}");
+        let text = String::from_str(alloc, name).expect(&rt, "refused");
+        let mut disk = FileDisk::new(rt.clone().expect(&rt, "refused"), text);
+        check_cut(&rt, alloc, &mut disk, length);
     }
     fs::remove_file(&rt, name).expect(&rt, "refused");
 }
@@ -142,25 +182,27 @@ fn count_by_the_format(bytes: &[u8]) -> usize {
     count
 }
 
+/// Forty drawn bytes, each 0 or 1.
+fn drawn(rt: &impl Abort, alloc: Global, draws: &mut Draws) -> Vec<u8> {
+    let mut bytes = Vec::new(alloc);
+    for place in 0..40u64 {
+        let drawn = draws.draw(4);
+        let high = place % 5 == 1 || place % 5 == 2 || place % 5 == 3;
+        let byte = if high || drawn == 3 { 0 } else { 1 };
+        bytes.push(byte).expect(rt, "refused");
+    }
+    bytes
+}
+
 #[test]
 fn any_bytes_open_to_what_the_format_says(rt: HostRuntime) {
     let alloc = rt.alloc();
-    let mut state = 7u64;
+    let mut draws = Draws::new(7);
     for _ in 0..300u32 {
-        let mut bytes = Vec::new(alloc);
-        for place in 0..40u64 {
-            state = state
-                .wrapping_mul(6364136223846793005)
-                .wrapping_add(1442695040888963407);
-            let drawn = (state >> 33) % 4;
-            let high = place % 5 == 1 || place % 5 == 2 || place % 5 == 3;
-            bytes
-                .push(if high || drawn == 3 { 0 } else { 1 })
-                .expect(&rt, "refused");
-        }
+        let bytes = drawn(&rt, alloc, &mut draws);
         let mut disk = device(&rt, alloc, bytes.as_slice());
-        let found = records_on(alloc, &mut disk).expect(&rt, "refused");
-        assert_eq!(rt; found.len(), count_by_the_format(bytes.as_slice()));
+        let found = count_on(&rt, alloc, &mut disk);
+        same(&rt, found, count_by_the_format(bytes.as_slice()));
     }
 }
 
@@ -177,24 +219,30 @@ fn appended<R: Records>(alloc: Global, records: &mut R, calls: u64, image: u8) -
     count
 }
 
+/// How many appends to a list in memory are acknowledged, and how many records are found then.
+fn list_cut(rt: &impl Abort, alloc: Global, calls: u64, image: u8) -> (u64, usize) {
+    let mut list = MemRecords::new(alloc);
+    let count = appended(alloc, &mut list, calls, image);
+    list.reopen().expect(rt, "refused");
+    (count, list.take_opened().len())
+}
+
+/// The same of a chain.
+fn chain_cut(rt: &impl Abort, alloc: Global, calls: u64, image: u8) -> (u64, usize) {
+    let mut journal = opened(rt, alloc, MemDisk::new(alloc));
+    let count = appended(alloc, &mut journal, calls, image);
+    let mut disk = journal.close();
+    disk.fuse(1000, 0);
+    (count, count_on(rt, alloc, &mut disk))
+}
+
 #[test]
 fn a_list_in_memory_is_cut_as_a_chain_is(rt: HostRuntime) {
-    let alloc = rt.alloc();
     for calls in 0..13u64 {
         for image in 0..3u8 {
-            let mut list = MemRecords::new(alloc);
-            let count = appended(alloc, &mut list, calls, image);
-            list.reopen().expect(&rt, "refused");
-            let kept = list.take_opened();
-            let mut disk = MemDisk::new(alloc);
-            let Ok(mut journal) = Journal::open(alloc, &mut disk) else {
-                return;
-            };
-            assert_eq!(rt; appended(alloc, &mut journal, calls, image), count);
-            drop(journal);
-            disk.fuse(1000, 0);
-            let found = records_on(alloc, &mut disk).expect(&rt, "refused");
-            assert_eq!(rt; found.len(), kept.len(), "{calls} {image}");
+            let list = list_cut(&rt, rt.alloc(), calls, image);
+            let chain = chain_cut(&rt, rt.alloc(), calls, image);
+            assert_eq!(rt; chain, list, "{calls} {image}");
         }
     }
 }

@@ -1,131 +1,168 @@
 //! The rows of a node over three entries: a row, nothing, and two writes of which one deletes that row.
-use mega_base::{Bytes, GroupId, Items, NoMemory, NodeId, Position, Row};
+use crate::asserted::same;
+use mega_base::{Bytes, GroupId, Items, NodeId, Position, Row};
 use mega_disk::{MemRecords, MemVersions, Versions};
 use mega_entry::{Content, Entry, Write};
 use mega_replica::{StoredRows, after_portion, after_read, applied, writes_through};
-use mega_wal::{LogFault, Logs};
+use mega_wal::Logs;
 use std::alloc::Global;
+use std::process::Abort;
+
+/// The writes of an entry: each an empty row under a key of one byte, or a deletion.
+fn writes(rt: &impl Abort, alloc: Global, keys: &[(u8, bool)]) -> Items<Write> {
+    let mut writes = Items::new(alloc);
+    for (key, there) in keys {
+        let write = write(rt, alloc, *key, *there);
+        writes.push(write).expect(rt, "refused");
+    }
+    writes
+}
 
 /// A write of an empty row, or a deletion.
-fn write(alloc: Global, key: &[u8], there: bool) -> Result<Write, NoMemory> {
-    let key = Bytes::from_slice(alloc, key)?;
-    let row = if there {
-        Some(Row {
-            cells: Items::new(alloc),
-        })
-    } else {
-        None
+fn write(rt: &impl Abort, alloc: Global, key: u8, there: bool) -> Write {
+    let key = Bytes::from_slice(alloc, &[key]).expect(rt, "refused");
+    let empty = Row {
+        cells: Items::new(alloc),
     };
-    Ok(Write { key, row })
+    let row = if there { Some(empty) } else { None };
+    Write { key, row }
 }
 
 /// An entry of these writes.
-fn entry(alloc: Global, writes: Items<Write>) -> Result<Entry, NoMemory> {
+fn entry(rt: &impl Abort, alloc: Global, keys: &[(u8, bool)]) -> Entry {
     let content = Content {
         id: None,
         leader: NodeId(1),
-        writes,
+        writes: writes(rt, alloc, keys),
         sends: Items::new(alloc),
         enters: Items::new(alloc),
         handles: Items::new(alloc),
         cuts: Items::new(alloc),
     };
-    Entry::new(alloc, content)
+    Entry::new(alloc, content).expect(rt, "refused")
+}
+
+fn group(rt: &impl Abort, alloc: Global) -> GroupId {
+    let key = Bytes::from_slice(alloc, b"g").expect(rt, "refused");
+    GroupId { key }
+}
+
+/// Decides an entry of the group.
+fn decide(
+    rt: &impl Abort,
+    alloc: Global,
+    logs: &mut Logs<MemRecords>,
+    position: u64,
+    keys: &[(u8, bool)],
+) {
+    let entry = entry(rt, alloc, keys);
+    logs.decide(alloc, &group(rt, alloc), Position(position), entry)
+        .expect(rt, "refused");
 }
 
 /// Logs in which the three entries of the group are decided.
-fn decided(alloc: Global, group: &GroupId) -> Result<Logs<MemRecords>, LogFault> {
+fn decided(rt: &impl Abort, alloc: Global) -> Logs<MemRecords> {
     let mut logs = match Logs::open(alloc, MemRecords::new(alloc)) {
         Ok(logs) => logs,
-        Err((fault, _)) => return Err(fault),
+        Err((fault, _)) => panic!(rt; "refused: {fault:?}"),
     };
-    let mut first = Items::new(alloc);
-    first.push(write(alloc, b"a", true)?)?;
-    logs.decide(alloc, group, Position(1), entry(alloc, first)?)?;
-    logs.decide(alloc, group, Position(2), entry(alloc, Items::new(alloc))?)?;
-    let mut last = Items::new(alloc);
-    last.push(write(alloc, b"b", true)?)?;
-    last.push(write(alloc, b"a", false)?)?;
-    logs.decide(alloc, group, Position(3), entry(alloc, last)?)?;
-    Ok(logs)
+    decide(rt, alloc, &mut logs, 1, &[(b'a', true)]);
+    decide(rt, alloc, &mut logs, 2, &[]);
+    decide(rt, alloc, &mut logs, 3, &[(b'b', true), (b'a', false)]);
+    logs
+}
+
+/// Asserts through which position the entries of the group are applied.
+fn check_applied(
+    rt: &impl Abort,
+    alloc: Global,
+    stored: &StoredRows<MemVersions>,
+    logs: &Logs<MemRecords>,
+    wanted: u64,
+) {
+    same(rt, stored.applied(&group(rt, alloc), logs).0, wanted);
+}
+
+/// Applies some entries whose writes are at most one.
+fn apply_one(
+    rt: &impl Abort,
+    alloc: Global,
+    stored: &mut StoredRows<MemVersions>,
+    logs: &Logs<MemRecords>,
+) {
+    stored
+        .apply_some(alloc, &group(rt, alloc), logs, 1)
+        .expect(rt, "refused");
+}
+
+/// Applies all three entries.
+fn apply_three(
+    rt: &impl Abort,
+    alloc: Global,
+    stored: &mut StoredRows<MemVersions>,
+    logs: &Logs<MemRecords>,
+) {
+    stored
+        .apply_through(alloc, &group(rt, alloc), logs, Position(3))
+        .expect(rt, "refused");
 }
 
 #[test]
 fn entries_are_applied_when_all_their_writes_are_stored(rt: HostRuntime) {
     let alloc = rt.alloc();
-    let group = GroupId {
-        key: Bytes::from_slice(alloc, b"g").expect(&rt, "refused"),
-    };
-    let logs = decided(alloc, &group).expect(&rt, "refused");
+    let logs = decided(&rt, alloc);
     let mut stored = StoredRows::new(alloc, MemVersions::new(alloc));
-    assert_eq!(rt; stored.applied(&group, &logs).0, 0);
-    stored
-        .apply_some(alloc, &group, &logs, 1)
-        .expect(&rt, "refused");
-    assert_eq!(rt; stored.applied(&group, &logs).0, 2);
-    stored
-        .apply_some(alloc, &group, &logs, 1)
-        .expect(&rt, "refused");
-    assert_eq!(rt; stored.applied(&group, &logs).0, 2);
-    stored
-        .apply_through(alloc, &group, &logs, Position(3))
-        .expect(&rt, "refused");
-    assert_eq!(rt; stored.applied(&group, &logs).0, 3);
+    check_applied(&rt, alloc, &stored, &logs, 0);
+    apply_one(&rt, alloc, &mut stored, &logs);
+    check_applied(&rt, alloc, &stored, &logs, 2);
+    apply_one(&rt, alloc, &mut stored, &logs);
+    check_applied(&rt, alloc, &stored, &logs, 2);
+    apply_three(&rt, alloc, &mut stored, &logs);
+    check_applied(&rt, alloc, &stored, &logs, 3);
+}
+
+/// Whether the row that the last entry deletes stands at a position.
+fn stands(
+    rt: &impl Abort,
+    alloc: Global,
+    stored: &mut StoredRows<MemVersions>,
+    position: u64,
+) -> bool {
+    let key = Bytes::from_slice(alloc, b"a").expect(rt, "refused");
+    let row = stored
+        .rows
+        .get(alloc, &key, Position(position))
+        .expect(rt, "refused");
+    row.is_some()
 }
 
 #[test]
 fn a_row_stands_at_the_position_of_its_entry(rt: HostRuntime) {
     let alloc = rt.alloc();
-    let group = GroupId {
-        key: Bytes::from_slice(alloc, b"g").expect(&rt, "refused"),
-    };
-    let logs = decided(alloc, &group).expect(&rt, "refused");
+    let logs = decided(&rt, alloc);
     let mut stored = StoredRows::new(alloc, MemVersions::new(alloc));
-    stored
-        .apply_through(alloc, &group, &logs, Position(3))
-        .expect(&rt, "refused");
-    let key = Bytes::from_slice(alloc, b"a").expect(&rt, "refused");
-    assert!(rt;
-        stored
-            .rows
-            .get(alloc, &key, Position(0))
-            .expect(&rt, "refused")
-            .is_none()
-    );
-    assert!(rt;
-        stored
-            .rows
-            .get(alloc, &key, Position(2))
-            .expect(&rt, "refused")
-            .is_some()
-    );
-    assert!(rt;
-        stored
-            .rows
-            .get(alloc, &key, Position(3))
-            .expect(&rt, "refused")
-            .is_none()
-    );
+    apply_three(&rt, alloc, &mut stored, &logs);
+    same(&rt, stands(&rt, alloc, &mut stored, 0), false);
+    same(&rt, stands(&rt, alloc, &mut stored, 2), true);
+    same(&rt, stands(&rt, alloc, &mut stored, 3), false);
 }
 
 /// Entries with one, no and two deletions.
-fn log(alloc: Global) -> Result<Items<Entry>, NoMemory> {
+fn log(rt: &impl Abort, alloc: Global) -> Items<Entry> {
     let mut log = Items::new(alloc);
-    for count in [1u8, 0, 2] {
-        let mut writes = Items::new(alloc);
-        for number in 0..count {
-            writes.push(write(alloc, &[number], false)?)?;
-        }
-        log.push(entry(alloc, writes)?)?;
-    }
-    Ok(log)
+    log.push(entry(rt, alloc, &[(0, false)]))
+        .expect(rt, "refused");
+    log.push(entry(rt, alloc, &[])).expect(rt, "refused");
+    log.push(entry(rt, alloc, &[(0, false), (1, false)]))
+        .expect(rt, "refused");
+    log
 }
 
 #[test]
 fn writes_are_counted(rt: HostRuntime) {
-    let log = log(rt.alloc()).expect(&rt, "refused");
-    assert_eq!(rt; applied(log.as_slice(), 2), 2);
-    assert_eq!(rt; writes_through(3, log.as_slice()), Some(3));
-    assert_eq!(rt; after_portion(5, log.as_slice(), 1), Some(3));
-    assert_eq!(rt; after_read(1, log.as_slice(), 0), Some(1));
+    let log = log(&rt, rt.alloc());
+    same(&rt, applied(log.as_slice(), 2), 2);
+    same(&rt, writes_through(3, log.as_slice()), Some(3));
+    same(&rt, after_portion(5, log.as_slice(), 1), Some(3));
+    same(&rt, after_read(1, log.as_slice(), 0), Some(1));
 }
