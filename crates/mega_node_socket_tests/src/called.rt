@@ -9,7 +9,8 @@ use mega_meanings::BuiltIn;
 use mega_node::mega_server::Number;
 use mega_node::run_node;
 use std::alloc::Global;
-use std::test::Fail;
+use std::fmt::Debug;
+use std::process::Abort;
 
 /// What a call came to: its status, what it wrote, its link, and its devices.
 #[derive(Drop)]
@@ -28,39 +29,54 @@ pub fn empty(alloc: Global) -> Pair<MemDisk> {
     }
 }
 
+/// What came to a node in memory, or will.
+pub type Mail = Vec<Option<(Peer, Bytes)>>;
+
+/// Asserts that what was found is what is wanted.
+pub fn same<T: PartialEq + Debug + Drop>(rt: &impl Abort, found: T, wanted: T) {
+    assert_eq!(rt; found, wanted);
+}
+
 /// The other end of a datagram: a node, or a client behind the letter `c`.
-fn peer_of(text: &str) -> Result<Peer, Fail> {
+fn peer_of(rt: &impl Abort, text: &str) -> Peer {
     match text.strip_prefix('c') {
-        Some(client) => Ok(Peer::Client(client.parse::<u32>()?)),
-        None => Ok(Peer::Node(NodeId(text.parse::<u8>()?))),
+        Some(client) => Peer::Client(client.parse::<u32>().expect(rt, "no client")),
+        None => Peer::Node(NodeId(text.parse::<u8>().expect(rt, "no node"))),
     }
+}
+
+/// The datagram of a line.
+fn datagram(rt: &impl Abort, alloc: Global, line: &str) -> Option<(Peer, Bytes)> {
+    let (peer, hex) = line.split_once(' ').expect(rt, "no peer");
+    let bytes = hex::decode(alloc, hex.as_bytes()).expect(rt, "refused");
+    Some((peer_of(rt, peer), Bytes::from_vec(bytes)))
 }
 
 /// The datagrams of a text, a line for each.
-pub fn datagrams(alloc: Global, text: &str) -> Result<Vec<Option<(Peer, Bytes)>>, Fail> {
+pub fn datagrams(rt: &impl Abort, alloc: Global, text: &str) -> Mail {
     let mut all = Vec::new(alloc);
     for line in text.lines() {
-        let (peer, hex) = line.split_once(' ').ok_or("no peer")?;
-        let bytes = hex::decode(alloc, hex.as_bytes())?;
-        all.push(Some((peer_of(peer)?, Bytes::from_vec(bytes))))?;
+        all.push(datagram(rt, alloc, line)).expect(rt, "refused");
     }
-    Ok(all)
+    all
+}
+
+/// Puts a datagram of a node behind others.
+pub fn put_from(rt: &impl Abort, alloc: Global, mail: &mut Mail, from: u8, bytes: &Bytes) {
+    let copy = bytes.copy(alloc).expect(rt, "refused");
+    mail.push(Some((Peer::Node(NodeId(from)), copy)))
+        .expect(rt, "refused");
 }
 
 /// What was sent to a node, as it comes to it from another.
-pub fn passed_on(
-    alloc: Global,
-    sent: &[(Peer, Bytes)],
-    from: u8,
-    to: u8,
-) -> Result<Vec<Option<(Peer, Bytes)>>, Fail> {
+pub fn passed_on(rt: &impl Abort, alloc: Global, sent: &[(Peer, Bytes)], from: u8, to: u8) -> Mail {
     let mut all = Vec::new(alloc);
     for one in sent {
         if is_node(one.0, to) {
-            all.push(Some((Peer::Node(NodeId(from)), one.1.copy(alloc)?)))?;
+            put_from(rt, alloc, &mut all, from, &one.1);
         }
     }
-    Ok(all)
+    all
 }
 
 /// Whether this is a node of this number.
@@ -73,22 +89,22 @@ pub fn is_node(peer: Peer, number: u8) -> bool {
 
 /// Calls the node of this number, to which these datagrams come.
 pub fn call(
+    rt: &impl Abort,
     alloc: Global,
     number: u8,
     turns: u64,
     header: &str,
-    coming: Vec<Option<(Peer, Bytes)>>,
-    clock: MemClock,
+    coming: Mail,
+    mut clock: MemClock,
     devices: Pair<MemDisk>,
-) -> Result<Called, Fail>
+) -> Called
     requires least { 1 ≤ number }
     requires most { number ≤ 9 }
 {
-    let header = Bytes::from_slice(alloc, header.as_bytes())?;
+    let header = Bytes::from_slice(alloc, header.as_bytes()).expect(rt, "refused");
     let mut input = MemSource::new(header.into_vec(), Vec::new(alloc));
     let mut out = MemSink::new(alloc, Vec::new(alloc));
     let mut link = MemLink::new(alloc, coming);
-    let mut clock = clock;
     let outcome = run_node(
         alloc,
         Number::new(number),
@@ -100,10 +116,10 @@ pub fn call(
         &mut clock,
         BuiltIn::new(),
     );
-    Ok(Called {
+    Called {
         status: outcome.status(),
-        text: Bytes::from_slice(alloc, out.bytes())?,
+        text: Bytes::from_slice(alloc, out.bytes()).expect(rt, "refused"),
         link,
         devices: outcome.devices,
-    })
+    }
 }
