@@ -157,6 +157,20 @@ impl Ord for Bytes {
     ghost matches_eq = { texts_ties };
 
     fn cmp(&self, other: &Bytes) -> Ordering {
-        self.as_slice().cmp(other.as_slice())
+        order(self.as_slice(), other.as_slice())
     }
+}
+
+/// How two byte strings compare, byte by byte. Keys are short, so this costs less than the comparison of slices, which looks for long equal fronts first.
+fn order(a: &[u8], b: &[u8]) -> Ordering
+    ensures { result ≡ slice_cmp nat_cmp a.now b.now }
+{
+    let both = a.len().min(b.len());
+    for i in 0..both {
+        let found = a[i].cmp(&b[i]);
+        if found.is_ne() {
+            return found;
+        }
+    }
+    a.len().cmp(&b.len())
 }
