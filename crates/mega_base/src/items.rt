@@ -30,6 +30,14 @@ impl<T> Items<T> {
         }
     }
 
+    /// The empty list, with room for so many items.
+    pub fn with_capacity(alloc: Global, capacity: usize) -> Result<Items<T>, NoMemory>
+        ensures { IfOk result (λ made. made ≡ []) }
+    {
+        let items = Vec::with_capacity(alloc, capacity)?;
+        Ok(Items { items })
+    }
+
     /// This list, with no copy.
     pub fn from_vec(items: Vec<T>) -> Items<T>
         ensures { result ≡ items.items }
@@ -70,6 +78,10 @@ impl<T: Drop> Items<T> {
         ensures ok { OnOk result (self.new ≡ self.old ++ item ∷ []) }
         ensures err { OnErr result (self.new ≡ self.old) }
     {
+        // Most lists have one item, so that the first makes room for itself alone.
+        if self.items.capacity() == 0 {
+            self.items.reserve_exact(1)?;
+        }
         self.items.push(item)?;
         Ok(())
     }
@@ -87,7 +99,7 @@ impl<T: PartialEq> PartialEq for Items<T> {
 
 impl<T: Copied + Drop> Copied for Items<T> {
     fn copy(&self, alloc: Global) -> Result<Items<T>, NoMemory> {
-        let mut made = Items::new(alloc);
+        let mut made = Items::with_capacity(alloc, self.len())?;
         for item in self.as_slice() {
             made.push(item.copy(alloc)?)?;
         }

@@ -57,10 +57,10 @@ fn parsed(alloc: Global, schema: &Schema, text: &[u8]) -> Result<Item, ItemFault
     let item = taken_for(alloc, schema, text)?;
     let found = difference(alloc, schema, &item, text);
     if is_same(found) {
-        Ok(item)
-    } else {
-        Err(fault_of(found))
+        return Ok(item);
     }
+    drop(item);
+    Err(fault_of(found))
 }
 
 /// Whether no difference was found.
@@ -121,10 +121,10 @@ fn whole_item(alloc: Global, schema: &Schema, text: &[u8]) -> Result<Item, Refus
     let mut words = Words::new(text);
     let item = item(alloc, schema, &mut words)?;
     if words.is_at_end() {
-        Ok(item)
-    } else {
-        Err(Refusal::Word { left: words.len() })
+        return Ok(item);
     }
+    drop(item);
+    Err(Refusal::Word { left: words.len() })
 }
 
 /// An item at the front.

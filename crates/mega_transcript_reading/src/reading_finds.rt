@@ -8,7 +8,7 @@ ghost use Rattle.mega_transcript_reading.specs.ReadingRows.{first_or_null, behin
 use crate::named::table_of;
 use crate::reading_rows::cells_of;
 use crate::reading_values::{list_of, triple_of, value_of};
-use mega_base::{Items, Kind, NoMemory, Row, Value};
+use mega_base::{Items, Kind, NoMemory, Row, Shape, Value};
 use mega_outcome::mega_index::Found;
 use mega_schema::{Schema, Table};
 use mega_transcript::table_at;
@@ -25,6 +25,16 @@ fn put_kinds(kinds: &mut Items<Kind>, more: &[Kind]) -> Result<(), NoMemory>
     Ok(())
 }
 
+/// The kinds of the values of a key.
+fn key_kinds(alloc: Global, shape: &Shape) -> Result<Items<Kind>, NoMemory>
+    ensures { IfOk result (λ made. made ≡ key_kinds shape.now) }
+{
+    let mut kinds = Items::new(alloc);
+    put_kinds(&mut kinds, shape.root_kinds.as_slice())?;
+    put_kinds(&mut kinds, shape.rest_kinds.as_slice())?;
+    Ok(kinds)
+}
+
 /// The kinds of the key of the table with this number.
 fn kinds_of(
     alloc: Global,
@@ -37,10 +47,7 @@ fn kinds_of(
 {
     let _table = table;
     let shape = schema.shape(alloc, number)?;
-    let mut kinds = Items::new(alloc);
-    put_kinds(&mut kinds, shape.root_kinds.as_slice())?;
-    put_kinds(&mut kinds, shape.rest_kinds.as_slice())?;
-    Ok(kinds)
+    key_kinds(alloc, &shape)
 }
 
 /// A value of this kind from the first item, or from none.
