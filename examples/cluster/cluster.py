@@ -24,6 +24,9 @@ REQUEST, REPLY = 20, 21
 HEAD = struct.Struct(">3sBBB")
 TOKEN = struct.Struct(">QI")
 
+# Seconds and microseconds, as the kernel takes them: how long one call waits for a datagram.
+WAIT = struct.pack("ll", 0, 50_000)
+
 
 def find_program():
     """The program that ./build proved and built."""
@@ -145,30 +148,40 @@ class Client:
         self.token = random.getrandbits(32) << 20
         self.socket = socket.socket(socket.AF_INET, socket.SOCK_DGRAM)
         self.socket.bind(("127.0.0.1", 0))
+        # the kernel waits, so that a reply that is there costs one call
+        self.socket.setsockopt(socket.SOL_SOCKET, socket.SO_RCVTIMEO, WAIT)
 
-    def send(self, node, wish):
-        """Sends a request, and gives its token."""
+    def request(self, node, wish):
+        """A request under a token of its own: the token and the datagram."""
         self.token += 1
-        self.socket.sendto(request_message(node, self.token, wish), self.cluster.address(node))
-        return self.token
+        return self.token, request_message(node, self.token, wish)
+
+    def send(self, node, datagram):
+        self.socket.sendto(datagram, self.cluster.address(node))
 
     def receive(self, seconds):
-        """The next reply, or nothing after so many seconds."""
-        self.socket.settimeout(max(seconds, 0.001))
-        try:
-            return read_reply(self.socket.recv(65_536))
-        except socket.timeout:
-            return None
+        """The next datagram that comes, or nothing after so many seconds."""
+        end = time.monotonic() + seconds
+        while True:
+            try:
+                return self.socket.recv(65_536)
+            except BlockingIOError:
+                if time.monotonic() >= end:
+                    return None
 
-    def ask(self, node, wish, seconds=10.0):
-        """The text of the reply to a request, or nothing where none came in time."""
-        token = self.send(node, wish)
+    def exchange(self, node, token, datagram, seconds=10.0):
+        """Sends a request, and gives the text of its reply, or nothing where none came in time."""
+        self.send(node, datagram)
         end = time.monotonic() + seconds * self.cluster.slower
         while time.monotonic() < end:
-            reply = self.receive(end - time.monotonic())
+            reply = read_reply(self.receive(end - time.monotonic()) or b"")
             if reply and reply[:2] == (node, token):
                 return reply[2]
         return None
+
+    def ask(self, node, wish, seconds=10.0):
+        """The text of the reply to a request, or nothing where none came in time."""
+        return self.exchange(node, *self.request(node, wish), seconds)
 
     def wait_for(self, node):
         """Waits until a node answers."""

@@ -4,7 +4,7 @@ import select
 import statistics
 import time
 
-from cluster import Client, put_note, read_notes
+from cluster import Client, put_note, read_notes, read_reply
 
 PUTS = 2_000
 READS = 20_000
@@ -20,13 +20,14 @@ def tell(name, times, each=1):
     print(f"{name}: p50 {median:,.0f} us, {each * len(times) / sum(times):,.0f} a second")
 
 
-def timed(act, count):
-    """How long each of so many calls takes, or of those that are made in some seconds."""
+def timed(make, count):
+    """How long each of so many acts takes, or of those that end in some seconds. Each is made before its time begins."""
     times = []
     end = time.perf_counter() + SECONDS
     while len(times) < count and time.perf_counter() < end:
+        act = make(len(times))
         begun = time.perf_counter()
-        act(len(times))
+        act()
         times.append(time.perf_counter() - begun)
     return times
 
@@ -36,13 +37,16 @@ def sync_twice(folder):
     place = os.open(folder / "bare", os.O_CREAT | os.O_RDWR)
     block = bytes(200)
 
-    def act(number):
-        for half in range(2):
-            os.pwrite(place, block, (2 * number + half) * len(block))
-            os.fdatasync(place)
+    def make(number):
+        def act():
+            for half in range(2):
+                os.pwrite(place, block, (2 * number + half) * len(block))
+                os.fdatasync(place)
+
+        return act
 
     try:
-        return timed(act, PUTS)
+        return timed(make, PUTS)
     finally:
         os.close(place)
 
@@ -52,22 +56,25 @@ def expect(answer, word):
         raise SystemExit(f"expected {word}, not {answer}")
 
 
-def put_often(client):
-    def act(number):
-        expect(client.ask(1, put_note(1, number, "a note of some words")), "committed")
+def ask_often(client, wish, word, count):
+    """How long a client waits for the replies of node 1 to what it asks, one after another: from the sending of each request until its reply is there."""
 
-    return timed(act, PUTS)
+    def make(number):
+        token, datagram = client.request(1, wish(number))
+        return lambda: expect(client.exchange(1, token, datagram), word)
+
+    return timed(make, count)
+
+
+def put_often(client):
+    return ask_often(client, lambda number: put_note(1, number, "a note of some words"), "committed", PUTS)
 
 
 def read_often(client):
     """Current reads of one short group at a node where the group is valid."""
     expect(client.ask(1, put_note(2, 1, "a note of some words")), "committed")
     expect(client.ask(1, read_notes(2)), "read")
-
-    def act(_):
-        expect(client.ask(1, read_notes(2)), "read")
-
-    return timed(act, READS)
+    return ask_often(client, lambda _: read_notes(2), "read", READS)
 
 
 def batch_of(user, first):
@@ -88,7 +95,8 @@ def batch_often(cluster):
 
     def send(index):
         node = index % len(cluster.ports) + 1
-        clients[index].send(node, batch_of(1_000 + index, sent[index] * TRANSACTIONS))
+        _, datagram = clients[index].request(node, batch_of(1_000 + index, sent[index] * TRANSACTIONS))
+        clients[index].send(node, datagram)
         sent[index] += 1
 
     committed = 0
@@ -98,7 +106,7 @@ def batch_often(cluster):
     while sum(sent) < BATCHES and time.perf_counter() - begun < SECONDS:
         for one in select.select(list(by_socket), [], [], 5.0)[0]:
             index = by_socket[one]
-            reply = clients[index].receive(1.0)
+            reply = read_reply(clients[index].receive(1.0) or b"")
             committed += bool(reply) and reply[2].startswith("batch ") and not reply[2].startswith("batch none")
             send(index)
     took = time.perf_counter() - begun
