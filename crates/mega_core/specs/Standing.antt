@@ -3,7 +3,7 @@ use Rattle.mega_disk.specs.VersionMaps.{Versions}
 use Rattle.mega_handler.specs.Named.{Meanings}
 use Rattle.mega_rules.specs.Operations.{Node as RuleNode}
 use Rattle.mega_core.specs.declared.node.Node.{Node}
-use Rattle.mega_core.specs.Lagging.{KnowsLagging}
+use Rattle.mega_lagging.specs.Lagging.{KnowsLagging}
 use Rattle.mega_taking.specs.Standing.{StandsWith}
 
 -- all that a node keeps represents that node, and it knows the groups of which it may not have applied all that is decided

@@ -4,11 +4,9 @@
 
 mod beginning;
 mod ending;
-mod lagging;
 mod node;
 mod restarting;
 mod starting;
-mod watching;
 
 pub use mega_actions;
 pub use mega_stepping;

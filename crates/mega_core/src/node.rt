@@ -21,13 +21,13 @@ ghost use Rattle.mega_core.specs.Stepping.{AtEach, IsStrange, IsTooLate, IsUnser
 ghost use Rattle.mega_stepping.specs.Events.{event_of};
 
 use crate::starting::{leases_of, members_of, voter_of};
-use crate::watching::{behind, watched};
 use mega_actions::Replica;
 use mega_actions::mega_marks::Indexed;
 use mega_actions::mega_pumps::Digest;
 use mega_base::{Copied, GroupId, Items, Text};
 use mega_cluster::Cluster;
 use mega_disk::{Records, Versions};
+use mega_lagging::{behind, watched};
 use mega_meanings::QueueHandlers;
 use mega_outcome::Request;
 use mega_replica::StoredRows;

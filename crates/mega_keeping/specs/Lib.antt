@@ -1,3 +1,4 @@
 pub mod Behind
 pub mod Hearing
 pub mod Staging
+pub mod Settings

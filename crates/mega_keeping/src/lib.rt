@@ -1,11 +1,15 @@
-//! What a node keeps and hears: which of its operations a message is for, what its voter keeps of a note of its cell, and how far it is behind with a group
-//! (Lamport 2001; CIDR 2011).
+//! Small decisions of a node: which of its operations a message is for, with which read one begins and what it comes to at its position, what its voter keeps of
+//! a note of its cell, and how far it is behind with a group (Lamport 2001; CIDR 2011).
 #![tactic(auto)]
 
 mod behind;
+mod entries;
 mod hearing;
 mod keeping;
+mod reading;
 
 pub use behind::{applied_at, is_behind};
+pub use entries::{own_entry, verdict};
 pub use hearing::is_for;
 pub use keeping::keep_note;
+pub use reading::read_begun;

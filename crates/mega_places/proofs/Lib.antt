@@ -6,7 +6,6 @@ pub mod Failing
 pub mod Finding
 pub mod Fuses
 pub mod Joining
-pub mod Lapsing
 pub mod Least
 pub mod Outcomes
 pub mod Plain

@@ -2,7 +2,6 @@ pub mod Carries
 pub mod Faults
 pub mod Fusing
 pub mod Kept
-pub mod Lapses
 pub mod LogFuses
 pub mod Members
 pub mod Starting

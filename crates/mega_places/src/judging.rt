@@ -4,13 +4,13 @@ ghost use Rattle.std.specs.Prelude.{◌≡◌, ◌&&◌, ℕ, not};
 ghost use Rattle.mega_cluster.specs.declared.cluster.Cluster.{Cluster};
 ghost use Rattle.mega_rules.specs.Operations.{Node as RuleNode};
 ghost use Rattle.mega_promises.specs.Runs.{breaks, counts_cell};
-ghost use Rattle.mega_places.specs.Lapses.{AreLapsesOf};
+ghost use Rattle.mega_safety.specs.Lapses.{AreLapsesOf};
 ghost use Rattle.mega_places.specs.Members.{AreMembers};
 
 use crate::place::Place;
 use crate::places::member_of;
-use crate::safety::{Lapse, Safety};
 use mega_base::Epoch;
+use mega_safety::{Lapse, Safety};
 use mega_transcript::Item;
 use mega_verdicts::is_first;
 

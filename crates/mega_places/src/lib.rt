@@ -1,4 +1,4 @@
-//! The parts of a world: its nodes, up and down, in their places, the messages between them, and what tells that leases are safe.
+//! The parts of a world: its nodes, up and down, in their places, and the messages between them.
 #![tactic(auto)]
 
 mod fallen;
@@ -13,7 +13,6 @@ mod not_made;
 mod place;
 mod places;
 mod remains;
-mod safety;
 mod starting;
 mod stepping;
 
@@ -25,6 +24,7 @@ pub use mail::Mail;
 pub use mega_durable;
 pub use mega_meanings;
 pub use mega_outcome;
+pub use mega_safety::{Lapse, Safety, keep_lapses};
 pub use mega_schedule;
 pub use mega_transcript;
 pub use member::Member;
@@ -32,6 +32,5 @@ pub use not_made::NotMade;
 pub use place::Place;
 pub use places::{is_node, is_up, member_of, put_place, take_down, take_place};
 pub use remains::Remains;
-pub use safety::{Lapse, Safety, keep_lapses};
 pub use starting::{Begun, NotBegun};
 pub use stepping::{Stepped, begin_at, step_at};

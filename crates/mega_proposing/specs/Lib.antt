@@ -1,4 +1,4 @@
-pub mod Settings
+pub use Rattle.mega_keeping.specs.Settings
 pub mod Actions
 pub mod Working
 pub mod Completed

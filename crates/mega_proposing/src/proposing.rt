@@ -14,14 +14,14 @@ ghost use Rattle.mega_rules.specs.Acting.{batch_sealed, is_taken, leader_after, 
 ghost use Rattle.mega_voter.specs.Telling.{Tells};
 ghost use Rattle.mega_proposing.specs.Actions.{does, said};
 ghost use Rattle.mega_proposing.specs.Reaching.{operation_of};
-ghost use Rattle.mega_proposing.specs.Settings.{setting};
+ghost use Rattle.mega_keeping.specs.Settings.{setting};
 
 use crate::action::{Action, End};
 use crate::complete_read::CompleteRead;
-use crate::entries::{own_entry, verdict};
 use mega_base::{GroupId, Items, NoMemory, Position};
 use mega_disk::Records;
 use mega_entry::Entry;
+use mega_keeping::{own_entry, verdict};
 use mega_operations::{Kept, Members, Phase, Promised};
 use mega_outcome::{Answer, Batch, Done, Shown, Turn};
 use mega_propose::Proposal;

@@ -32,7 +32,7 @@ use Rattle.mega_places.specs.Starting.{BeginsSo, FallsAgain}
 use Rattle.mega_places.specs.declared.starting.Begun.{Begun}
 use Rattle.mega_places.proofs.Fuses.{fused_gone}
 use Rattle.mega_places.proofs.Joining.{at_other, at_own, nodes_on}
-use Rattle.mega_places.proofs.Lapsing.{lapsed_on}
+use Rattle.mega_safety.proofs.Lapsing.{lapsed_on}
 use Rattle.mega_world.proofs.Holding.{owed_crashed}
 
 -- ---- a crash behind what is owed changes nothing that records hold

@@ -13,12 +13,12 @@ use Rattle.mega_places.proofs.of_transcript.Tapes.{newest-append}
 use Rattle.mega_places.specs.of_promises.Messages.{next_delivery}
 use Rattle.mega_places.specs.of_promises.Runs.{Standing, after_event, by_fuse, delivered, drained, marked, up}
 use Rattle.mega_places.specs.declared.place.Place.{Place}
-use Rattle.mega_places.specs.declared.safety.Safety.{Safety}
+use Rattle.mega_safety.specs.declared.safety.Safety.{Safety}
 use Rattle.mega_world.specs.declared.world.World.{World}
 use Rattle.mega_places.specs.Carries.{Carries}
 use Rattle.mega_world.specs.Formed.{IfNext, IsSound, OwnsDelivered, OwnsDrained}
 use Rattle.mega_places.specs.Kept.{AreNodes}
-use Rattle.mega_places.specs.Lapses.{KnowsLeases}
+use Rattle.mega_safety.specs.Lapses.{KnowsLeases}
 use Rattle.mega_world.specs.Stands.{StandsWith}
 use Rattle.mega_world.proofs.Behind.{behind}
 use Rattle.mega_places.proofs.Carrying.{same_on}

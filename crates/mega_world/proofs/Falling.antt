@@ -30,7 +30,7 @@ use Rattle.mega_world.specs.declared.world.World.{World}
 use Rattle.mega_places.specs.Carries.{Carries}
 use Rattle.mega_world.specs.Formed.{IsFormed}
 use Rattle.mega_places.specs.Kept.{AreNodes, AreReady, remains_of}
-use Rattle.mega_places.specs.Lapses.{KnowsLeases}
+use Rattle.mega_safety.specs.Lapses.{KnowsLeases}
 use Rattle.mega_places.specs.Members.{IsMember, IsTold, is_up_at, node_in, records_of, version_of}
 use Rattle.mega_world.specs.Restarting.{StaysDown}
 use Rattle.mega_world.specs.Stands.{StandsWith}

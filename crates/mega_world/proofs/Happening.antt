@@ -29,14 +29,14 @@ use Rattle.mega_places.specs.of_promises.Messages.{is_unsafe, message_of}
 use Rattle.mega_places.specs.of_promises.Runs.{Standing, at_node, by_fuse, has_lapsed, is_kept, left_by, met_in, owes, replies_in, set_at, setting, whole_step, with_items}
 use Rattle.mega_places.specs.of_durable.of_core.of_stepping.declared.step.Step.{Step}
 use Rattle.mega_places.specs.of_durable.of_core.of_stepping.Notes.{met_of}
-use Rattle.mega_places.specs.declared.safety.Safety.{Safety}
+use Rattle.mega_safety.specs.declared.safety.Safety.{Safety}
 use Rattle.mega_places.specs.declared.stepping.Stepped.{Stepped}
 use Rattle.mega_places.specs.declared.stepping.Stepped.TheVariants as stepped
 use Rattle.mega_world.specs.declared.world.World.{World}
 use Rattle.mega_places.specs.Carries.{Carries}
 use Rattle.mega_world.specs.Formed.{IsFormed}
 use Rattle.mega_places.specs.Kept.{AreNodes}
-use Rattle.mega_places.specs.Lapses.{KnowsLeases}
+use Rattle.mega_safety.specs.Lapses.{KnowsLeases}
 use Rattle.mega_world.specs.Showing.{IsShown, IsStepped, LinesStep, ShowsCrash, ShowsStep}
 use Rattle.mega_world.specs.Shown.{notes_shown}
 use Rattle.mega_world.specs.Stands.{StandsWith}
@@ -45,7 +45,7 @@ use Rattle.mega_places.proofs.Carrying.{shown_on}
 use Rattle.mega_world.proofs.Events.{step_shows}
 use Rattle.mega_world.proofs.Fates.{cut_tape, step_cut, step_whole}
 use Rattle.mega_world.proofs.Forming.{formed_on, is_member}
-use Rattle.mega_places.proofs.Lapsing.{step_lapsed}
+use Rattle.mega_safety.proofs.Lapsing.{step_lapsed}
 use Rattle.mega_world.proofs.Lining.{notes_lines, sent_lines}
 use Rattle.mega_world.proofs.Owed.{if_kept, owes_formed, owes_within}
 use Rattle.mega_places.proofs.Plain.{with_append, with_sent}

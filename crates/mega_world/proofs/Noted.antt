@@ -19,11 +19,11 @@ use Rattle.mega_places.specs.of_durable.of_core.of_stepping.Notes.{met_of}
 use Rattle.mega_places.specs.of_promises.Items.{numbered, shown}
 use Rattle.mega_places.specs.of_promises.Messages.{is_unsafe}
 use Rattle.mega_places.specs.of_promises.Runs.{set_at, with_items}
-use Rattle.mega_places.specs.declared.safety.Lapse.{Lapse}
-use Rattle.mega_places.specs.declared.safety.Safety.{Safety}
+use Rattle.mega_safety.specs.declared.safety.Lapse.{Lapse}
+use Rattle.mega_safety.specs.declared.safety.Safety.{Safety}
 use Rattle.mega_world.specs.declared.world.World.{World}
 use Rattle.mega_places.specs.Carries.{Carries}
-use Rattle.mega_places.specs.Lapses.{AreLapsesOf, KnowsLeases}
+use Rattle.mega_safety.specs.Lapses.{AreLapsesOf, KnowsLeases}
 use Rattle.mega_world.specs.Showing.{IsShown, IsStepped}
 use Rattle.mega_world.specs.Shown.{notes_shown}
 use Rattle.mega_places.proofs.Carrying.{notes_same, same_on}

@@ -26,12 +26,12 @@ use Rattle.mega_places.specs.of_promises.Items.{number, shown}
 use Rattle.mega_places.specs.of_promises.Messages.{is_unsafe, message_of}
 use Rattle.mega_places.specs.of_promises.Runs.{Whole, Standing, after_append, empty_node, fated_start, has_lapsed, nothing_yet, opening, set_at, setting, whole_start, with_items}
 use Rattle.mega_places.specs.declared.mail.Mail.{Mail}
-use Rattle.mega_places.specs.declared.safety.Lapse.{Lapse}
-use Rattle.mega_places.specs.declared.safety.Safety.{Safety}
+use Rattle.mega_safety.specs.declared.safety.Lapse.{Lapse}
+use Rattle.mega_safety.specs.declared.safety.Safety.{Safety}
 use Rattle.mega_places.specs.Carries.{Carries}
 use Rattle.mega_places.proofs.Carrying.{shown_on}
 use Rattle.mega_world.specs.Formed.{IsFormed}
-use Rattle.mega_places.specs.Lapses.{KnowsLeases, lapse, lapse_cmp}
+use Rattle.mega_safety.specs.Lapses.{KnowsLeases, lapse, lapse_cmp}
 use Rattle.mega_places.specs.declared.place.Place.{Place}
 use Rattle.mega_places.specs.declared.place.Place.TheVariants.{Up, Down}
 use Rattle.mega_places.specs.declared.member.Member.{Member}

@@ -29,7 +29,7 @@ use Rattle.mega_world.specs.declared.restarting.Shown.{Shown}
 use Rattle.mega_world.specs.declared.world.World.{World}
 use Rattle.mega_places.specs.Carries.{Carries}
 use Rattle.mega_places.specs.Kept.{AreNodes, owed_of}
-use Rattle.mega_places.specs.Lapses.{KnowsLeases}
+use Rattle.mega_safety.specs.Lapses.{KnowsLeases}
 use Rattle.mega_world.specs.Owing.{IsOwing, ShowsStart}
 use Rattle.mega_world.specs.Restarting.{Opens, started}
 use Rattle.mega_world.specs.Shown.{notes_shown}

@@ -22,10 +22,10 @@ use Rattle.mega_places.specs.of_promises.Items.{number, shown}
 use Rattle.mega_places.specs.of_promises.Messages.{is_unsafe}
 use Rattle.mega_places.specs.of_promises.Runs.{has_lapsed, set_at, with_items}
 use Rattle.mega_world.specs.declared.restarting.Shown.{Shown}
-use Rattle.mega_places.specs.declared.safety.Lapse.{Lapse}
+use Rattle.mega_safety.specs.declared.safety.Lapse.{Lapse}
 use Rattle.mega_world.specs.declared.world.World.{World}
 use Rattle.mega_places.specs.Kept.{owed_of}
-use Rattle.mega_places.specs.Lapses.{AreLapsesOf, KnowsLeases}
+use Rattle.mega_safety.specs.Lapses.{AreLapsesOf, KnowsLeases}
 use Rattle.mega_world.specs.Owing.{IsOwing, ShowsOwed, ShowsStart}
 use Rattle.mega_world.specs.Shown.{notes_shown}
 use Rattle.mega_places.proofs.Plain.{with_append}

@@ -17,7 +17,7 @@ use Rattle.mega_places.specs.declared.stepping.Stepped.{Stepped}
 use Rattle.mega_places.specs.declared.stepping.Stepped.TheVariants as stepped
 use Rattle.mega_world.specs.declared.world.World.{World}
 use Rattle.mega_places.specs.Carries.{Carries}
-use Rattle.mega_places.specs.Lapses.{KnowsLeases}
+use Rattle.mega_safety.specs.Lapses.{KnowsLeases}
 use Rattle.mega_places.specs.Members.{AreMembers}
 use Rattle.mega_world.specs.Shown.{notes_shown}
 

@@ -12,7 +12,7 @@ use Rattle.mega_world.specs.declared.world.World.{World}
 use Rattle.mega_places.specs.Carries.{Carries}
 use Rattle.mega_world.specs.Formed.{IsFormed, IsSound}
 use Rattle.mega_places.specs.Kept.{AreNodes}
-use Rattle.mega_places.specs.Lapses.{KnowsLeases}
+use Rattle.mega_safety.specs.Lapses.{KnowsLeases}
 use Rattle.mega_world.specs.Within.{RunsWithin}
 
 -- the nodes, up or down, with all that they keep, what is carried between them, and what tells whether leases are safe are those of the run,

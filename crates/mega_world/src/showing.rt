@@ -12,7 +12,7 @@ ghost use Rattle.mega_places.specs.of_durable.of_core.of_stepping.Notes.{met_of}
 ghost use Rattle.mega_places.specs.of_promises.Items.{numbered, shown};
 ghost use Rattle.mega_places.specs.of_promises.Runs.{with_items};
 ghost use Rattle.mega_places.specs.Carries.{Carries};
-ghost use Rattle.mega_places.specs.Lapses.{KnowsLeases};
+ghost use Rattle.mega_safety.specs.Lapses.{KnowsLeases};
 ghost use Rattle.mega_places.specs.Members.{AreMembers};
 ghost use Rattle.mega_world.specs.Showing.{IsShown, IsStepped, LinesStep, ShowsStep};
 ghost use Rattle.mega_world.specs.Shown.{notes_shown};

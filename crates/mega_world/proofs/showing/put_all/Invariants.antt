@@ -6,7 +6,7 @@ use Rattle.mega_places.specs.of_promises.of_transcript.Lines.{HasLine}
 use Rattle.mega_places.specs.of_promises.of_transcript.Tape.{newest}
 use Rattle.mega_places.specs.of_voter.of_rules.Operations.{Node as RuleNode}
 use Rattle.mega_places.specs.of_promises.Runs.{with_items}
-use Rattle.mega_places.specs.Lapses.{KnowsLeases}
+use Rattle.mega_safety.specs.Lapses.{KnowsLeases}
 use Rattle.mega_places.specs.Members.{AreMembers}
 use Rattle.mega_world.specs.Shown.{notes_shown}
 use Rattle.mega_world.proofs.showing.put_all.Given as goal

@@ -10,7 +10,7 @@ use Rattle.mega_stepping.specs.declared.note.Note.{Note}
 use Rattle.mega_taking.specs.Beginning.{has_begun}
 use Rattle.mega_stepping.specs.Notes.{met_of}
 use Rattle.mega_stepping.specs.Positions.{before_at}
-use Rattle.mega_core.specs.Lagging.{KnowsLagging}
+use Rattle.mega_lagging.specs.Lagging.{KnowsLagging}
 use Rattle.mega_taking.specs.Represents.{Represents}
 use Rattle.mega_stepping.specs.Staging.{Stages}
 use Rattle.mega_stepping.specs.Touching.{begun_groups}

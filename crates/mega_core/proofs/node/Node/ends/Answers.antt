@@ -8,7 +8,7 @@ use Rattle.mega_stepping.specs.of_voter.Telling.{Tells}
 use Rattle.mega_actions.specs.of_proposing.Settings.{setting}
 use Rattle.mega_stepping.specs.Staging.{Stages}
 use Rattle.mega_stepping.specs.Behind.{is_behind}
-use Rattle.mega_core.specs.Lagging.{is_watched, lags}
+use Rattle.mega_lagging.specs.Lagging.{is_watched, lags}
 use Rattle.mega_core.proofs.Ended.{acted_tells, step_behind, step_made, step_staged}
 use Rattle.mega_core.proofs.Lags.{lags_then}
 use Rattle.mega_core.proofs.node.Node.ends.Goals as goal

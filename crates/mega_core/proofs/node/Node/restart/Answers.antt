@@ -7,7 +7,7 @@ use Rattle.mega_stepping.specs.of_leases.Tells.{Tells as TellsLeases}
 use Rattle.mega_replica.specs.Following.{Follows, progress_at}
 use Rattle.mega_stepping.specs.of_voter.Telling.{Tells}
 use Rattle.mega_actions.specs.of_proposing.Settings.{setting}
-use Rattle.mega_core.specs.Lagging.{KnowsLagging}
+use Rattle.mega_lagging.specs.Lagging.{KnowsLagging}
 use Rattle.mega_taking.specs.Represents.{Represents}
 use Rattle.mega_core.specs.Restarting.{HaveFollowed, applied_at_start}
 use Rattle.mega_actions.proofs.of_pumps.Lasting.{anew_noted}

@@ -6,7 +6,7 @@ use Rattle.mega_rules.specs.Steps.{start}
 use Rattle.mega_stepping.specs.of_leases.Tells.{Tells}
 use Rattle.mega_replica.specs.Following.{progress_at}
 use Rattle.mega_actions.specs.of_proposing.Settings.{setting}
-use Rattle.mega_core.specs.Lagging.{KnowsLagging}
+use Rattle.mega_lagging.specs.Lagging.{KnowsLagging}
 use Rattle.mega_taking.specs.Represents.{Represents}
 use Rattle.mega_core.specs.Served.{IsServed}
 use Rattle.mega_actions.proofs.of_pumps.Lasting.{anew_noted}

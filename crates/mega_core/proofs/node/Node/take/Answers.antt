@@ -10,7 +10,7 @@ use Rattle.mega_actions.specs.of_node_laws.Acted.{acted_on, decision_in}
 use Rattle.mega_actions.specs.of_proposing.Settings.{setting}
 use Rattle.mega_actions.specs.Turns.{IsServable}
 use Rattle.mega_stepping.specs.Positions.{before_at}
-use Rattle.mega_core.specs.Lagging.{KnowsLagging}
+use Rattle.mega_lagging.specs.Lagging.{KnowsLagging}
 use Rattle.mega_taking.specs.Represents.{Represents}
 use Rattle.mega_stepping.specs.Staging.{Stages}
 use Rattle.mega_taking.specs.Taking.{has_taken}

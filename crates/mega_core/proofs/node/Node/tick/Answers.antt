@@ -12,7 +12,7 @@ use Rattle.mega_actions.specs.of_proposing.Settings.{setting}
 use Rattle.mega_actions.specs.Turns.{IsServable}
 use Rattle.mega_taking.specs.Faults.{failed_by}
 use Rattle.mega_stepping.specs.Positions.{before_at}
-use Rattle.mega_core.specs.Lagging.{KnowsLagging}
+use Rattle.mega_lagging.specs.Lagging.{KnowsLagging}
 use Rattle.mega_taking.specs.Represents.{Represents}
 use Rattle.mega_stepping.specs.Staging.{Stages}
 use Rattle.mega_taking.specs.Ticking.{has_ticked}

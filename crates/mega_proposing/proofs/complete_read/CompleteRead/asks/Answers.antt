@@ -5,7 +5,7 @@ use Rattle.mega_propose.specs.Rounds.{asks}
 use Rattle.mega_read.specs.Catching.{asked_by, site}
 use Rattle.mega_rules.specs.Acting.{reader_of, sends_more, unless_decided}
 use Rattle.mega_rules.specs.Operations.{Proposes}
-use Rattle.mega_proposing.specs.Settings.{setting}
+use Rattle.mega_keeping.specs.Settings.{setting}
 use Rattle.mega_proposing.proofs.complete_read.CompleteRead.asks.Goals as goal
 
 pub returns-in-Ok : goal.returns-in-Ok

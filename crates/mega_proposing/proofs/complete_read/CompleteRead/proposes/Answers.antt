@@ -2,7 +2,7 @@ use Rattle.std.proofs.Common.{◌∙◌, Option, sym, ap, ℕ}
 use Rattle.mega_operations.specs.Phases.{promised_of}
 use Rattle.mega_rules.specs.Acting.{proposes_by}
 use Rattle.mega_proposing.specs.Reaching.{operation_of}
-use Rattle.mega_proposing.specs.Settings.{setting}
+use Rattle.mega_keeping.specs.Settings.{setting}
 use Rattle.mega_proposing.proofs.complete_read.CompleteRead.proposes.Goals as goal
 
 pub returns-in_ok-action-in-Some : goal.returns-in_ok-action-in-Some

@@ -5,7 +5,7 @@ ghost use Rattle.mega_leases.specs.Tells.{Tells as TellsLeases};
 ghost use Rattle.mega_rules.specs.Operations.{Now, Operation as Open};
 ghost use Rattle.mega_rules.specs.Acting.{read_begun};
 ghost use Rattle.mega_voter.specs.Telling.{Tells};
-ghost use Rattle.mega_proposing.specs.Settings.{setting};
+ghost use Rattle.mega_keeping.specs.Settings.{setting};
 
 use mega_base::{GroupId, Items, NoMemory, OpId};
 use mega_disk::Records;

@@ -3,8 +3,8 @@ use Rattle.mega_cluster.specs.declared.cluster.Cluster.{Cluster}
 use Rattle.mega_rules.specs.Members.{has_rows}
 use Rattle.mega_stepping.specs.Behind.{is_behind}
 use Rattle.mega_stepping.specs.Touching.{behind}
-use Rattle.mega_core.proofs.Lags.{behind_is}
-use Rattle.mega_core.proofs.watching.behind.Goals as goal
+use Rattle.mega_lagging.proofs.Lags.{behind_is}
+use Rattle.mega_lagging.proofs.watching.behind.Goals as goal
 
 pub returns-then-has_rows : goal.returns-then-has_rows
 returns-then-has_rows g c = λ met stored keeps knows.

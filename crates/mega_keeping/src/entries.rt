@@ -12,7 +12,7 @@ use mega_propose::is_same_op;
 use std::alloc::Global;
 
 /// The entry of an operation that writes and sends.
-pub(crate) fn own_entry(
+pub fn own_entry(
     alloc: Global,
     op: OpId,
     writes: Items<Write>,
@@ -55,7 +55,7 @@ fn committed(position: u64, promised: Promised) -> Answer
 }
 
 /// The answer of an operation at whose position an entry is decided: committed where that is its own.
-pub(crate) fn verdict(op: OpId, position: u64, promised: Promised, entry: &Entry) -> Answer
+pub fn verdict(op: OpId, position: u64, promised: Promised, entry: &Entry) -> Answer
     ensures { result ≡ verdict op position (promised_of promised) entry.now }
 {
     let other = entry.content().id;

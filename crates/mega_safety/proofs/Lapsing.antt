@@ -12,11 +12,11 @@ use Rattle.mega_rules.specs.Operations.{Node as RuleNode, Setting}
 use Rattle.mega_rules.specs.Steps.{Event, Take, Begin, Tick, onto, step}
 use Rattle.mega_node_laws.specs.Acted.{own_item}
 use Rattle.mega_node_laws.proofs.Ending.{step_met}
-use Rattle.mega_durable.specs.of_core.of_stepping.declared.note.Note.{Note}
-use Rattle.mega_durable.specs.of_core.of_stepping.Notes.{met_of}
+use Rattle.mega_stepping.specs.declared.note.Note.{Note}
+use Rattle.mega_stepping.specs.Notes.{met_of}
 use Rattle.mega_promises.specs.Runs.{has_lapsed, set_at}
-use Rattle.mega_places.specs.declared.safety.Lapse.{Lapse}
-use Rattle.mega_places.specs.Lapses.{AreLapsesOf, is_lapse, lapse, lapse_cmp, lapse_of}
+use Rattle.mega_safety.specs.declared.safety.Lapse.{Lapse}
+use Rattle.mega_safety.specs.Lapses.{AreLapsesOf, is_lapse, lapse, lapse_cmp, lapse_of}
 
 nat_is : (a b : ℕ) → is_eq (nat_cmp a b) ≡ (a == b)
 nat_is a b = grind (arith, nat_tests)

@@ -1,10 +1,10 @@
 use Rattle.std.proofs.Common.{ℕ, List, drop, map}
 use Rattle.mega_rules.specs.Met.{Met}
 use Rattle.mega_rules.specs.Steps.{onto}
-use Rattle.mega_durable.specs.of_core.of_stepping.Notes.{met_of}
-use Rattle.mega_places.specs.Lapses.{AreLapsesOf}
-use Rattle.mega_places.proofs.Lapsing.{KeptSo}
-use Rattle.mega_places.proofs.safety.keep_lapses.Given as goal
+use Rattle.mega_stepping.specs.Notes.{met_of}
+use Rattle.mega_safety.specs.Lapses.{AreLapsesOf}
+use Rattle.mega_safety.proofs.Lapsing.{KeptSo}
+use Rattle.mega_safety.proofs.safety.keep_lapses.Given as goal
 
 abbrev pub invariant-loop-note : goal.invariant-loop-note
 invariant-loop-note l =

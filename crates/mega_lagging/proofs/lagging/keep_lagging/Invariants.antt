@@ -3,8 +3,8 @@ use Rattle.mega_base.specs.declared.names.GroupId.{GroupId}
 use Rattle.mega_rules.specs.Met.{Met}
 use Rattle.mega_replica.specs.Following.{progress_at}
 use Rattle.mega_stepping.specs.Behind.{Keeps, is_behind}
-use Rattle.mega_core.specs.Lagging.{is_watched, lags}
-use Rattle.mega_core.proofs.lagging.keep_lagging.Given as goal
+use Rattle.mega_lagging.specs.Lagging.{is_watched, lags}
+use Rattle.mega_lagging.proofs.lagging.keep_lagging.Given as goal
 
 abbrev pub invariant-loop-one : goal.invariant-loop-one
 invariant-loop-one g l = (met : List Met) (stored : GroupId → ℕ) → Keeps l.replica.voter.logs.kept (g.V.Versions.version l.replica.rows.rows) (progress_at l.replica.rows.progress) met stored

@@ -2,7 +2,7 @@ use Rattle.std.proofs.Common.{◌≡◌, ℕ, nat_lt}
 use Rattle.mega_rules.specs.Logs.{log_of}
 use Rattle.mega_stepping.specs.of_voter.Journal.{journal_of}
 use Rattle.mega_actions.proofs.of_node_laws.Logs.{log_is}
-use Rattle.mega_core.proofs.lagging.is_behind.Goals as goal
+use Rattle.mega_lagging.proofs.lagging.is_behind.Goals as goal
 
 pub returns : goal.returns
 returns g c = λ met stored keeps.

@@ -7,7 +7,7 @@ ghost use Rattle.mega_replica.specs.Following.{progress_at};
 ghost use Rattle.mega_stepping.specs.Behind.{Keeps};
 ghost use Rattle.mega_stepping.specs.Positions.{before_at};
 ghost use Rattle.mega_stepping.specs.Touching.{behind};
-ghost use Rattle.mega_core.specs.Lagging.{KnowsLagging};
+ghost use Rattle.mega_lagging.specs.Lagging.{KnowsLagging};
 
 use crate::lagging::copies;
 use mega_actions::Replica;
@@ -18,7 +18,7 @@ use std::alloc::Global;
 use std::collections::BTreeSet;
 
 /// The applied positions of the groups of which a step may apply more: none at a node that keeps no rows.
-pub(crate) fn watched<R: Records, V: Versions>(
+pub fn watched<R: Records, V: Versions>(
     alloc: Global,
     replica: &Replica<R, V>,
     groups: Items<GroupId>,
@@ -34,7 +34,7 @@ pub(crate) fn watched<R: Records, V: Versions>(
 }
 
 /// The groups of which not all is applied that is decided, in order, at a node that keeps rows: of those that lag.
-pub(crate) fn behind<R: Records, V: Versions>(
+pub fn behind<R: Records, V: Versions>(
     alloc: Global,
     replica: &Replica<R, V>,
     lagging: &BTreeSet<GroupId>,

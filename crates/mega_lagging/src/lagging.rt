@@ -9,7 +9,7 @@ ghost use Rattle.mega_replica.specs.Following.{progress_at};
 ghost use Rattle.mega_stepping.specs.Notes.{met_of};
 ghost use Rattle.mega_stepping.specs.Behind.{Keeps, is_behind};
 ghost use Rattle.mega_stepping.specs.Positions.{note_since};
-ghost use Rattle.mega_core.specs.Lagging.{is_watched, lags};
+ghost use Rattle.mega_lagging.specs.Lagging.{is_watched, lags};
 
 use mega_actions::Replica;
 use mega_base::{Copied, GroupId, Items, NoMemory};
@@ -93,7 +93,7 @@ fn keep_lagging<R: Records, V: Versions>(
 }
 
 /// What is noted of the groups that were watched, in order; those lag from now on of which not all is applied.
-pub(crate) fn notes_watched<R: Records, V: Versions>(
+pub fn notes_watched<R: Records, V: Versions>(
     alloc: Global,
     replica: &Replica<R, V>,
     lagging: &mut BTreeSet<GroupId>,

@@ -6,13 +6,13 @@ ghost use Rattle.mega_rules.specs.Met.{Met};
 ghost use Rattle.mega_rules.specs.Steps.{onto};
 ghost use Rattle.mega_promises.specs.Runs.{set_at};
 ghost use Rattle.mega_leases.specs.Notes.{met_of as leases_met};
-ghost use Rattle.mega_durable.specs.of_core.of_stepping.Notes.{met_of};
-ghost use Rattle.mega_places.specs.declared.safety.Lapse.{Lapse as LapseValue};
-ghost use Rattle.mega_places.specs.Lapses.{AreLapsesOf, is_lapse, lapse_cmp, lapse_of};
+ghost use Rattle.mega_stepping.specs.Notes.{met_of};
+ghost use Rattle.mega_safety.specs.declared.safety.Lapse.{Lapse as LapseValue};
+ghost use Rattle.mega_safety.specs.Lapses.{AreLapsesOf, is_lapse, lapse_cmp, lapse_of};
 
 use mega_base::{Epoch, Items, NoMemory, NodeId};
-use mega_durable::mega_actions::mega_proposing::{Answered, Valid};
-use mega_durable::mega_core::mega_stepping::Note;
+use mega_proposing::{Answered, Valid};
+use mega_stepping::Note;
 use std::alloc::Global;
 use std::collections::BTreeSet;
 

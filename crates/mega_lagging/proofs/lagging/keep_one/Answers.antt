@@ -1,8 +1,8 @@
 use Rattle.std.proofs.Common.{◌∙◌, sym}
 use Rattle.mega_stepping.specs.Behind.{is_behind}
-use Rattle.mega_core.specs.Lagging.{lags}
-use Rattle.mega_core.proofs.Lags.{put_in, took_out}
-use Rattle.mega_core.proofs.lagging.keep_one.Goals as goal
+use Rattle.mega_lagging.specs.Lagging.{lags}
+use Rattle.mega_lagging.proofs.Lags.{put_in, took_out}
+use Rattle.mega_lagging.proofs.lagging.keep_one.Goals as goal
 
 pub returns-then-is_behind : goal.returns-then-is_behind
 returns-then-is_behind g c = λ met stored keeps other.

@@ -9,8 +9,8 @@ use Rattle.mega_rules.specs.Met.{Met, Lapses}
 use Rattle.mega_rules.specs.Operations.{Node as RuleNode}
 use Rattle.mega_promises.specs.Messages.{is_unsafe}
 use Rattle.mega_promises.specs.Runs.{has_lapsed}
-use Rattle.mega_places.specs.declared.safety.Lapse.{Lapse}
-use Rattle.mega_places.specs.declared.safety.Safety.{Safety}
+use Rattle.mega_safety.specs.declared.safety.Lapse.{Lapse}
+use Rattle.mega_safety.specs.declared.safety.Safety.{Safety}
 
 -- lapses are in the order of cell, node and epoch
 abbrev pub lapse_cmp : Lapse → Lapse → Ordering

@@ -2,11 +2,11 @@ use Rattle.std.proofs.Common.{◌≡◌, ◌∙◌, ◌+◌, ◌∷◌, ◌||◌
 use Rattle.std.proofs.lemmas.List.{drop_all, drop_more}
 use Rattle.std.specs.BTreeSet.{contains}
 use Rattle.mega_rules.specs.Steps.{onto}
-use Rattle.mega_durable.specs.of_core.of_stepping.declared.note.Note.{Note}
-use Rattle.mega_durable.specs.of_core.of_stepping.Notes.{met_of}
-use Rattle.mega_places.specs.Lapses.{is_lapse, lapse_cmp}
-use Rattle.mega_places.proofs.Lapsing.{KeptSo, kept_all, kept_first, kept_next}
-use Rattle.mega_places.proofs.safety.keep_lapses.Goals as goal
+use Rattle.mega_stepping.specs.declared.note.Note.{Note}
+use Rattle.mega_stepping.specs.Notes.{met_of}
+use Rattle.mega_safety.specs.Lapses.{is_lapse, lapse_cmp}
+use Rattle.mega_safety.proofs.Lapsing.{KeptSo, kept_all, kept_first, kept_next}
+use Rattle.mega_safety.proofs.safety.keep_lapses.Goals as goal
 
 pub loop-note-init : goal.loop-note-init
 loop-note-init c met are = kept_first c.args.lapses.now met c.args.cell c.args.notes.now are
