@@ -23,6 +23,7 @@ use Rattle.mega_backup.specs.Words.{hex_in, is_digit, number_in, number_on, with
 use Rattle.mega_backup.specs.Lines.{backup_in, behind_head, counted, entries_from, entry_in, entry_of, group_in, head_at, head_in, head_of, with_entry, with_group}
 use Rattle.mega_backup.specs.Texts.{backup_text, entries_text, entry_line}
 use Rattle.mega_backup_laws.specs.Written.{backup_lines, entry_words, head_words, lines_text, is_above_feed, HasNoFeed}
+use Rattle.std.proofs.lemmas.List.{length-map}
 
 -- ---- hex
 
@@ -172,10 +173,6 @@ head_back group count f some few le =
 
 -- ---- all lines
 
-mapped : {A B : Type 0} (f : A → B) (xs : List A) → length (map f xs) ≡ length xs
-mapped f [] = refl
-mapped f (x ∷ xs) = ap (λ (n : ℕ). suc n) (mapped f xs)
-
 same_count : (n : ℕ) → eqb n n ≡ true
 same_count n = eq-eqb n n refl
 
@@ -184,7 +181,7 @@ pub lines_back : (group : GroupId) (entries : List Content) → IsBytes group.ke
 lines_back group entries f some few le each =
     let count = length entries in
     let lines = map entry_words entries in
-    let there = mapped entry_words entries in
+    let there = length-map entry_words entries in
     ap (λ head. behind_head head lines) (head_back group count f some few le)
     ∙ ap (λ (kept : List (List ℕ)). with_group group (counted count (length lines) (entries_from 2 kept))) (ap (λ (n : ℕ). take n lines) (sym there) ∙ take-length lines)
     ∙ (λ i. with_group group (counted count (there i) (entries_back 2 entries each i)))

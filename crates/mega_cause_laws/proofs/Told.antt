@@ -34,6 +34,7 @@ use Rattle.mega_run_laws.proofs.of_tape_laws.Complete.{known_is_front}
 use Rattle.mega_run_laws.specs.Usages.{Fits}
 use Rattle.mega_run_laws.proofs.Runs.{run_answered}
 use Rattle.mega_cause_laws.specs.Told.{is_told}
+use Rattle.mega_run_laws.proofs.of_tape_laws.Earlier.{lawful_before}
 
 abbrev Replies : Type 0
 Replies = List (Option Shown)
@@ -42,10 +43,6 @@ abbrev Results : Type 0
 Results = List (Result Replies Turn)
 
 -- ---- what stood before an item
-
-lawful_before : (c : Cluster) (later before : List Item) → Lawful c (later ++ before) → Lawful c before
-lawful_before c [] before h = h
-lawful_before c (item ∷ later) before h = lawful_before c later before h.1
 
 answered_before : (schema : Schema) (usage : Usage) (later before : List Item) → AreAnswered schema usage (later ++ before) → AreAnswered schema usage before
 answered_before schema usage [] before h = h

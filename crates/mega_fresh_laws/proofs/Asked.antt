@@ -20,7 +20,7 @@ use Rattle.mega_leased_laws.proofs.of_settled_laws.of_run_laws.of_tape_laws.Agre
 use Rattle.mega_leased_laws.proofs.of_settled_laws.of_run_laws.of_tape_laws.Majorities.{Shared, meet}
 use Rattle.mega_leased_laws.proofs.of_settled_laws.of_run_laws.Runs.{run_lawful, run_polls}
 use Rattle.mega_leased_laws.specs.of_settled_laws.Covering.{Earlier}
-use Rattle.mega_leased_laws.proofs.of_settled_laws.Tapes.{lawful_before}
+use Rattle.mega_leased_laws.proofs.of_settled_laws.of_run_laws.of_tape_laws.Earlier.{lawful_before}
 use Rattle.mega_leased_laws.specs.of_valid_laws.Leases.{has_polled}
 use Rattle.mega_leased_laws.proofs.of_valid_laws.Joint.{told_above}
 

@@ -32,6 +32,7 @@ use Rattle.mega_leased_laws.proofs.Tapes.{are_items, free_follows}
 use Rattle.mega_leased_laws.proofs.Validating.{silent_polled}
 use Rattle.mega_fresh_laws.proofs.Accepts.{Never}
 use Rattle.mega_fresh_laws.proofs.Questions.{Asks, AsksBody, Mute, MuteBody, Offers, OffersBody, Says, SaysBody, Unasking, UnaskingBody, asks_never, offers_unasking}
+use Rattle.mega_leased_laws.proofs.of_settled_laws.of_run_laws.of_tape_laws.Ballots.{clash}
 
 -- ---- what is told
 
@@ -105,9 +106,6 @@ ApartBody x _ = Unit {0}
 
 abbrev Apart : OpId → Message → Type 0
 Apart x m = ApartBody x m.body
-
-clash : {X : Type 0} (t : Bool) → t ≡ true → t ≡ false → X
-clash t h k = absurd (let both = sym h ∙ k in cc)
 
 -- of the item that is sent
 abbrev ApartItem : OpId → Item → Type 0

@@ -67,6 +67,7 @@ use Rattle.mega_leased_laws.proofs.of_run_laws.Picked.{in_both}
 use Rattle.mega_fresh_laws.proofs.Steps.{base_of}
 use Rattle.mega_fresh_laws.proofs.Tails.{Hit, hit_shows, sends_valid, tail_valid, valid_or}
 use Rattle.mega_fresh_laws.proofs.Tops.{noted_most, notes_stood}
+use Rattle.mega_leased_laws.proofs.of_settled_laws.of_run_laws.of_tape_laws.Ballots.{clash}
 
 -- ---- lists
 
@@ -123,9 +124,6 @@ sent_valid k (m ∷ ms) t v group = sent_valid (k + 1) ms (Sent k m ∷ t) v gro
 abbrev is_message : Item → Bool
 is_message (Sent key m) = true
 is_message _ = false
-
-clash : {X : Type 0} (t : Bool) → t ≡ true → t ≡ false → X
-clash t h k = absurd (let both_ways = sym h ∙ k in cc)
 
 silent_other : (item : Item) → IsSilent item → is_message item ≡ false
 silent_other (Sent key m) h = absurd h

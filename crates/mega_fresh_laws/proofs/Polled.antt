@@ -35,9 +35,7 @@ use Rattle.mega_fresh_laws.proofs.Asked.{poll_covers}
 use Rattle.mega_fresh_laws.proofs.Inquired.{Inquired, IsNumbered, numbers_most, run_inquired}
 use Rattle.mega_fresh_laws.proofs.Inquiries.{HasHeard, IsInquired, Unoffered}
 use Rattle.mega_fresh_laws.proofs.Promised.{ItemAt, item_at, proposals}
-
-clash : {X : Type 0} (t : Bool) → t ≡ true → t ≡ false → X
-clash t h k = absurd (let both = sym h ∙ k in cc)
+use Rattle.mega_leased_laws.proofs.of_settled_laws.of_run_laws.of_tape_laws.Ballots.{clash}
 
 -- where one item stood before another
 record Behind (first item : Item) (tape : List Item) : Type 0 where

@@ -28,7 +28,7 @@ use Rattle.mega_leased_laws.specs.of_settled_laws.of_run_laws.of_tape_laws.of_pr
 use Rattle.mega_leased_laws.specs.of_settled_laws.of_run_laws.of_tape_laws.of_promises.of_rules.Steps.{acts_in_turn, all_act, does_due, hears_message, is_out, last_answer, new_operation, ticked, unless_refused}
 use Rattle.mega_leased_laws.specs.of_settled_laws.of_run_laws.of_tape_laws.Lawful.{message}
 use Rattle.mega_leased_laws.specs.of_settled_laws.of_run_laws.of_tape_laws.Places.{Took}
-use Rattle.mega_leased_laws.proofs.of_settled_laws.of_run_laws.of_tape_laws.Ballots.{number_self}
+use Rattle.mega_leased_laws.proofs.of_settled_laws.of_run_laws.of_tape_laws.Ballots.{clash, number_self}
 use Rattle.mega_leased_laws.specs.of_settled_laws.of_run_laws.Justified.{Each, sent}
 use Rattle.mega_leased_laws.proofs.of_settled_laws.of_run_laws.Sending.{Stood, took_on}
 use Rattle.mega_leased_laws.proofs.of_settled_laws.of_run_laws.Turns.{IsRising, each_on, each_push, other_number, sent_append}
@@ -78,9 +78,6 @@ Later me k x = ((me == x.node.0) ≡ false) ⊎ (k ≤ x.number)
 later_more : (me k l : ℕ) (x : OpId) → k ≤ l → Later me l x → Later me k x
 later_more me k l x le (inl other) = inl other
 later_more me k l x le (inr behind) = inr (omega (arith, le, behind))
-
-clash : {X : Type 0} (t : Bool) → t ≡ true → t ≡ false → X
-clash t h k = absurd (let both = sym h ∙ k in cc)
 
 later_apart : (me : ℕ) (op x : OpId) → op.node.0 ≡ me → Later me (op.number + 1) x → same_op op x ≡ false
 later_apart me op x node later = by (same_op op x) refl

@@ -46,9 +46,7 @@ use Rattle.mega_fresh_laws.specs.FarEnough.{Answered, IsFarAnswer, ReadOver}
 use Rattle.mega_fresh_laws.specs.Covering.{Covers, IsFreshItem, before_begin}
 use Rattle.mega_fresh_laws.proofs.Moments.{NoBegin, onward_item}
 use Rattle.mega_fresh_laws.proofs.Covered.{run_fresh}
-
-clash : {X : Type 0} (t : Bool) → t ≡ true → t ≡ false → X
-clash t h k = absurd (let both_ways = sym h ∙ k in cc)
+use Rattle.mega_leased_laws.proofs.of_settled_laws.of_run_laws.of_tape_laws.Ballots.{clash}
 
 -- ---- where an item stands
 

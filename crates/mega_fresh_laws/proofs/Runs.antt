@@ -33,7 +33,8 @@ use Rattle.mega_leased_laws.proofs.of_settled_laws.of_run_laws.Standing.{Good, O
 use Rattle.mega_leased_laws.proofs.of_settled_laws.of_run_laws.Steps.{never_begun}
 use Rattle.mega_leased_laws.proofs.of_settled_laws.of_run_laws.Turns.{Held, Known, each_on, each_zip}
 use Rattle.mega_leased_laws.specs.of_settled_laws.Covering.{Earlier}
-use Rattle.mega_leased_laws.proofs.of_settled_laws.Tapes.{earlier_stood, items_later, lawful_before, polls_before, sent_later, then_later}
+use Rattle.mega_leased_laws.proofs.of_settled_laws.of_run_laws.of_tape_laws.Earlier.{lawful_before}
+use Rattle.mega_leased_laws.proofs.of_settled_laws.Tapes.{earlier_stood, items_later, polls_before, sent_later, then_later}
 use Rattle.mega_leased_laws.proofs.of_valid_laws.Folds.{IsOwn}
 use Rattle.mega_leased_laws.specs.Items.{Are}
 use Rattle.mega_leased_laws.proofs.Cells.{by_node, occurs_own}
@@ -50,9 +51,7 @@ use Rattle.mega_leased_laws.proofs.Tails.{Parted, front_each, front_of, fronts, 
 use Rattle.mega_leased_laws.proofs.Validating.{own_decided, fronts_plain}
 use Rattle.mega_fresh_laws.proofs.Steps.{IsApply, Shown, StepFar, base_of, step_far}
 use Rattle.mega_fresh_laws.proofs.Through.{PhaseFar, phase_above, phase_on}
-
-clash : {X : Type 0} (t : Bool) → t ≡ true → t ≡ false → X
-clash t h k = absurd (let both_ways = sym h ∙ k in cc)
+use Rattle.mega_leased_laws.proofs.of_settled_laws.of_run_laws.of_tape_laws.Ballots.{clash}
 
 -- ---- notes
 

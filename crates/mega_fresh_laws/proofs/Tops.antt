@@ -1,5 +1,5 @@
 -- The greatest position of a node is no lower than any that it decided among some notes; and which decisions a tape shows of these.
-use Rattle.std.proofs.Common.{ℕ, ◌≡◌, ◌⊎◌, inl, inr, max, ◌≤◌, ◌&&◌, Bool, true, false, not, cond, List, [], ◌∷◌, flat_map, refl, sym, subst, ap, ◌∙◌}
+use Rattle.std.proofs.Common.{ℕ, ◌≡◌, ◌⊎◌, inl, inr, max, ◌≤◌, ◌&&◌, Bool, true, false, not, cond, List, [], ◌∷◌, flat_map, refl, sym, subst, ap}
 use Rattle.mega_base.specs.declared.names.GroupId.{GroupId}
 use Rattle.mega_base.specs.declared.names.Position.{Position}
 use Rattle.mega_cluster.specs.declared.cluster.Cluster.{Cluster}
@@ -19,6 +19,7 @@ use Rattle.mega_leased_laws.specs.of_settled_laws.of_run_laws.of_tape_laws.of_pr
 use Rattle.mega_leased_laws.specs.of_settled_laws.of_run_laws.of_tape_laws.Places.{In}
 use Rattle.mega_leased_laws.proofs.of_settled_laws.of_run_laws.Noted.{with_append}
 use Rattle.mega_leased_laws.proofs.Tops.{max_first, then_most, top_onto}
+use Rattle.mega_leased_laws.proofs.of_settled_laws.of_run_laws.of_tape_laws.Ballots.{clash}
 
 -- what was decided among these notes
 pub noted_most : (notes met : List Met) (g : GroupId) (n : ℕ) (e : Content) → In (Decides g n e) notes → n ≤ top_of (onto notes met) g
@@ -34,9 +35,6 @@ noted_most (one ∷ notes) met g n e (inr i) = noted_most notes (one ∷ met) g 
 abbrev is_decide : Item → Bool
 is_decide (Decide a h k d) = true
 is_decide _ = false
-
-clash : {X : Type 0} (t : Bool) → t ≡ true → t ≡ false → X
-clash t h k = absurd (let both_ways = sym h ∙ k in cc)
 
 module _ (c : Cluster) (nodes : ℕ → Node) (me v : ℕ) (g : GroupId) (n : Position) (e : Content) where
   abbrev Decided : Item

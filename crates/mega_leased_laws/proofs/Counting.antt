@@ -48,6 +48,7 @@ use Rattle.mega_leased_laws.proofs.Told.{step_met}
 use Rattle.mega_leased_laws.proofs.Reached.{Reached, asked_present}
 use Rattle.mega_valid_laws.proofs.NoCalls.{Uncalled, uncalled_all}
 use Rattle.mega_leased_laws.proofs.Beating.{fronts_no_call}
+use Rattle.std.proofs.lemmas.List.{length-map}
 
 -- ---- what a node met
 
@@ -128,10 +129,6 @@ length_set : {X : Type 0} (xs : List X) (k : ℕ) (x : X) → length (set xs k x
 length_set [] k x = refl
 length_set (y ∷ xs) zero x = refl
 length_set (y ∷ xs) (suc k) x = ap suc (length_set xs k x)
-
-length_map : {X Y : Type 0} (f : X → Y) (xs : List X) → length (map f xs) ≡ length xs
-length_map f [] = refl
-length_map f (x ∷ xs) = ap suc (length_map f xs)
 
 set_slot : (xs : List (Option ℕ)) (k i v : ℕ) → k < length xs → is_some (get_or (set xs k (Some v)) i None) ≡ cond (k == i) true (is_some (get_or xs i None))
 set_slot [] k i v h = absurd (omega (arith, h))
@@ -232,7 +229,7 @@ set_slots cells until cell v few above most s = record {
 
 left_slots : (cells now : ℕ) (until : List (Option ℕ)) → Slots cells until → Slots cells (map (left now) until)
 left_slots cells now until s = record {
-  five = length_map (left now) until ∙ s.five;
+  five = length-map (left now) until ∙ s.five;
   within = λ i h. s.within i (first_true (is_some (get_or until i None)) (not (is_due now (get_or until i None))) (sym (left_slot now until i) ∙ h));
 }
 

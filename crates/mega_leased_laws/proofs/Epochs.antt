@@ -41,7 +41,7 @@ use Rattle.mega_lease_laws.specs.of_run_laws.of_tape_laws.of_promises.of_rules.O
 use Rattle.mega_lease_laws.specs.of_run_laws.of_tape_laws.of_promises.of_rules.Replies.{answer_to, where_served}
 use Rattle.mega_lease_laws.specs.of_run_laws.of_tape_laws.of_promises.of_rules.Steps.{Begin, Event, Step, Take, Tick, crashed, lapse_notes, lease_notes, onto, start, start_notes, step, told_notes}
 use Rattle.mega_lease_laws.specs.of_run_laws.of_tape_laws.Lawful.{message}
-use Rattle.mega_lease_laws.proofs.of_run_laws.of_tape_laws.Ballots.{number_is}
+use Rattle.mega_lease_laws.proofs.of_run_laws.of_tape_laws.Ballots.{clash, number_is}
 use Rattle.mega_lease_laws.proofs.of_run_laws.of_tape_laws.Lists.{some_is}
 use Rattle.mega_lease_laws.specs.of_run_laws.Justified.{Each, sent}
 use Rattle.mega_lease_laws.proofs.of_run_laws.Events.{each_append as each_both, onto_append}
@@ -127,9 +127,6 @@ abbrev pub Before : Cluster → Standing → Type 0
 Before c now = ShownAt c now × Celling c now.tape now.node now.owed
 
 -- ---- what is served now
-
-clash : {X : Type 0} (t : Bool) → t ≡ true → t ≡ false → X
-clash t h k = absurd (let both = sym h ∙ k in cc)
 
 module _ (c : Cluster) (now : Standing) (shown_now : ShownAt c now) (q : Epoching c now.tape now.node now.owed) where
   pub served_at : (v : ℕ) (e : Epoch) → Stands (ServingItem (number v) e) now.tape → ServedAt c v (now.node v).met e

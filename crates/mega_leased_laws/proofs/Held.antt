@@ -36,9 +36,7 @@ use Rattle.mega_leased_laws.proofs.Counting.{present_at, serving_majority}
 use Rattle.mega_leased_laws.proofs.Leased.{run_leased}
 use Rattle.mega_leased_laws.proofs.Safety.{Saving, lapse_stands, nothing_saving, saving_holds}
 use Rattle.mega_leased_laws.proofs.Validating.{Ruled, nothing_ruled, ruled_keeps}
-
-clash : {X : Type 0} (t : Bool) → t ≡ true → t ≡ false → X
-clash t h k = absurd (let both = sym h ∙ k in cc)
+use Rattle.mega_lease_laws.proofs.of_run_laws.of_tape_laws.Ballots.{clash}
 
 held_then : (c : Cluster) → c.cells ≤ 5 → (now : Standing) → Ruled c now → Saving c now.tape now.node now.owed → is_unsafe now.tape ≡ false → (v : ℕ) (e : Epoch) → serving_on now.tape v ≡ Some e → IsHeld c now.tape v e
 held_then c few now p q un v e is = record {

@@ -23,7 +23,7 @@ use Rattle.mega_lease_laws.specs.of_run_laws.of_tape_laws.of_promises.of_rules.C
 use Rattle.mega_lease_laws.specs.of_run_laws.of_tape_laws.of_promises.of_rules.Members.{is_full}
 use Rattle.mega_lease_laws.specs.of_run_laws.of_tape_laws.of_promises.of_rules.Operations.{Node, Setting}
 use Rattle.mega_lease_laws.specs.of_run_laws.of_tape_laws.of_promises.of_rules.Steps.{Begin, Event, Step, Take, Tick, crashed, onto, start, start_items, start_notes, step}
-use Rattle.mega_lease_laws.proofs.of_run_laws.of_tape_laws.Ballots.{number_is, number_self}
+use Rattle.mega_lease_laws.proofs.of_run_laws.of_tape_laws.Ballots.{clash, number_is, number_self}
 use Rattle.mega_lease_laws.specs.of_run_laws.Justified.{Each, sent}
 use Rattle.mega_lease_laws.proofs.of_run_laws.Events.{each_append as each_both, onto_append}
 use Rattle.mega_lease_laws.proofs.of_run_laws.Runs.{IsMark}
@@ -204,9 +204,6 @@ pub record Saving (c : Cluster) (tape : List Item) (nodes : ℕ → Node) (owed 
   pub counted : (cell : ℕ) (e : Epoch) (v : ℕ) → counted_on tape v cell e ≡ counted_met (nodes v).met cell e
   pub lapsed : (v : ℕ) (e : Epoch) (cell : ℕ) → lapsed_on v e tape cell ≡ has_lapsed (nodes cell).met v e
   pub safe : is_unsafe tape ≡ false → IsSafe c nodes
-
-clash : {X : Type 0} (t : Bool) → t ≡ true → t ≡ false → X
-clash t h k = absurd (let both = sym h ∙ k in cc)
 
 counted_each : (cell : ℕ) (e : Epoch) (one : Met) (met : List Met) → counted_met (one ∷ met) cell e ≡ next_counted cell e one (counted_met met cell e)
 counted_each cell e one met = refl

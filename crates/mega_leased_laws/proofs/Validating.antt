@@ -50,7 +50,7 @@ use Rattle.mega_lease_laws.specs.of_run_laws.of_tape_laws.of_promises.of_rules.V
 use Rattle.mega_lease_laws.specs.of_run_laws.of_tape_laws.Lawful.{message}
 use Rattle.mega_lease_laws.specs.of_run_laws.of_tape_laws.Places.{Took}
 use Rattle.mega_lease_laws.specs.of_run_laws.of_tape_laws.Polls.{IsPolled, has_asked, is_asking}
-use Rattle.mega_lease_laws.proofs.of_run_laws.of_tape_laws.Ballots.{number_is, number_self}
+use Rattle.mega_lease_laws.proofs.of_run_laws.of_tape_laws.Ballots.{clash, number_is, number_self}
 use Rattle.mega_lease_laws.proofs.of_run_laws.of_tape_laws.Lists.{some_is}
 use Rattle.mega_lease_laws.specs.of_run_laws.Justified.{Each, sent}
 use Rattle.mega_lease_laws.proofs.of_run_laws.Events.{IsAnswer, IsPlain, each_append as each_both, lapses_plain, lease_plain, onto_append, told_plain}
@@ -649,9 +649,6 @@ granted_full c j m (item ∷ before) told given (inl same) = by m.to m.body (sub
     by to (GrantedBody cell epoch clock) k = of_given c before cell (number to) epoch given.1 k
     by to _ k = tt
 granted_full c j m (item ∷ before) told given (inr s) = granted_full c j m before told.1 given.1 s
-
-clash : {X : Type 0} (t : Bool) → t ≡ true → t ≡ false → X
-clash t h k = absurd (let both = sym h ∙ k in cc)
 
 less_is : (a b : ℕ) → nat_le a b ≡ false → b < a
 less_is a b h = grind (arith, nat_tests)

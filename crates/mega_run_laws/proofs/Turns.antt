@@ -35,6 +35,7 @@ use Rattle.mega_run_laws.specs.Justified.{Each, sent}
 use Rattle.mega_run_laws.proofs.Causes.{Given, IsGiven, cause_to, lost_to, sent_question}
 use Rattle.mega_run_laws.proofs.Sending.{Stood, stood_sent}
 use Rattle.mega_run_laws.proofs.Opened.{Acts, AreOfOp, Backed, Beside, Grew, Idle, OfOp, backed_on, idle_on, place_of, same_met}
+use Rattle.mega_tape_laws.proofs.Ballots.{clash}
 
 -- ---- lists
 
@@ -134,9 +135,6 @@ within me st k x = x.node.0 == me && x.start == st && nat_lt x.number k
 
 abbrev pub could : ℕ → ℕ → ℕ → OpId → Bool
 could me st k x = within me st k x && nat_lt x.number last_number
-
-clash : (t : Bool) → t ≡ true → t ≡ false → ⊥
-clash t h k = cc
 
 number_self : (a b : ℕ) → a ≡ b → (a == b) ≡ true
 number_self a b h = grind (arith, nat_tests)

@@ -22,7 +22,8 @@ use Rattle.mega_run_laws.proofs.Runs.{run_answered}
 use Rattle.mega_settled_laws.specs.Covering.{AreSettled, OwnSettled}
 use Rattle.mega_settled_laws.proofs.Behind.{caused_before, decided_covered, run_covered}
 use Rattle.mega_settled_laws.proofs.Runs.{AreCaused, run_caused}
-use Rattle.mega_settled_laws.proofs.Tapes.{answered_before, lawful_before, written_before}
+use Rattle.mega_run_laws.proofs.of_tape_laws.Earlier.{lawful_before}
+use Rattle.mega_settled_laws.proofs.Tapes.{answered_before, written_before}
 
 abbrev is_answer : Item → Bool
 is_answer (AnswerItem op answer) = true

@@ -17,7 +17,8 @@ use Rattle.mega_run_laws.specs.of_tape_laws.Places.{Place}
 use Rattle.mega_run_laws.proofs.of_tape_laws.Lists.{lookback}
 use Rattle.mega_run_laws.proofs.Runs.{run_lawful}
 use Rattle.mega_settled_laws.specs.Covering.{WasCovered}
-use Rattle.mega_settled_laws.proofs.Tapes.{lawful_before, now_is, one_later}
+use Rattle.mega_run_laws.proofs.of_tape_laws.Earlier.{lawful_before}
+use Rattle.mega_settled_laws.proofs.Tapes.{now_is, one_later}
 use Rattle.mega_settled_laws.proofs.Settle.{Cause, by_answer, by_news, by_own}
 use Rattle.mega_settled_laws.proofs.Runs.{AreCaused, IsCaused, run_caused}
 

@@ -16,7 +16,6 @@ use Rattle.mega_run_laws.specs.of_rules.of_read.of_propose.Members.{has, joined,
 use Rattle.mega_run_laws.specs.of_rules.Operations.{Node}
 use Rattle.mega_schema.specs.declared.schema.Schema.{Schema}
 use Rattle.mega_run_laws.specs.of_tape_laws.Answers.{AreAnswered}
-use Rattle.mega_run_laws.specs.of_tape_laws.Lawful.{Lawful}
 use Rattle.mega_run_laws.specs.of_tape_laws.Polls.{ArePolls}
 use Rattle.mega_run_laws.specs.of_tape_laws.Writes.{AreWritten, Usage}
 use Rattle.mega_run_laws.proofs.of_tape_laws.Ballots.{number_is}
@@ -50,11 +49,6 @@ earlier_stood moment tape e item s = subst (Stands item) (sym e.is) (stood_behin
 pub sent_later : (n : ℕ) (ms : List Message) (tape : List Item) → Earlier tape (sent n ms tape)
 sent_later n [] tape = now_is tape
 sent_later n (m ∷ ms) tape = then_later tape (Sent n m ∷ tape) (sent (n + 1) ms (Sent n m ∷ tape)) (one_later tape tape (Sent n m) (now_is tape)) (sent_later (n + 1) ms (Sent n m ∷ tape))
-
--- what holds of each item by what stood before it holds of earlier moments
-pub lawful_before : (c : Cluster) (later tape : List Item) → Lawful c (later ++ tape) → Lawful c tape
-lawful_before c [] tape l = l
-lawful_before c (item ∷ later) tape l = lawful_before c later tape l.1
 
 pub polls_before : (later tape : List Item) → ArePolls (later ++ tape) → ArePolls tape
 polls_before [] tape l = l

@@ -31,6 +31,7 @@ use Rattle.mega_format_laws.specs.Rounds.{Each}
 use Rattle.mega_format_laws.proofs.Each.{all_of_each}
 use Rattle.mega_shown_laws.specs.Fitting.{FitsTable, rows_of}
 use Rattle.mega_shown_laws.proofs.Causes.{answer_shown}
+use Rattle.mega_tape_laws.proofs.Earlier.{lawful_before}
 
 -- ---- what stood before an item
 
@@ -44,10 +45,6 @@ stood item (other ∷ tape) (inl same) = record { before = tape; on = record { l
 stood item (other ∷ tape) (inr stands) =
     let more = stood item tape stands in
     record { before = more.before; on = record { later = other ∷ (more.on).later; is = ap (λ xs. other ∷ xs) (more.on).is } }
-
-lawful_before : (c : Cluster) (later before : List Item) → Lawful c (later ++ before) → Lawful c before
-lawful_before c [] before h = h
-lawful_before c (item ∷ later) before h = lawful_before c later before h.1
 
 written_before : (s : Schema) (usage : Usage) (later before : List Item) → AreWritten s usage (later ++ before) → AreWritten s usage before
 written_before s usage [] before h = h

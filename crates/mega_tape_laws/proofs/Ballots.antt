@@ -1,5 +1,5 @@
 -- The order of ballots, as a test.
-use Rattle.std.proofs.Common.{◌≡◌, ◌⊎◌, inl, inr, ℕ, ◌==◌, Bool, true, false, cond, refl, sym, subst, arith}
+use Rattle.std.proofs.Common.{◌≡◌, ◌⊎◌, inl, inr, ℕ, ◌==◌, Bool, true, false, cond, refl, sym, subst, ◌∙◌, arith}
 use Rattle.std.proofs.lemmas.Bool.Decides.{nat_tests}
 use Rattle.std.proofs.lemmas.Bool.{false_from_ne_true}
 use Rattle.mega_ballot.specs.declared.ballot.Ballot.{Ballot}
@@ -14,8 +14,8 @@ number_is a b h = grind (arith, nat_tests)
 pub number_self : (a : ℕ) → (a == a) ≡ true
 number_self a = grind (arith, nat_tests)
 
-pub clash : (t : Bool) → t ≡ true → t ≡ false → ⊥
-clash t h k = cc
+pub clash : {X : Type 0} (t : Bool) → t ≡ true → t ≡ false → X
+clash t h k = absurd (let both = sym h ∙ k in cc)
 
 -- a ballot is below another, or at most it
 abbrev pub Below : Ballot → Ballot → Type 0

@@ -1,4 +1,5 @@
 pub mod Ballots
+pub mod Earlier
 pub mod Lists
 pub mod Votes
 pub mod Moves

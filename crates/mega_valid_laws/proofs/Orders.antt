@@ -11,7 +11,7 @@ use Rattle.mega_settled_laws.specs.of_tape_laws.of_promises.Promises.{Stands, St
 use Rattle.mega_settled_laws.specs.of_tape_laws.of_promises.of_rules.Members.{cells}
 use Rattle.mega_settled_laws.specs.of_tape_laws.Places.{count}
 use Rattle.mega_settled_laws.specs.of_tape_laws.Settled.{IsCellMajority}
-use Rattle.mega_settled_laws.proofs.of_tape_laws.Ballots.{number_is}
+use Rattle.mega_settled_laws.proofs.of_tape_laws.Ballots.{clash, number_is}
 use Rattle.mega_settled_laws.proofs.of_tape_laws.Majorities.{Shared, overlap}
 use Rattle.mega_settled_laws.specs.Covering.{Earlier}
 
@@ -51,9 +51,6 @@ below_below a b c (inr h) (inr k) = inr (h.0 ∙ k.0, (let one = h.1 in let two 
 not_below : (a : Epoch) → Below a a → ⊥
 not_below a (inl h) = omega (arith, h)
 not_below a (inr h) = let less = h.1 in omega (arith, less)
-
-clash : (t : Bool) → t ≡ true → t ≡ false → ⊥
-clash t h k = cc
 
 pub below_self : (a : Epoch) → is_epoch_below a a ≡ false
 below_self a = false_from_ne_true (is_epoch_below a a) (λ t. not_below a (below_of a a t))

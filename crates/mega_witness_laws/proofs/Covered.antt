@@ -30,7 +30,8 @@ use Rattle.mega_valid_laws.specs.of_settled_laws.Covering.{AreSettled, Earlier, 
 use Rattle.mega_valid_laws.proofs.of_settled_laws.Tapes.{earlier_stood, now_is, then_later, stood_behind}
 use Rattle.mega_valid_laws.proofs.Orders.{cells_meet}
 use Rattle.mega_witness_laws.specs.Tapes.{accepted_first, accepted_second, cells_answer, committed_uncovered, covered_before, first_covered}
-use Rattle.mega_witness_laws.proofs.Shown.{AllOf, clash, finds, no_moment, none_stands, stands_of}
+use Rattle.mega_valid_laws.proofs.of_settled_laws.of_tape_laws.Ballots.{clash}
+use Rattle.mega_witness_laws.proofs.Shown.{AllOf, finds, no_moment, none_stands, stands_of}
 
 -- ---- what no node and no cell says
 

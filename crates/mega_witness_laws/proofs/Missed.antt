@@ -20,7 +20,8 @@ use Rattle.mega_valid_laws.specs.of_settled_laws.of_tape_laws.of_rules.Acting.{r
 use Rattle.mega_valid_laws.specs.of_settled_laws.of_tape_laws.of_rules.Examples.{cluster, entry_of, group, op_of}
 use Rattle.mega_valid_laws.proofs.Orders.{stood_first}
 use Rattle.mega_witness_laws.specs.Tapes.{missed, put_then_read, user_read}
-use Rattle.mega_witness_laws.proofs.Shown.{clash, none_stands}
+use Rattle.mega_valid_laws.proofs.of_settled_laws.of_tape_laws.Ballots.{clash}
+use Rattle.mega_witness_laws.proofs.Shown.{none_stands}
 
 abbrev nothing : Answer
 nothing = ReadAnswer (record { 0 = 0 }) (None ∷ [])

@@ -6,11 +6,9 @@ use Rattle.mega_base.specs.declared.names.OpId.{OpId}
 use Rattle.mega_valid_laws.specs.of_settled_laws.of_tape_laws.of_transcript.declared.item.Item.{Item}
 use Rattle.mega_valid_laws.specs.of_settled_laws.of_tape_laws.of_promises.Promises.{Stands}
 use Rattle.mega_valid_laws.specs.of_settled_laws.Covering.{Earlier}
+use Rattle.mega_valid_laws.proofs.of_settled_laws.of_tape_laws.Ballots.{clash}
 
 -- ---- truth values
-
-pub clash : (t : Bool) → t ≡ true → t ≡ false → ⊥
-clash t h k = cc
 
 first_of : (a b : Bool) → (a && b) ≡ true → a ≡ true
 first_of true b h = refl
