@@ -90,7 +90,7 @@ IsTold schema items = (others : List Item) → All (IsPlain schema) others → l
 
 -- the lines' events happen, and the tape is a run of the cluster over them, in order, in which a fuse on a log cuts the append that it names: so what nodes decided at one position is one entry; an
 -- entry with the id of an operation is what that came to over the entries below, and answers are as of one thread; messages between groups
--- are entered and handled once, in order; each answer has its cause on the tape before it; what stands in a log under keys that are no row keys is what the local indexes have over the
+-- are entered and handled at most once, in order; each answer has its cause on the tape before it; what stands in a log under keys that are no row keys is what the local indexes have over the
 -- tables' rows, each of which fits and stands under its own key; behind each line local reads read through all that is decided, and a node where a group is valid has what was settled of it, while leases are
 -- safe; as long as leases are safe by its end, what a current read, a find, a transaction or a batch comes to holds all that was decided before it began, and what
 -- an operation proposes that polled stands above all that was decided before it asked, whether leases are safe or not; what is decided, committed or answered of a
