@@ -181,7 +181,7 @@ pub lines_back : (group : GroupId) (entries : List Content) → IsBytes group.ke
 lines_back group entries f some few le each =
     let count = length entries in
     let lines = map entry_words entries in
-    let there = length-map entry_words entries in
+    let there = length-map entries entry_words in
     ap (λ head. behind_head head lines) (head_back group count f some few le)
     ∙ ap (λ (kept : List (List ℕ)). with_group group (counted count (length lines) (entries_from 2 kept))) (ap (λ (n : ℕ). take n lines) (sym there) ∙ take-length lines)
     ∙ (λ i. with_group group (counted count (there i) (entries_back 2 entries each i)))

@@ -229,7 +229,7 @@ set_slots cells until cell v few above most s = record {
 
 left_slots : (cells now : ℕ) (until : List (Option ℕ)) → Slots cells until → Slots cells (map (left now) until)
 left_slots cells now until s = record {
-  five = length-map (left now) until ∙ s.five;
+  five = length-map until (left now) ∙ s.five;
   within = λ i h. s.within i (first_true (is_some (get_or until i None)) (not (is_due now (get_or until i None))) (sym (left_slot now until i) ∙ h));
 }
 

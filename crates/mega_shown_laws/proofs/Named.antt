@@ -184,7 +184,7 @@ table_sound s t h is fine =
           (or_from (is_among (table_names s.tables) t.name) false (any_named (λ (u : Table). u.name) t.name s.tables ∙ first.0) refl));
       each = each_both Tabled s.tables (table_of s t ∷ []) h.each (
         record {
-          few = (let same = length-map property_of t.properties in let short = at_most 64 (length t.properties) counts.1 in omega (arith, same, short));
+          few = (let same = length-map t.properties property_of in let short = at_most 64 (length t.properties) counts.1 in omega (arith, same, short));
           apart = words_apart t.properties is.1 first.1;
         },
         tt,
@@ -210,7 +210,7 @@ added_apart old (p ∷ added) h =
 grown_tabled : (t : Table) (ps : List PropertyWords) → Tabled t → AllByRecursion IsProperty ps → adds_known t.properties ps ≡ false → stands_twice (words_names ps) ≡ false → nat_lt 64 (length t.properties + length ps) ≡ false
     → Tabled (grown t ps)
 grown_tabled t ps is are fresh once short = record {
-  few = (let long = length-append t.properties (map property_of ps) in let same = length-map property_of ps in let most = at_most 64 (length t.properties + length ps) short in omega (arith, long, same, most));
+  few = (let long = length-append t.properties (map property_of ps) in let same = length-map ps property_of in let most = at_most 64 (length t.properties + length ps) short in omega (arith, long, same, most));
   apart = subst Apart (sym (map-append (λ (q : Property). q.name) t.properties (map property_of ps)))
       (apart_both (property_names t.properties) (property_names (map property_of ps)) is.apart (words_apart ps are once)
       (subst (λ ns. list_any (λ n. is_among (property_names t.properties) n) ns ≡ false) (sym (names_of_words ps)) (added_apart t.properties ps fresh)));
@@ -248,7 +248,7 @@ change_sound s c h is fine =
     let first = or_parts (adds_known (properties_of s c.table) c.properties) (stands_twice (words_names c.properties)) r1.0 in
     let stays = table_names_stay s.tables c.properties (table_place s.tables c.table) in
     record {
-      few = (let a = length-map (λ (u : Table). u.name) (grown_at s.tables c.properties (table_place s.tables c.table)) in let b = length-map (λ (u : Table). u.name) s.tables in let e = ap length stays in let most = h.few in omega (arith, a, b, e, most));
+      few = (let a = length-map (grown_at s.tables c.properties (table_place s.tables c.table)) (λ (u : Table). u.name) in let b = length-map s.tables (λ (u : Table). u.name) in let e = ap length stays in let most = h.few in omega (arith, a, b, e, most));
       apart = subst Apart (sym stays) h.apart;
       each = grown_each s c h.each is.1 first.0 first.1 r11.0 (table_place s.tables c.table) refl;
     }
