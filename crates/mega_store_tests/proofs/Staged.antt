@@ -1,28 +1,37 @@
--- What stands staged after a call: at most one item more, and each of the format.
-use Rattle.std.proofs.Common.{◌≡◌, ℕ, ◌+◌, ◌≤◌, true, false, List, [], ◌∷◌, ◌++◌, length, Bool, ap, subst, sym, arith, length-append}
+-- What stands staged after a call: each item of the format.
+use Rattle.std.proofs.Common.{◌≡◌, ◌≤◌, true, false, List, [], ◌∷◌, ◌++◌, Bool, length, subst, sym, arith}
 use Rattle.std.specs.Prelude.{All}
 use Rattle.std.proofs.lemmas.List.Elements.{All-append, All-cons, All-nil}
+use Rattle.mega_base.specs.Codec.{IsNested}
+use Rattle.mega_base.specs.Names.{IsEpoch, IsNode, IsPositionIn}
+use Rattle.mega_base.specs.declared.names.Epoch.{Epoch}
+use Rattle.mega_base.specs.declared.names.GroupId.{GroupId}
+use Rattle.mega_base.specs.declared.names.NodeId.{NodeId}
+use Rattle.mega_base.specs.declared.names.Position.{Position}
+use Rattle.mega_ballot.specs.Ballots.{IsBallot}
+use Rattle.mega_ballot.specs.declared.ballot.Ballot.{Ballot}
+use Rattle.mega_entry.specs.Entries.{entry_text, IsEntry}
+use Rattle.mega_entry.specs.declared.content.Content.{Content}
 use Rattle.mega_wal.specs.declared.item.JournalItem.{JournalItem}
-use Rattle.mega_wal.specs.declared.item.JournalItem.TheVariants.{Start}
+use Rattle.mega_wal.specs.declared.item.JournalItem.TheVariants.{Accept, Decide, Grant, Lapse, Promise, Start}
 use Rattle.mega_wal.specs.declared.answers.Promised.{Promised}
 use Rattle.mega_wal.specs.declared.answers.Promised.TheVariants as promise
 use Rattle.mega_wal.specs.declared.answers.Voted.{Voted}
 use Rattle.mega_wal.specs.declared.answers.Voted.TheVariants as vote
+use Rattle.mega_wal.specs.declared.kept.Kept.{Kept}
+use Rattle.mega_wal.specs.Compaction.{IsOfFormat}
 use Rattle.mega_wal.specs.History.{by_accept, by_decide, by_promise}
 use Rattle.mega_wal.specs.Items.{IsItem}
+use Rattle.mega_store_tests.specs.Fits.{Fits}
+
+-- nothing waits
+pub none_fits : (kept : Kept) (staged : List JournalItem) → staged ≡ [] → IsOfFormat kept → Fits kept staged
+none_fits kept staged is format = record { format = format; each = subst (All IsItem) (sym is) (All-nil IsItem) }
 
 -- a list with more at its end
-join : (was more now : List JournalItem) → now ≡ was ++ more → All IsItem was → All IsItem more → All IsItem now
-join was more now is each new = subst (All IsItem) (sym is) (All-append IsItem was more each new)
-
-count : (was more now : List JournalItem) → now ≡ was ++ more → length more ≤ 1 → length now ≤ length was + 1
-count was more now is few = subst (λ l. length l ≤ length was + 1) (sym is) (omega (arith, few, length-append was more))
-
-pub none_each : (now : List JournalItem) → now ≡ [] → All IsItem now
-none_each now is = subst (All IsItem) (sym is) (All-nil IsItem)
-
-pub none_few : (now : List JournalItem) → now ≡ [] → length now ≡ 0
-none_few now is = ap length is
+more_fits : (was now : Kept) (staged more after : List JournalItem) → Fits was staged → after ≡ staged ++ more → IsOfFormat now → All IsItem more → Fits now after
+more_fits was now staged more after fits is format new =
+    record { format = format; each = subst (All IsItem) (sym is) (All-append IsItem staged more fits.each new) }
 
 one : (item : JournalItem) → IsItem item → All IsItem (item ∷ [])
 one item fits = All-cons IsItem item [] fits (All-nil IsItem)
@@ -31,51 +40,48 @@ promised : (answer : Promised) (item : JournalItem) → IsItem item → All IsIt
 promised (promise.Yes report) item fits = one item fits
 promised (promise.Shown ballot) item fits = All-nil IsItem
 
-promised_few : (answer : Promised) (item : JournalItem) → length (by_promise answer item) ≤ 1
-promised_few (promise.Yes report) item = omega arith
-promised_few (promise.Shown ballot) item = omega arith
-
 voted : (answer : Voted) (item : JournalItem) → IsItem item → All IsItem (by_accept answer item)
 voted vote.Yes item fits = one item fits
 voted (vote.Shown ballot) item fits = All-nil IsItem
 voted (vote.Other entry) item fits = All-nil IsItem
 
-voted_few : (answer : Voted) (item : JournalItem) → length (by_accept answer item) ≤ 1
-voted_few vote.Yes item = omega arith
-voted_few (vote.Shown ballot) item = omega arith
-voted_few (vote.Other entry) item = omega arith
-
 decided : (new : Bool) (item : JournalItem) → IsItem item → All IsItem (by_decide new item)
 decided true item fits = one item fits
 decided false item fits = All-nil IsItem
 
-decided_few : (new : Bool) (item : JournalItem) → length (by_decide new item) ≤ 1
-decided_few true item = omega arith
-decided_few false item = omega arith
+pub promise_fits : (was now : Kept) (staged after : List JournalItem) (answer : Promised) (group : GroupId) (position : Position) (ballot : Ballot)
+    → Fits was staged → after ≡ staged ++ by_promise answer (Promise group position ballot) → (IsOfFormat was → IsItem (Promise group position ballot) → IsOfFormat now)
+    → length group.key ≤ 65536 → IsPositionIn 1 1000000 position → IsBallot ballot → Fits now after
+promise_fits was now staged after answer group position ballot fits is format named placed good =
+    let item = Promise group position ballot in
+    let whole : IsItem item = ((omega arith, named), (placed, good)) in
+    more_fits was now staged (by_promise answer item) after fits is (format fits.format whole) (promised answer item whole)
 
-pub promise_each : (was now : List JournalItem) (answer : Promised) (item : JournalItem) → now ≡ was ++ by_promise answer item → All IsItem was → IsItem item → All IsItem now
-promise_each was now answer item is each fits = join was (by_promise answer item) now is each (promised answer item fits)
+pub accept_fits : (was now : Kept) (staged after : List JournalItem) (answer : Voted) (group : GroupId) (position : Position) (ballot : Ballot) (entry : Content)
+    → Fits was staged → after ≡ staged ++ by_accept answer (Accept group position ballot entry) → (IsOfFormat was → IsItem (Accept group position ballot entry) → IsOfFormat now)
+    → length group.key ≤ 65536 → IsPositionIn 1 1000000 position → IsBallot ballot → IsNested 65536 entry_text IsEntry entry → Fits now after
+accept_fits was now staged after answer group position ballot entry fits is format named placed good nested =
+    let item = Accept group position ballot entry in
+    let whole : IsItem item = ((omega arith, named), (placed, (good, nested))) in
+    more_fits was now staged (by_accept answer item) after fits is (format fits.format whole) (voted answer item whole)
 
-pub promise_few : (was now : List JournalItem) (answer : Promised) (item : JournalItem) → now ≡ was ++ by_promise answer item → length now ≤ length was + 1
-promise_few was now answer item is = count was (by_promise answer item) now is (promised_few answer item)
+pub decide_fits : (was now : Kept) (staged after : List JournalItem) (new : Bool) (group : GroupId) (position : Position) (entry : Content)
+    → Fits was staged → after ≡ staged ++ by_decide new (Decide group position entry) → (IsOfFormat was → IsItem (Decide group position entry) → IsOfFormat now)
+    → length group.key ≤ 65536 → IsPositionIn 1 1000000 position → IsNested 65536 entry_text IsEntry entry → Fits now after
+decide_fits was now staged after new group position entry fits is format named placed nested =
+    let item = Decide group position entry in
+    let whole : IsItem item = ((omega arith, named), (placed, nested)) in
+    more_fits was now staged (by_decide new item) after fits is (format fits.format whole) (decided new item whole)
 
-pub accept_each : (was now : List JournalItem) (answer : Voted) (item : JournalItem) → now ≡ was ++ by_accept answer item → All IsItem was → IsItem item → All IsItem now
-accept_each was now answer item is each fits = join was (by_accept answer item) now is each (voted answer item fits)
+pub grant_fits : (was now : Kept) (staged after : List JournalItem) (node : NodeId) (epoch : Epoch)
+    → Fits was staged → after ≡ staged ++ Grant node epoch ∷ [] → (IsOfFormat was → IsItem (Grant node epoch) → IsOfFormat now) → IsItem (Grant node epoch) → Fits now after
+grant_fits was now staged after node epoch fits is format whole =
+    more_fits was now staged (Grant node epoch ∷ []) after fits is (format fits.format whole) (one (Grant node epoch) whole)
 
-pub accept_few : (was now : List JournalItem) (answer : Voted) (item : JournalItem) → now ≡ was ++ by_accept answer item → length now ≤ length was + 1
-accept_few was now answer item is = count was (by_accept answer item) now is (voted_few answer item)
+pub lapse_fits : (was now : Kept) (staged after : List JournalItem) (node : NodeId) (epoch : Epoch)
+    → Fits was staged → after ≡ staged ++ Lapse node epoch ∷ [] → (IsOfFormat was → IsItem (Lapse node epoch) → IsOfFormat now) → IsItem (Lapse node epoch) → Fits now after
+lapse_fits was now staged after node epoch fits is format whole =
+    more_fits was now staged (Lapse node epoch ∷ []) after fits is (format fits.format whole) (one (Lapse node epoch) whole)
 
-pub decide_each : (was now : List JournalItem) (new : Bool) (item : JournalItem) → now ≡ was ++ by_decide new item → All IsItem was → IsItem item → All IsItem now
-decide_each was now new item is each fits = join was (by_decide new item) now is each (decided new item fits)
-
-pub decide_few : (was now : List JournalItem) (new : Bool) (item : JournalItem) → now ≡ was ++ by_decide new item → length now ≤ length was + 1
-decide_few was now new item is = count was (by_decide new item) now is (decided_few new item)
-
-pub one_each : (was now : List JournalItem) (item : JournalItem) → now ≡ was ++ item ∷ [] → All IsItem was → IsItem item → All IsItem now
-one_each was now item is each fits = join was (item ∷ []) now is each (one item fits)
-
-pub one_few : (was now : List JournalItem) (item : JournalItem) → now ≡ was ++ item ∷ [] → length now ≤ length was + 1
-one_few was now item is = count was (item ∷ []) now is (omega arith)
-
-pub start_each : (was now : List JournalItem) → now ≡ was ++ Start ∷ [] → All IsItem was → All IsItem now
-start_each was now is each = join was (Start ∷ []) now is each (one Start tt)
+pub start_fits : (was now : Kept) (staged after : List JournalItem) → Fits was staged → after ≡ staged ++ Start ∷ [] → (IsOfFormat was → IsOfFormat now) → Fits now after
+start_fits was now staged after fits is format = more_fits was now staged (Start ∷ []) after fits is (format fits.format) (one Start tt)

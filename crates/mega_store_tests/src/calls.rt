@@ -1,19 +1,19 @@
-//! Calls of a voter's logs that are drawn, and the small values in them.
-ghost use Rattle.std.specs.Prelude.{◌≤◌, ◌<◌, length, IfOk};
+//! Calls of a voter's logs, and the small values in them.
+ghost use Rattle.std.specs.Prelude.{◌≤◌, length};
 ghost use Rattle.mega_base.specs.Codec.{IsNested};
-ghost use Rattle.mega_base.specs.Names.{IsNode, IsPositionIn};
+ghost use Rattle.mega_base.specs.Names.{IsNode, IsOp, IsPositionIn};
 ghost use Rattle.mega_ballot.specs.Ballots.{IsBallot};
 ghost use Rattle.mega_entry.specs.Entries.{entry_text, IsEntry};
 
-use crate::crashes::entry;
 use crate::draws::Draws;
 use mega_ballot::Ballot;
-use mega_base::{Bytes, Epoch, GroupId, NoMemory, NodeId, OpId, Position};
-use mega_entry::{Entry, EntryFault};
+use mega_base::{Bytes, Epoch, GroupId, NodeId, OpId, Position};
+use mega_entry::{Entry, decode};
 use std::alloc::Global;
+use std::process::Abort;
 
 /// What a call asks of the logs.
-#[derive(Clone, Copy, PartialEq, Eq, Debug, Drop)]
+#[derive(Clone, Copy, PartialEq, Eq, Drop)]
 pub enum Kind {
     Promise,
     Accept,
@@ -23,8 +23,8 @@ pub enum Kind {
     Begin,
 }
 
-/// A drawn call, of which each kind takes what it needs: small numbers stand for names, places, ballots, entries and
-/// epochs, in the same order.
+/// A call, of which each kind takes what it needs: small numbers stand for names, places, ballots, entries and epochs,
+/// in the same order.
 #[derive(Clone, Copy, Drop)]
 pub struct Call {
     pub kind: Kind,
@@ -37,22 +37,44 @@ pub struct Call {
 }
 
 impl Call {
-    /// A call of an era: with the eras more places open, and ballots and epochs rise. Half of the ballots are zero.
-    pub fn drawn(draws: &mut Draws, era: u8) -> Call
-        requires { era < 64 }
-    {
-        let raised = draws.draw(2) == 0;
-        let ballot = era + draws.draw(8) as u8;
+    /// A call at the first place of a group of its own.
+    pub fn first(kind: Kind, ballot: u8, entry: u8) -> Call {
         Call {
-            kind: drawn_kind(draws),
-            group: draws.draw(3) as u8,
-            place: draws.draw(u64::from(era / 8) + 3) as u8,
-            ballot: if raised { ballot } else { 0 },
-            entry: draws.draw(6) as u8,
-            node: draws.draw(9) as u8,
-            epoch: era + draws.draw(3) as u8,
+            kind,
+            group: 3,
+            place: 0,
+            ballot,
+            entry,
+            node: 0,
+            epoch: 0,
         }
     }
+
+    /// A drawn call of an era: with the eras more places open, and ballots and epochs rise. Half of the ballots are zero.
+    pub fn drawn(draws: &mut Draws, era: u8) -> Call {
+        let is_zero = draws.byte(2) != 0;
+        let ballot = era.saturating_add(draws.byte(8));
+        let kind = drawn_kind(draws);
+        let group = draws.byte(3);
+        let place = draws.byte((era / 8).saturating_add(3));
+        let entry = draws.byte(6);
+        let node = draws.byte(9);
+        let epoch = era.saturating_add(draws.byte(3));
+        Call {
+            kind,
+            group,
+            place,
+            ballot: counted(ballot, !is_zero),
+            entry,
+            node,
+            epoch,
+        }
+    }
+}
+
+/// The number where it counts, and else 0.
+pub fn counted(number: u8, counts: bool) -> u8 {
+    if counts { number } else { 0 }
 }
 
 /// A drawn kind.
@@ -67,17 +89,27 @@ fn drawn_kind(draws: &mut Draws) -> Kind {
     }
 }
 
-/// A group: the key of the first is a prefix of that of the second.
-pub fn group(alloc: Global, number: u8) -> Result<GroupId, NoMemory>
-    ensures { IfOk result (λ group. length group.key ≤ 65536) }
+/// The group of this key.
+fn group_of(rt: &impl Abort, alloc: Global, key: &[u8]) -> GroupId
+    requires { length key.now ≤ 65536 }
+    ensures { length result.key ≤ 65536 }
 {
-    let bytes = [b'a', b'b'];
-    let key = match number {
-        0 => Bytes::from_slice(alloc, &bytes[..1])?,
-        1 => Bytes::from_slice(alloc, &bytes)?,
-        _ => Bytes::from_slice(alloc, &bytes[1..])?,
+    let Ok(key) = Bytes::from_slice(alloc, key) else {
+        panic!(rt; "refused");
     };
-    Ok(GroupId { key })
+    GroupId { key }
+}
+
+/// A group: the key of the first is a prefix of that of the second.
+pub fn group(rt: &impl Abort, alloc: Global, number: u8) -> GroupId
+    ensures { length result.key ≤ 65536 }
+{
+    match number {
+        0 => group_of(rt, alloc, b"a"),
+        1 => group_of(rt, alloc, b"ab"),
+        2 => group_of(rt, alloc, b"b"),
+        _ => group_of(rt, alloc, b"g"),
+    }
 }
 
 pub fn position(number: u8) -> Position
@@ -86,7 +118,18 @@ pub fn position(number: u8) -> Position
     Position(1 + u64::from(number))
 }
 
-/// Ballots of two nodes, two starts and two numbers in each round; the first is zero.
+/// Operations of two nodes, with two starts and two numbers each.
+fn op(number: u8) -> OpId
+    ensures { IsOp result }
+{
+    OpId {
+        node: NodeId(1 + number / 4 % 2),
+        start: 1 + u32::from(number / 2 % 2),
+        number: 1 + u32::from(number % 2),
+    }
+}
+
+/// Ballots of eight operations in each round; the first is zero.
 pub fn ballot(number: u8) -> Ballot
     ensures { IsBallot result }
 {
@@ -96,11 +139,7 @@ pub fn ballot(number: u8) -> Ballot
     let rest = number - 1;
     Ballot {
         round: 1 + u32::from(rest / 8),
-        op: OpId {
-            node: NodeId(1 + rest / 4 % 2),
-            start: 1 + u32::from(rest / 2 % 2),
-            number: 1 + u32::from(rest % 2),
-        },
+        op: op(rest),
     }
 }
 
@@ -118,18 +157,31 @@ pub fn epoch(number: u8) -> Epoch {
     }
 }
 
+/// The entry of this text.
+fn entry_in(rt: &impl Abort, alloc: Global, text: &[u8]) -> Entry
+    requires { length text.now ≤ 65536 }
+    ensures { IsNested 65536 entry_text IsEntry result }
+{
+    let Ok(entry) = decode(alloc, text) else {
+        panic!(rt; "refused");
+    };
+    entry
+}
+
 /// An entry with nothing in it: three of three leaders with no id, and three with an id.
-pub fn entry_of(alloc: Global, number: u8) -> Result<Entry, EntryFault>
-    ensures { IfOk result (IsNested 65536 entry_text IsEntry) }
+pub fn entry(rt: &impl Abort, alloc: Global, number: u8) -> Entry
+    ensures { IsNested 65536 entry_text IsEntry result }
 {
     let leader = 1 + number % 3;
     if number < 3 {
-        return entry(
+        return entry_in(
+            rt,
             alloc,
             &[1, 0, leader, 0, 0, 0, 0, 0, 0, 0, 0, 0, 0, 0, 0, 0, 0, 0, 0],
         );
     }
-    entry(
+    entry_in(
+        rt,
         alloc,
         &[
             1, 1, 1, 0, 0, 0, 1, 0, 0, 0, 1, leader, 0, 0, 0, 0, 0, 0, 0, 0, 0, 0, 0, 0, 0, 0, 0, 0,

@@ -1,172 +1,94 @@
 //! Logs over a journal on a device that stops at any call.
-ghost use Rattle.std.specs.Prelude.{◌≡◌, ◌≤◌, [], length, IfOk, OnOk};
-ghost use Rattle.mega_base.specs.Codec.{IsNested};
-ghost use Rattle.mega_ballot.specs.Ballots.{IsBallot};
-ghost use Rattle.mega_entry.specs.Entries.{entry_text, IsEntry};
-ghost use Rattle.mega_wal.specs.declared.item.JournalItem.TheVariants.{Accept, Promise};
-ghost use Rattle.mega_wal.specs.Items.{IsItem};
+ghost use Rattle.std.specs.Prelude.{IfSome};
+ghost use Rattle.mega_store_tests.specs.Fits.{Fits};
 
-use mega_ballot::Ballot;
-use mega_base::{Bytes, Copied, GroupId, NodeId, OpId, Position};
+use crate::asserted::same;
+use crate::calls::{Call, Kind, group, position};
+use crate::logs::{ask_alone, opened};
 use mega_disk::{Disk, MemDisk, Records};
-use mega_entry::{Entry, EntryFault, decode};
 use mega_journal::Journal;
-use mega_wal::{LogFault, Logs};
+use mega_wal::Logs;
 use std::alloc::Global;
-use std::test::Fail;
+use std::process::Abort;
 
-const PLACE: Position = Position(1);
-
-/// The ballot of a round.
-fn ballot(round: u32) -> Ballot
-    requires { 1 ≤ round }
-    ensures { IsBallot result }
-{
-    Ballot {
-        round,
-        op: OpId {
-            node: NodeId(1),
-            start: 1,
-            number: 1,
-        },
-    }
-}
-
-/// The entry of this text.
-pub fn entry(alloc: Global, text: &[u8]) -> Result<Entry, EntryFault>
-    requires { length text.now ≤ 65536 }
-    ensures { IfOk result (IsNested 65536 entry_text IsEntry) }
-{
-    let entry = decode(alloc, text)?;
-    Ok(entry)
-}
-
-/// The logs of a device; a device that refuses is handed back.
-fn opened(alloc: Global, disk: MemDisk) -> Result<Logs<Journal<MemDisk>>, MemDisk>
-    ensures { IfOk result (λ logs. logs.staged.items ≡ []) }
+/// The logs over the journal on a device, unless it refuses.
+fn logs_on<D: Disk + Drop>(alloc: Global, disk: D) -> Option<Logs<Journal<D>>>
+    ensures { IfSome result (λ logs. Fits logs.kept logs.staged.items) }
 {
     match Journal::open(alloc, disk) {
-        Ok(journal) => match Logs::open(alloc, journal) {
-            Ok(logs) => Ok(logs),
-            Err((_, journal)) => Err(journal.close()),
-        },
-        Err((_, disk)) => Err(disk),
+        Ok(journal) => opened(alloc, journal),
+        Err(_) => None,
     }
 }
 
-/// Promises a ballot, and makes a record of it.
-fn prepare<R: Records>(
-    alloc: Global,
-    logs: &mut Logs<R>,
-    group: &GroupId,
-    ballot: Ballot,
-) -> Result<(), LogFault>
-    requires staged { logs.old.staged.items ≡ [] }
-    requires item { IsItem (Promise group.now PLACE ballot) }
-    ensures { OnOk result (logs.new.staged.items ≡ []) }
-{
-    let _ = logs.promise(alloc, group, PLACE, ballot)?;
-    logs.flush(alloc)
+/// What is asked in a round: a promise in odd rounds and an accept in even ones, at a ballot of the round.
+fn call_of(round: u8) -> Call {
+    let kind = if round % 2 == 1 {
+        Kind::Promise
+    } else {
+        Kind::Accept
+    };
+    Call::first(kind, round.saturating_mul(8).saturating_sub(7), 0)
 }
 
-/// Accepts an entry, and makes a record of it.
-fn vote<R: Records>(
-    alloc: Global,
-    logs: &mut Logs<R>,
-    group: &GroupId,
-    ballot: Ballot,
-    entry: Entry,
-) -> Result<(), LogFault>
-    requires staged { logs.old.staged.items ≡ [] }
-    requires item { IsItem (Accept group.now PLACE ballot entry) }
-    ensures { OnOk result (logs.new.staged.items ≡ []) }
-{
-    let _ = logs.accept(alloc, group, PLACE, ballot, entry)?;
-    logs.flush(alloc)
-}
-
-/// Promises in odd rounds and accepts in even ones until a call is refused, and tells in which round it answered last.
-fn answered<R: Records>(
-    alloc: Global,
-    logs: &mut Logs<R>,
-    group: &GroupId,
-    entry: &Entry,
-) -> Result<u32, Fail>
-    requires staged { logs.old.staged.items ≡ [] }
-    requires group { length group.now.key ≤ 65536 }
-    requires entry { IsNested 65536 entry_text IsEntry entry.now }
+/// The round in which logs answered last, of six, before a call was refused.
+fn answered<R: Records>(rt: &impl Abort, alloc: Global, logs: &mut Logs<R>) -> u32
+    requires { Fits logs.old.kept logs.old.staged.items }
 {
     let mut last = 0;
-    for round in 1..=6u32 {
-        let entry = entry.copy(alloc)?;
-        let told = if round % 2 == 1 {
-            prepare(alloc, logs, group, ballot(round))
-        } else {
-            vote(alloc, logs, group, ballot(round), entry)
+    for round in 1..=6u8 {
+        let Ok(_) = ask_alone(rt, alloc, logs, call_of(round)) else {
+            return last;
         };
-        if told.is_err() {
-            return Ok(last);
-        }
-        last = round;
+        last = u32::from(round);
     }
-    Ok(last)
+    last
 }
 
-/// The round in which a device with a fuse answered last, and the device.
-fn cut_at(
-    alloc: Global,
-    calls: u64,
-    image: u8,
-    group: &GroupId,
-    entry: &Entry,
-) -> Result<(u32, MemDisk), Fail>
-    requires group { length group.now.key ≤ 65536 }
-    requires entry { IsNested 65536 entry_text IsEntry entry.now }
-{
+/// The round in which the logs on a device answered last.
+fn answered_on(rt: &impl Abort, alloc: Global, disk: &mut MemDisk) -> u32 {
+    match logs_on(alloc, disk) {
+        Some(mut logs) => answered(rt, alloc, &mut logs),
+        None => 0,
+    }
+}
+
+/// The rounds that logs show and have accepted.
+fn rounds_in<R: Records>(rt: &impl Abort, alloc: Global, logs: &Logs<R>) -> (u32, u32) {
+    let group = group(rt, alloc, 3);
+    let accepted = match logs.accepted(&group, position(0)) {
+        Some((ballot, _)) => ballot.round,
+        None => 0,
+    };
+    (logs.promised(&group, position(0)).round, accepted)
+}
+
+/// The rounds that the logs on a device show and have accepted.
+fn rounds_on(rt: &impl Abort, alloc: Global, disk: &mut MemDisk) -> (u32, u32) {
+    match logs_on(alloc, disk) {
+        Some(logs) => rounds_in(rt, alloc, &logs),
+        None => (u32::MAX, 0),
+    }
+}
+
+/// Asserts that a device which stops after so many calls keeps what was answered.
+fn check(rt: &impl Abort, alloc: Global, calls: u64, image: u8) {
     let mut disk = MemDisk::new(alloc);
     disk.fuse(calls, image);
-    match opened(alloc, disk) {
-        Ok(mut logs) => {
-            let last = answered(alloc, &mut logs, group, entry)?;
-            Ok((last, logs.close().close()))
-        }
-        Err(disk) => Ok((0, disk)),
-    }
-}
-
-/// The rounds that a device shows and has accepted.
-fn shown_on(alloc: Global, disk: MemDisk, group: &GroupId) -> (u32, u32) {
-    let mut disk = disk;
+    let last = answered_on(rt, alloc, &mut disk);
     disk.fuse(1000, 0);
-    match opened(alloc, disk) {
-        Ok(logs) => {
-            let accepted = match logs.accepted(group, PLACE) {
-                Some((ballot, _)) => ballot.round,
-                None => 0,
-            };
-            (logs.promised(group, PLACE).round, accepted)
-        }
-        Err(_) => (u32::MAX, 0),
-    }
+    let (shown, accepted) = rounds_on(rt, alloc, &mut disk);
+    let case = calls.saturating_mul(10).saturating_add(u64::from(image));
+    let is_next = shown == last.saturating_add(1);
+    same(rt, (shown == last) | is_next, true, case);
+    same(rt, accepted, shown.saturating_sub(shown % 2), case);
 }
 
 #[test]
-fn what_was_answered_stands_after_a_crash_at_any_call(rt: HostRuntime) -> Result<(), Fail> {
-    let alloc = rt.alloc();
-    let group = GroupId {
-        key: Bytes::from_slice(alloc, b"g")?,
-    };
-    let entry = entry(
-        alloc,
-        &[1, 0, 1, 0, 0, 0, 0, 0, 0, 0, 0, 0, 0, 0, 0, 0, 0, 0, 0],
-    )?;
+fn what_was_answered_stands_after_a_crash_at_any_call(rt: HostRuntime) {
     for calls in 0..40u64 {
         for image in 0..3u8 {
-            let (last, disk) = cut_at(alloc, calls, image, &group, &entry)?;
-            let (shown, accepted) = shown_on(alloc, disk, &group);
-            assert!(rt; shown >= last && shown - last <= 1, "{calls} {image}");
-            assert_eq!(rt; accepted, shown - shown % 2, "{calls} {image}");
+            check(&rt, rt.alloc(), calls, image);
         }
     }
-    Ok(())
 }

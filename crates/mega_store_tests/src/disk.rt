@@ -1,10 +1,6 @@
-//! Devices, in memory and of a file, and the stores in memory.
-ghost use Rattle.std.specs.Prelude.{◌≡◌, ◌≤◌, ◌+◌, true, length};
-
-use mega_base::{Bytes, Items, Position, Row};
-use mega_disk::{
-    Disk, DiskError, FileDisk, MemDisk, MemRecords, MemVersions, RecordError, Records, Versions,
-};
+//! Devices, in memory and of a file, and the list of records in memory.
+use crate::asserted::same;
+use mega_disk::{Disk, DiskError, FileDisk, MemDisk, MemRecords, RecordError, Records};
 use std::alloc::Global;
 use std::fs;
 use std::process::Abort;
@@ -36,140 +32,109 @@ fn cut<D: Disk>(disk: &mut D, size: u64) -> Result<(), DiskError> {
     disk.cut(size)
 }
 
+/// Takes a step: bytes are put at the offset of a digit, `<` cuts to the length of a digit, and `s` syncs.
+fn take<D: Disk>(disk: &mut D, step: &[u8]) -> Result<(), DiskError> {
+    match step {
+        [b's'] => disk.sync(),
+        [b'<', size] => cut(disk, u64::from(size.wrapping_sub(b'0'))),
+        [at, bytes @ ..] => put(disk, u64::from(at.wrapping_sub(b'0')), bytes),
+        [] => Ok(()),
+    }
+}
+
+/// Takes the steps of a script, and asserts that those behind a `!` fail and no other does.
+fn follow<D: Disk>(rt: &impl Abort, disk: &mut D, script: &str) {
+    for step in script.split(' ') {
+        match step.as_bytes() {
+            [b'!', step @ ..] => same(rt, take(disk, step), Err(DiskError::Failed), 0),
+            step => same(rt, take(disk, step), Ok(()), 0),
+        }
+    }
+}
+
+/// Asserts what a fuse with this image leaves of bytes that were synced, and of a write, a cut and a write behind them.
+fn check_image(rt: &impl Abort, alloc: Global, image: u8, wanted: &[u8]) {
+    let mut disk = MemDisk::new(alloc);
+    follow(rt, &mut disk, "0abcdef s 1XY <3 3z");
+    disk.fuse(0, image);
+    follow(rt, &mut disk, "!s");
+    let left = content(rt, alloc, &mut disk);
+    same(rt, left.as_slice(), wanted, u64::from(image));
+}
+
 #[test]
 fn a_burnt_fuse_leaves_what_its_image_says(rt: HostRuntime) {
-    let alloc = rt.alloc();
-    let kept: [&[u8]; 3] = [b"abcdef", b"aXYz", b"a\xa5\xa5\xa5"];
-    for (image, want) in kept.iter().enumerate() {
-        let mut disk = MemDisk::new(alloc);
-        put(&mut disk, 0, b"abcdef").expect(&rt, "refused");
-        disk.sync().expect(&rt, "refused");
-        put(&mut disk, 1, b"XY").expect(&rt, "refused");
-        cut(&mut disk, 3).expect(&rt, "refused");
-        put(&mut disk, 3, b"z").expect(&rt, "refused");
-        disk.fuse(0, image as u8);
-        assert!(rt; matches!(disk.sync(), Err(DiskError::Failed)));
-        let left = content(&rt, alloc, &mut disk);
-        assert_eq!(rt; left.as_slice(), *want, "image {image}");
-    }
+    check_image(&rt, rt.alloc(), 0, b"abcdef");
+    check_image(&rt, rt.alloc(), 1, b"aXYz");
+    check_image(&rt, rt.alloc(), 2, b"a\xa5\xa5\xa5");
 }
 
 #[test]
 fn a_device_fails_where_it_was_told_to(rt: HostRuntime) {
-    let alloc = rt.alloc();
-    let mut disk = MemDisk::new(alloc);
+    let mut disk = MemDisk::new(rt.alloc());
     disk.fuse(2, 1);
-    assert!(rt; disk.sync().is_ok());
-    assert!(rt; disk.sync().is_ok());
-    assert!(rt; matches!(disk.sync(), Err(DiskError::Failed)));
-    assert!(rt; disk.sync().is_ok());
+    follow(&rt, &mut disk, "s s !s s");
     disk.fail_at(6);
-    assert!(rt; disk.sync().is_ok());
-    let lent = &mut disk;
-    assert!(rt; matches!(put(lent, 0, b"a"), Err(DiskError::Failed)));
-    put(&mut disk, 0, b"ab").expect(&rt, "refused");
-    content(&rt, alloc, &mut disk);
-    content(&rt, alloc, &mut disk);
-    assert_eq!(rt; disk.read_bytes(), 4);
+    follow(&rt, &mut disk, "s !0a 0ab");
+    content(&rt, rt.alloc(), &mut disk);
+    content(&rt, rt.alloc(), &mut disk);
+    same(&rt, disk.read_bytes(), 4, 0);
 }
 
 #[test]
 fn a_file_is_a_device(rt: HostRuntime) {
-    let alloc = rt.alloc();
     let name = "mega_disk_file_test";
     let _ = fs::remove_file(&rt, name);
-    let mut disk = FileDisk::new(
-        rt.clone().expect(&rt, "refused"),
-        String::from_str(alloc, name).expect(&rt, "refused"),
-    );
-    assert_eq!(rt; disk.len().expect(&rt, "refused"), 0);
-    put(&mut disk, 0, b"abcdef").expect(&rt, "refused");
-    put(&mut disk, 2, b"XYZ").expect(&rt, "refused");
-    disk.sync().expect(&rt, "refused");
-    cut(&mut disk, 5).expect(&rt, "refused");
+    let text = String::from_str(rt.alloc(), name).expect(&rt, "refused");
+    let mut disk = FileDisk::new(rt.clone().expect(&rt, "refused"), text);
+    same(&rt, disk.len(), Ok(0), 0);
+    follow(&rt, &mut disk, "0abcdef 2XYZ s <5");
     disk.fuse(0, 0);
-    let held = content(&rt, alloc, &mut disk);
-    assert_eq!(rt; held.as_slice(), b"abXYZ".as_slice());
+    let held = content(&rt, rt.alloc(), &mut disk);
+    same(&rt, held.as_slice(), b"abXYZ".as_slice(), 0);
     fs::remove_file(&rt, name).expect(&rt, "refused");
-    let mut none = FileDisk::new(
-        rt.clone().expect(&rt, "refused"),
-        String::from_str(alloc, "no_such_folder/file").expect(&rt, "refused"),
-    );
-    assert!(rt; matches!(none.len(), Err(DiskError::Failed)));
+}
+
+#[test]
+fn a_file_in_no_folder_fails(rt: HostRuntime) {
+    let name = String::from_str(rt.alloc(), "no_such_folder/file").expect(&rt, "refused");
+    let mut none = FileDisk::new(rt.clone().expect(&rt, "refused"), name);
+    same(&rt, none.len(), Err(DiskError::Failed), 0);
+}
+
+/// Appends a record so often, where the list is not due to be replaced.
+fn append_many(rt: &impl Abort, alloc: Global, records: &mut MemRecords, count: u64) {
+    for number in 0..count {
+        same(rt, records.due(), false, number);
+        records.append(alloc, b"one").expect(rt, "refused");
+    }
+}
+
+/// Replaces the records by one, where they are due for it.
+fn replace(rt: &impl Abort, alloc: Global, records: &mut MemRecords) {
+    if !records.due() {
+        panic!(rt; "not due");
+    }
+    records.replace(alloc, b"all").expect(rt, "refused");
 }
 
 #[test]
 fn records_in_memory(rt: HostRuntime) {
     let alloc = rt.alloc();
     let mut records = MemRecords::new(alloc);
-    for _ in 0..4096u64 {
-        assert!(rt; !records.due());
-        records.append(alloc, b"one").expect(&rt, "refused");
-    }
-    assert!(rt; records.due());
-    if records.due() {
-        records.replace(alloc, b"all").expect(&rt, "refused");
-    }
-    assert!(rt; !records.due());
+    append_many(&rt, alloc, &mut records, 4096);
+    replace(&rt, alloc, &mut records);
+    same(&rt, records.due(), false, 0);
     records.append(alloc, b"next").expect(&rt, "refused");
-    assert_eq!(rt; records.count(), 2);
-    assert!(rt; records.take_opened().is_empty());
+    same(&rt, records.count(), 2, 0);
+    same(&rt, records.take_opened().len(), 0, 0);
     records.reopen().expect(&rt, "refused");
     let opened = records.take_opened();
-    assert_eq!(rt; opened.len(), 2);
-    assert_eq!(rt; opened[0].as_slice(), b"all".as_slice());
-    assert_eq!(rt; opened[1].as_slice(), b"next".as_slice());
-    assert!(rt; !matches!(records.append(alloc, b""), Err(RecordError::Spent)));
-}
-
-#[test]
-fn versions_in_memory(rt: HostRuntime) {
-    let alloc = rt.alloc();
-    let mut versions = MemVersions::new(alloc);
-    let keys = [b"b".as_slice(), b"a".as_slice(), b"c".as_slice()];
-    for (place, key) in keys.iter().enumerate() {
-        let key = Bytes::from_slice(alloc, key).expect(&rt, "refused");
-        let row = Row {
-            cells: Items::new(alloc),
-        };
-        versions
-            .put(alloc, &key, Position(place as u64), Some(row))
-            .expect(&rt, "refused");
-    }
-    let (a, c) = (
-        Bytes::from_slice(alloc, b"a").expect(&rt, "refused"),
-        Bytes::from_slice(alloc, b"c").expect(&rt, "refused"),
-    );
-    assert!(rt;
-        versions
-            .get(alloc, &a, Position(0))
-            .expect(&rt, "refused")
-            .is_none()
-    );
-    assert!(rt;
-        versions
-            .get(alloc, &a, Position(9))
-            .expect(&rt, "refused")
-            .is_some()
-    );
-    let rows = versions
-        .scan(alloc, &a, &c, Position(1))
-        .expect(&rt, "refused");
-    assert_eq!(rt; rows.len(), 2);
-    assert_eq!(rt; rows[0].0.as_slice(), b"a".as_slice());
-    versions
-        .put(alloc, &a, Position(3), None)
-        .expect(&rt, "refused");
-    assert!(rt; versions.latest(alloc, &a).expect(&rt, "refused").is_none());
-    versions
-        .clean(alloc, &a, &c, Position(2))
-        .expect(&rt, "refused");
-    versions.spill(alloc, &[]).expect(&rt, "refused");
-    assert!(rt;
-        versions
-            .get(alloc, &a, Position(2))
-            .expect(&rt, "refused")
-            .is_some()
-    );
-    assert!(rt; !versions.full());
+    let [all, next] = opened.as_slice() else {
+        panic!(rt; "not two records");
+    };
+    same(&rt, all.as_slice(), b"all".as_slice(), 0);
+    same(&rt, next.as_slice(), b"next".as_slice(), 0);
+    let answer = records.append(alloc, b"").err();
+    same(&rt, answer == Some(RecordError::Spent), false, 0);
 }

@@ -1,67 +1,60 @@
 //! Drawn calls of versioned rows beside a list that keeps everything.
+use crate::asserted::same;
 use crate::draws::Draws;
-use mega_base::{Bytes, Cell, Items, Position, Row, Value};
-use mega_disk::Versions;
+use crate::numbered::{clean, get, latest, number_of, put, scan};
 use mega_rows::VersionedRows;
 use std::alloc::Global;
 use std::process::Abort;
 
 /// A version in the list that keeps everything: key, position and number, 0 for a deletion.
-#[derive(Drop)]
+#[derive(Clone, Copy, Drop)]
 struct Kept {
     key: u8,
     at: u64,
     number: i32,
 }
 
+/// Of two versions that a read may see, the one of greater position, of equal ones the newer.
+fn newer(best: Kept, kept: Kept) -> Kept {
+    if kept.at >= best.at { kept } else { best }
+}
+
 /// The number that a read of the key at this position sees: of the versions of greatest position the one put last.
-fn number_in(list: &[Kept], key: u8, at: u64) -> i32 {
-    let mut best = 0;
-    let mut number = 0;
+fn number_at(list: &[Kept], key: u8, at: u64) -> i32 {
+    let mut best = Kept {
+        key,
+        at: 0,
+        number: 0,
+    };
     for kept in list {
-        if kept.key == key && kept.at <= at && kept.at >= best {
-            best = kept.at;
-            number = kept.number;
+        if (kept.key == key) & (kept.at <= at) {
+            best = newer(best, *kept);
         }
     }
-    number
+    best.number
 }
 
 /// A key of one or two bytes: key 0 is a prefix of key 1, and so on.
-fn key_bytes(rt: &impl Abort, alloc: Global, key: u8) -> Bytes {
-    let bytes = [b'a' + key / 2 % 8, b'b'];
-    if key % 2 == 0 {
-        return Bytes::from_slice(alloc, &bytes[..1]).expect(rt, "refused");
+fn bytes_of(key: u8) -> &'static [u8] {
+    match key {
+        0 => b"a",
+        1 => b"ab",
+        2 => b"b",
+        3 => b"bb",
+        4 => b"c",
+        5 => b"cb",
+        6 => b"d",
+        7 => b"db",
+        8 => b"e",
+        9 => b"eb",
+        10 => b"f",
+        _ => b"fb",
     }
-    Bytes::from_slice(alloc, &bytes).expect(rt, "refused")
 }
 
-/// A row of one number.
-fn row_of(rt: &impl Abort, alloc: Global, number: i32) -> Option<Row> {
-    if number == 0 {
-        return None;
-    }
-    let values = Items::from_vec(vec![in alloc; Value::Int32(number)].expect(rt, "refused"));
-    let cell = Cell {
-        property: 1,
-        values,
-    };
-    let cells = Items::from_vec(vec![in alloc; cell].expect(rt, "refused"));
-    Some(Row { cells })
-}
-
-/// The number of a row, 0 for none.
-fn number_of(row: Option<Row>) -> i32 {
-    let Some(row) = row else {
-        return 0;
-    };
-    match row.cells.as_slice() {
-        [cell] => match cell.values.as_slice() {
-            [Value::Int32(number)] => *number,
-            _ => -1,
-        },
-        _ => -1,
-    }
+/// A sum with one number more.
+fn with(sum: i64, number: i32) -> i64 {
+    sum.wrapping_mul(31).wrapping_add(i64::from(number))
 }
 
 /// What a scan from one key to another gives, as one number.
@@ -73,96 +66,96 @@ fn scanned(
     to: u8,
     at: u64,
 ) -> i64 {
-    let from = key_bytes(rt, alloc, from);
-    let to = key_bytes(rt, alloc, to);
-    let mut sum = 0i64;
-    for (_, row) in rows
-        .scan(alloc, &from, &to, Position(at))
-        .expect(rt, "refused")
-    {
-        sum = sum
-            .wrapping_mul(31)
-            .wrapping_add(i64::from(number_of(Some(row))));
+    let mut sum = 0;
+    for (_, row) in scan(rt, alloc, rows, bytes_of(from), bytes_of(to), at) {
+        sum = with(sum, number_of(&row));
     }
     sum
 }
 
 /// The same of the list that keeps everything.
 fn scanned_in(list: &[Kept], from: u8, to: u8, at: u64) -> i64 {
-    let mut sum = 0i64;
+    let mut sum = 0;
     for key in from..to {
-        let number = number_in(list, key, at);
+        let number = number_at(list, key, at);
         if number != 0 {
-            sum = sum.wrapping_mul(31).wrapping_add(i64::from(number));
+            sum = with(sum, number);
         }
     }
     sum
 }
 
-/// One drawn call of the rows, and of the list; what they answer, as two numbers.
-fn call(
-    rt: &impl Abort,
-    alloc: Global,
-    draws: &mut Draws,
-    rows: &mut VersionedRows,
-    list: &mut Vec<Kept>,
-    cleaned: &mut u64,
-) -> (i64, i64) {
-    let key = draws.draw(12) as u8;
-    let at = draws.draw(100);
-    let bytes = key_bytes(rt, alloc, key);
-    match draws.draw(8) {
-        0..=3 => {
-            let number = draws.draw(1000) as i32;
-            rows.put(alloc, &bytes, Position(at), row_of(rt, alloc, number))
-                .expect(rt, "refused");
-            list.push(Kept { key, at, number }).expect(rt, "refused");
-            (0, 0)
-        }
-        4 => {
-            let row = rows.latest(alloc, &bytes).expect(rt, "refused");
-            (
-                i64::from(number_of(row)),
-                i64::from(number_in(list.as_slice(), key, u64::MAX)),
-            )
-        }
-        5 => {
-            let to = draws.draw(12) as u8;
-            let at = at.max(*cleaned);
-            (
-                scanned(rt, alloc, rows, key, to, at),
-                scanned_in(list.as_slice(), key, to, at),
-            )
-        }
-        6 if at % 8 == 0 => {
-            let end = key_bytes(rt, alloc, draws.draw(12) as u8);
-            rows.clean(alloc, &bytes, &end, Position(at))
-                .expect(rt, "refused");
-            *cleaned = at.max(*cleaned);
-            (0, 0)
-        }
-        _ => {
-            let at = at.max(*cleaned);
-            let row = rows.get(alloc, &bytes, Position(at)).expect(rt, "refused");
-            (
-                i64::from(number_of(row)),
-                i64::from(number_in(list.as_slice(), key, at)),
-            )
+/// Rows, and the list that keeps everything; no read below `cleaned` is asked for.
+#[derive(Drop)]
+struct Both {
+    rows: VersionedRows,
+    list: Vec<Kept>,
+    cleaned: u64,
+}
+
+impl Both {
+    fn put(&mut self, rt: &impl Abort, alloc: Global, kept: Kept) {
+        let bytes = bytes_of(kept.key);
+        put(rt, alloc, &mut self.rows, bytes, kept.at, kept.number);
+        self.list.push(kept).expect(rt, "refused");
+    }
+
+    fn latest(&mut self, rt: &impl Abort, alloc: Global, key: u8, case: u64) {
+        let found = latest(rt, alloc, &mut self.rows, bytes_of(key));
+        let wanted = number_at(self.list.as_slice(), key, u64::MAX);
+        same(rt, found, wanted, case);
+    }
+
+    fn get(&mut self, rt: &impl Abort, alloc: Global, key: u8, at: u64, case: u64) {
+        let at = at.max(self.cleaned);
+        let found = get(rt, alloc, &mut self.rows, bytes_of(key), at);
+        same(rt, found, number_at(self.list.as_slice(), key, at), case);
+    }
+
+    fn scan(&mut self, rt: &impl Abort, alloc: Global, from: u8, to: u8, at: u64, case: u64) {
+        let at = at.max(self.cleaned);
+        let found = scanned(rt, alloc, &mut self.rows, from, to, at);
+        same(
+            rt,
+            found,
+            scanned_in(self.list.as_slice(), from, to, at),
+            case,
+        );
+    }
+
+    fn clean(&mut self, rt: &impl Abort, alloc: Global, from: u8, to: u8, at: u64) {
+        clean(rt, alloc, &mut self.rows, bytes_of(from), bytes_of(to), at);
+        self.cleaned = at.max(self.cleaned);
+    }
+
+    /// One drawn call of the rows, and of the list: their answers are the same.
+    fn call(&mut self, rt: &impl Abort, alloc: Global, draws: &mut Draws, case: u64) {
+        let key = draws.byte(12);
+        let at = draws.draw(100);
+        match draws.draw(8) {
+            0..=3 => {
+                let number = draws.draw(1000) as i32;
+                self.put(rt, alloc, Kept { key, at, number });
+            }
+            4 => self.latest(rt, alloc, key, case),
+            5 => self.scan(rt, alloc, key, draws.byte(12), at, case),
+            6 if at % 8 == 0 => self.clean(rt, alloc, key, draws.byte(12), at),
+            _ => self.get(rt, alloc, key, at, case),
         }
     }
 }
 
 #[test]
 fn ten_thousand_calls_beside_a_list_that_keeps_everything(rt: HostRuntime) {
-    let alloc = rt.alloc();
     for seed in 1..=10u64 {
         let mut draws = Draws::new(seed);
-        let mut rows = VersionedRows::new(alloc);
-        let mut list = Vec::new(alloc);
-        let mut cleaned = 0;
-        for number in 0..1000u32 {
-            let (told, kept) = call(&rt, alloc, &mut draws, &mut rows, &mut list, &mut cleaned);
-            assert_eq!(rt; told, kept, "call {number} of seed {seed}");
+        let mut both = Both {
+            rows: VersionedRows::new(rt.alloc()),
+            list: Vec::new(rt.alloc()),
+            cleaned: 0,
+        };
+        for number in 0..1000u64 {
+            both.call(&rt, rt.alloc(), &mut draws, number);
         }
     }
 }

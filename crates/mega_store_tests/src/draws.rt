@@ -25,4 +25,9 @@ impl Draws {
         }
         (self.state >> 33) % most
     }
+
+    /// The same, as a byte.
+    pub fn byte(&mut self, most: u8) -> u8 {
+        self.draw(u64::from(most)) as u8
+    }
 }

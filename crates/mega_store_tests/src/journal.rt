@@ -1,5 +1,6 @@
 //! A journal over devices that stop at any call, and over any bytes.
-use mega_base::Bytes;
+use crate::asserted::same;
+use crate::draws::Draws;
 use mega_disk::{Disk, FileDisk, MemDisk, MemRecords, RecordError, Records};
 use mega_journal::Journal;
 use std::alloc::Global;
@@ -14,112 +15,124 @@ fn device(rt: &impl Abort, alloc: Global, bytes: &[u8]) -> MemDisk {
     disk
 }
 
-/// The records that an opening finds.
-fn records_on<D: Disk + Drop>(alloc: Global, disk: &mut D) -> Result<Vec<Bytes>, RecordError> {
-    match Journal::open(alloc, disk) {
-        Ok(mut journal) => Ok(journal.take_opened()),
-        Err((error, _)) => Err(error),
-    }
-}
-
-/// A device with one record, `first`, on which an append of `second` was cut before its call `calls + 1`.
-fn cut_append(rt: &impl Abort, alloc: Global, calls: u64, image: u8) -> (bool, MemDisk) {
-    let mut disk = MemDisk::new(alloc);
-    let kept = append_both(rt, alloc, &mut disk, calls, image);
-    (kept, disk)
-}
-
-fn append_both(rt: &impl Abort, alloc: Global, disk: &mut MemDisk, calls: u64, image: u8) -> bool {
-    let mut journal = match Journal::open(alloc, disk) {
-        Ok(journal) => journal,
-        Err((error, _)) => panic!(rt; "refused: {error:?}"),
+/// The journal on a device.
+fn opened<D: Disk + Drop>(rt: &impl Abort, alloc: Global, disk: D) -> Journal<D> {
+    let Ok(journal) = Journal::open(alloc, disk) else {
+        panic!(rt; "refused");
     };
+    journal
+}
+
+/// How many records an opening finds.
+fn count_on<D: Disk + Drop>(rt: &impl Abort, alloc: Global, disk: D) -> usize {
+    opened(rt, alloc, disk).take_opened().len()
+}
+
+/// How many records an opening finds with the fuse taken off, and again the next one.
+fn count_after(rt: &impl Abort, alloc: Global, disk: &mut MemDisk, case: u64) -> usize {
+    disk.fuse(1000, 0);
+    let found = count_on(rt, alloc, &mut *disk);
+    same(rt, count_on(rt, alloc, &mut *disk), found, case);
+    found
+}
+
+/// The number of a case in which a fuse with this image leaves so many calls.
+fn case_of(calls: u64, image: u8) -> u64 {
+    calls.saturating_mul(10).saturating_add(u64::from(image))
+}
+
+/// Whether an append of `second` behind `first` was acknowledged, which was cut before its call `calls + 1`.
+fn append_both(rt: &impl Abort, alloc: Global, disk: &mut MemDisk, calls: u64, image: u8) -> bool {
+    let mut journal = opened(rt, alloc, disk);
     journal.append(alloc, b"first").expect(rt, "refused");
     journal.fuse(calls, image);
-    let answer = journal.append(alloc, b"second");
-    answer.is_ok()
+    journal.append(alloc, b"second").is_ok()
 }
 
 #[test]
 fn an_append_is_kept_where_its_gate_was_written(rt: HostRuntime) {
-    let alloc = rt.alloc();
     for calls in 0..5u64 {
         for image in 0..3u8 {
-            let (acknowledged, mut disk) = cut_append(&rt, alloc, calls, image);
-            let kept = calls == 4 || calls == 3 && image == 1;
-            assert_eq!(rt; acknowledged, calls == 4);
-            disk.fuse(1000, 0);
-            let found = records_on(alloc, &mut disk).expect(&rt, "refused");
-            assert_eq!(rt; found.len(), if kept { 2 } else { 1 }, "{calls} {image}");
-            let again = records_on(alloc, &mut disk).expect(&rt, "refused");
-            assert_eq!(rt; again.len(), found.len());
+            let case = case_of(calls, image);
+            let mut disk = MemDisk::new(rt.alloc());
+            let acknowledged = append_both(&rt, rt.alloc(), &mut disk, calls, image);
+            same(&rt, acknowledged, case >= 40, case);
+            let found = count_after(&rt, rt.alloc(), &mut disk, case);
+            let kept = (case == 31) | (case >= 40);
+            same(&rt, found, usize::from(kept).saturating_add(1), case);
         }
     }
 }
 
+/// Asserts that a journal whose append failed at this call takes no other, and what is found on its device.
+fn check_refused(rt: &impl Abort, alloc: Global, failing: u64, wanted: usize) {
+    let mut disk = MemDisk::new(alloc);
+    disk.fail_at(failing.saturating_add(4));
+    let mut journal = opened(rt, alloc, disk);
+    let fault = journal.append(alloc, b"body");
+    same(rt, fault, Err(RecordError::DiskFault), failing);
+    let spent = journal.append(alloc, b"body");
+    same(rt, spent, Err(RecordError::Spent), failing);
+    same(rt, journal.count(), 0, failing);
+    same(rt, count_on(rt, alloc, journal.close()), wanted, failing);
+}
+
 #[test]
 fn a_refused_append_leaves_the_journal_spent(rt: HostRuntime) {
-    let alloc = rt.alloc();
-    for failing in 1..5u64 {
-        let mut disk = MemDisk::new(alloc);
-        disk.fail_at(4 + failing);
-        let Ok(mut journal) = Journal::open(alloc, disk) else {
-            return;
-        };
-        assert!(rt; matches!(journal.append(alloc, b"body"), Err(RecordError::DiskFault)));
-        assert!(rt; matches!(journal.append(alloc, b"body"), Err(RecordError::Spent)));
-        assert_eq!(rt; journal.count(), 0);
-        let mut disk = journal.close();
-        let found = records_on(alloc, &mut disk).expect(&rt, "refused");
-        assert_eq!(rt; found.len(), if failing == 4 { 1 } else { 0 });
+    check_refused(&rt, rt.alloc(), 1, 0);
+    check_refused(&rt, rt.alloc(), 2, 0);
+    check_refused(&rt, rt.alloc(), 3, 0);
+    check_refused(&rt, rt.alloc(), 4, 1);
+}
+
+/// Cuts the opening of a file at each of its calls: so many are needed for it to end, and the records stay.
+fn check_openings(rt: &impl Abort, alloc: Global, bytes: &[u8], records: usize, needed: u64) {
+    for calls in 0..6u64 {
+        for image in 0..3u8 {
+            let case = case_of(calls, image);
+            let mut disk = device(rt, alloc, bytes);
+            disk.fuse(calls, image);
+            let is_open = Journal::open(alloc, &mut disk).is_ok();
+            same(rt, is_open, calls >= needed, case);
+            same(rt, count_after(rt, alloc, &mut disk, case), records, case);
+        }
     }
 }
 
 #[test]
 fn an_opening_that_is_cut_keeps_the_records(rt: HostRuntime) {
-    let alloc = rt.alloc();
-    let torn: [&[u8]; 3] = [b"\x01\0\0\0\x02ab\x01\0\0\0\x09x", b"\x01", b""];
-    for (bytes, (records, needed)) in torn.iter().zip([(1, 5), (0, 5), (0, 4)]) {
-        for calls in 0..6u64 {
-            for image in 0..3u8 {
-                let mut disk = device(&rt, alloc, bytes);
-                disk.fuse(calls, image);
-                let first = records_on(alloc, &mut disk);
-                assert_eq!(rt; first.is_ok(), calls >= needed);
-                disk.fuse(1000, 0);
-                let found = records_on(alloc, &mut disk).expect(&rt, "refused");
-                assert_eq!(rt; found.len(), records, "{calls} {image}");
-            }
-        }
+    let torn = b"\x01\0\0\0\x02ab\x01\0\0\0\x09x";
+    check_openings(&rt, rt.alloc(), torn, 1, 5);
+    check_openings(&rt, rt.alloc(), b"\x01", 0, 5);
+    check_openings(&rt, rt.alloc(), b"", 0, 4);
+}
+
+/// A device with two records, cut to a length.
+fn append_and_cut<D: Disk + Drop>(rt: &impl Abort, alloc: Global, disk: D, length: u64) -> D {
+    let mut journal = opened(rt, alloc, disk);
+    journal.append(alloc, b"abc").expect(rt, "refused");
+    journal.append(alloc, b"defgh").expect(rt, "refused");
+    let mut disk = journal.close();
+    let Ok(size) = disk.len() else {
+        panic!(rt; "no length");
+    };
+    same(rt, size, 19, length);
+    if length <= size {
+        disk.cut(length).expect(rt, "refused");
     }
+    disk
 }
 
 #[test]
 fn a_file_is_read_up_to_its_first_closed_gate(rt: HostRuntime) {
-    let alloc = rt.alloc();
     let name = "mega_journal_file_test";
     for length in 0..19u64 {
         let _ = fs::remove_file(&rt, name);
-        let disk = FileDisk::new(
-            rt.clone().expect(&rt, "refused"),
-            String::from_str(alloc, name).expect(&rt, "refused"),
-        );
-        let Ok(mut journal) = Journal::open(alloc, disk) else {
-            return;
-        };
-        journal.append(alloc, b"abc").expect(&rt, "refused");
-        journal.append(alloc, b"defgh").expect(&rt, "refused");
-        let mut disk = journal.close();
-        let Ok(size) = disk.len() else {
-            panic!(rt; "no length");
-        };
-        assert_eq!(rt; size, 19);
-        if length <= size {
-            disk.cut(length).expect(&rt, "refused");
-        }
-        let found = records_on(alloc, &mut disk).expect(&rt, "refused");
-        let whole = if length < 9 { 0 } else { 1 };
-        assert_eq!(rt; found.len(), whole, "{length}");
+        let text = String::from_str(rt.alloc(), name).expect(&rt, "refused");
+        let file = FileDisk::new(rt.clone().expect(&rt, "refused"), text);
+        let disk = append_and_cut(&rt, rt.alloc(), file, length);
+        let found = count_on(&rt, rt.alloc(), disk);
+        same(&rt, found, usize::from(length >= 9), length);
     }
     fs::remove_file(&rt, name).expect(&rt, "refused");
 }
@@ -142,59 +155,65 @@ fn count_by_the_format(bytes: &[u8]) -> usize {
     count
 }
 
+/// Forty drawn bytes, each 0 or 1: where lengths begin, 0.
+fn drawn(rt: &impl Abort, alloc: Global, draws: &mut Draws) -> Vec<u8> {
+    let mut bytes = Vec::new(alloc);
+    for place in 0..40u8 {
+        let low = u8::from(draws.draw(4) != 3);
+        let byte = if matches!(place % 5, 1..=3) { 0 } else { low };
+        bytes.push(byte).expect(rt, "refused");
+    }
+    bytes
+}
+
 #[test]
 fn any_bytes_open_to_what_the_format_says(rt: HostRuntime) {
-    let alloc = rt.alloc();
-    let mut state = 7u64;
-    for _ in 0..300u32 {
-        let mut bytes = Vec::new(alloc);
-        for place in 0..40u64 {
-            state = state
-                .wrapping_mul(6364136223846793005)
-                .wrapping_add(1442695040888963407);
-            let drawn = (state >> 33) % 4;
-            let high = place % 5 == 1 || place % 5 == 2 || place % 5 == 3;
-            bytes
-                .push(if high || drawn == 3 { 0 } else { 1 })
-                .expect(&rt, "refused");
-        }
-        let mut disk = device(&rt, alloc, bytes.as_slice());
-        let found = records_on(alloc, &mut disk).expect(&rt, "refused");
-        assert_eq!(rt; found.len(), count_by_the_format(bytes.as_slice()));
+    let mut draws = Draws::new(7);
+    for number in 0..300u64 {
+        let bytes = drawn(&rt, rt.alloc(), &mut draws);
+        let disk = device(&rt, rt.alloc(), bytes.as_slice());
+        let found = count_on(&rt, rt.alloc(), disk);
+        same(&rt, found, count_by_the_format(bytes.as_slice()), number);
     }
 }
 
 /// How many of three appends are acknowledged before the fuse burns.
-fn appended<R: Records>(alloc: Global, records: &mut R, calls: u64, image: u8) -> u64 {
+fn appended<R: Records>(alloc: Global, records: &mut R, calls: u64, image: u8) -> usize {
     records.fuse(calls, image);
-    let mut count = 0u64;
+    let mut count = 0usize;
     for _ in 0..3u8 {
-        if records.append(alloc, b"body").is_err() {
-            return count;
-        }
-        count = count.saturating_add(1);
+        let answer = records.append(alloc, b"body");
+        count = count.saturating_add(usize::from(answer.is_ok()));
     }
     count
 }
 
+/// How many appends to a list in memory are acknowledged, and how many records are found then.
+fn list_cut(rt: &impl Abort, alloc: Global, calls: u64, image: u8) -> (usize, usize) {
+    let mut list = MemRecords::new(alloc);
+    let count = appended(alloc, &mut list, calls, image);
+    list.reopen().expect(rt, "refused");
+    (count, list.take_opened().len())
+}
+
+/// The same of a chain.
+fn chain_cut(rt: &impl Abort, alloc: Global, calls: u64, image: u8) -> (usize, usize) {
+    let mut journal = opened(rt, alloc, MemDisk::new(alloc));
+    let count = appended(alloc, &mut journal, calls, image);
+    let mut disk = journal.close();
+    (
+        count,
+        count_after(rt, alloc, &mut disk, case_of(calls, image)),
+    )
+}
+
 #[test]
 fn a_list_in_memory_is_cut_as_a_chain_is(rt: HostRuntime) {
-    let alloc = rt.alloc();
     for calls in 0..13u64 {
         for image in 0..3u8 {
-            let mut list = MemRecords::new(alloc);
-            let count = appended(alloc, &mut list, calls, image);
-            list.reopen().expect(&rt, "refused");
-            let kept = list.take_opened();
-            let mut disk = MemDisk::new(alloc);
-            let Ok(mut journal) = Journal::open(alloc, &mut disk) else {
-                return;
-            };
-            assert_eq!(rt; appended(alloc, &mut journal, calls, image), count);
-            drop(journal);
-            disk.fuse(1000, 0);
-            let found = records_on(alloc, &mut disk).expect(&rt, "refused");
-            assert_eq!(rt; found.len(), kept.len(), "{calls} {image}");
+            let list = list_cut(&rt, rt.alloc(), calls, image);
+            let chain = chain_cut(&rt, rt.alloc(), calls, image);
+            same(&rt, chain, list, case_of(calls, image));
         }
     }
 }

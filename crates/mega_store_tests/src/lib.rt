@@ -2,6 +2,8 @@
 #![tactic(auto)]
 
 #[cfg(test)]
+mod asserted;
+#[cfg(test)]
 mod calls;
 #[cfg(test)]
 mod crashes;
@@ -15,6 +17,10 @@ mod drawn_rows;
 mod draws;
 #[cfg(test)]
 mod journal;
+#[cfg(test)]
+mod logs;
+#[cfg(test)]
+mod numbered;
 #[cfg(test)]
 mod plain;
 #[cfg(test)]

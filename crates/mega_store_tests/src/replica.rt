@@ -1,26 +1,40 @@
 //! The rows of a node over three entries: a row, nothing, and two writes of which one deletes that row.
-use mega_base::{Bytes, GroupId, Items, NoMemory, NodeId, Position, Row};
-use mega_disk::{MemRecords, MemVersions, Versions};
+use crate::asserted::same;
+use crate::numbered::{OTHER, get, key};
+use mega_base::{GroupId, Items, NodeId, Position, Row};
+use mega_disk::{MemRecords, MemVersions};
 use mega_entry::{Content, Entry, Write};
 use mega_replica::{StoredRows, after_portion, after_read, applied, writes_through};
-use mega_wal::{LogFault, Logs};
+use mega_wal::Logs;
 use std::alloc::Global;
+use std::process::Abort;
 
-/// A write of an empty row, or a deletion.
-fn write(alloc: Global, key: &[u8], there: bool) -> Result<Write, NoMemory> {
-    let key = Bytes::from_slice(alloc, key)?;
-    let row = if there {
-        Some(Row {
-            cells: Items::new(alloc),
-        })
-    } else {
-        None
-    };
-    Ok(Write { key, row })
+/// An empty row, or none.
+fn row_if(alloc: Global, there: bool) -> Option<Row> {
+    if !there {
+        return None;
+    }
+    Some(Row {
+        cells: Items::new(alloc),
+    })
+}
+
+/// An entry whose writes are words of a text: a key of one byte, with a `+` behind it for an empty row or a `-` for a
+/// deletion.
+fn entry(rt: &impl Abort, alloc: Global, text: &str) -> Entry {
+    let mut writes = Items::new(alloc);
+    for word in text.split(' ') {
+        if let [name, sign] = word.as_bytes() {
+            let key = key(rt, alloc, &[*name]);
+            let row = row_if(alloc, *sign == b'+');
+            writes.push(Write { key, row }).expect(rt, "refused");
+        }
+    }
+    entry_of(rt, alloc, writes)
 }
 
 /// An entry of these writes.
-fn entry(alloc: Global, writes: Items<Write>) -> Result<Entry, NoMemory> {
+fn entry_of(rt: &impl Abort, alloc: Global, writes: Items<Write>) -> Entry {
     let content = Content {
         id: None,
         leader: NodeId(1),
@@ -30,102 +44,91 @@ fn entry(alloc: Global, writes: Items<Write>) -> Result<Entry, NoMemory> {
         handles: Items::new(alloc),
         cuts: Items::new(alloc),
     };
-    Entry::new(alloc, content)
+    Entry::new(alloc, content).expect(rt, "refused")
+}
+
+fn group(rt: &impl Abort, alloc: Global) -> GroupId {
+    GroupId {
+        key: key(rt, alloc, b"g"),
+    }
+}
+
+/// Decides an entry of the group.
+fn decide(rt: &impl Abort, alloc: Global, logs: &mut Logs<MemRecords>, at: u64, text: &str) {
+    let group = group(rt, alloc);
+    let entry = entry(rt, alloc, text);
+    logs.decide(alloc, &group, Position(at), entry)
+        .expect(rt, "refused");
 }
 
 /// Logs in which the three entries of the group are decided.
-fn decided(alloc: Global, group: &GroupId) -> Result<Logs<MemRecords>, LogFault> {
-    let mut logs = match Logs::open(alloc, MemRecords::new(alloc)) {
-        Ok(logs) => logs,
-        Err((fault, _)) => return Err(fault),
+fn decided(rt: &impl Abort, alloc: Global) -> Logs<MemRecords> {
+    let Ok(mut logs) = Logs::open(alloc, MemRecords::new(alloc)) else {
+        panic!(rt; "refused");
     };
-    let mut first = Items::new(alloc);
-    first.push(write(alloc, b"a", true)?)?;
-    logs.decide(alloc, group, Position(1), entry(alloc, first)?)?;
-    logs.decide(alloc, group, Position(2), entry(alloc, Items::new(alloc))?)?;
-    let mut last = Items::new(alloc);
-    last.push(write(alloc, b"b", true)?)?;
-    last.push(write(alloc, b"a", false)?)?;
-    logs.decide(alloc, group, Position(3), entry(alloc, last)?)?;
-    Ok(logs)
+    decide(rt, alloc, &mut logs, 1, "a+");
+    decide(rt, alloc, &mut logs, 2, "");
+    decide(rt, alloc, &mut logs, 3, "b+ a-");
+    logs
+}
+
+/// Applies entries of the group in order, through a position or to the end of one portion: what is applied then.
+fn apply(
+    rt: &impl Abort,
+    alloc: Global,
+    stored: &mut StoredRows<MemVersions>,
+    logs: &Logs<MemRecords>,
+    through: u64,
+) -> u64 {
+    let group = group(rt, alloc);
+    if through == 0 {
+        stored
+            .apply_some(alloc, &group, logs, 1)
+            .expect(rt, "refused");
+    } else {
+        stored
+            .apply_through(alloc, &group, logs, Position(through))
+            .expect(rt, "refused");
+    }
+    stored.applied(&group, logs).0
 }
 
 #[test]
 fn entries_are_applied_when_all_their_writes_are_stored(rt: HostRuntime) {
     let alloc = rt.alloc();
-    let group = GroupId {
-        key: Bytes::from_slice(alloc, b"g").expect(&rt, "refused"),
-    };
-    let logs = decided(alloc, &group).expect(&rt, "refused");
+    let logs = decided(&rt, alloc);
     let mut stored = StoredRows::new(alloc, MemVersions::new(alloc));
-    assert_eq!(rt; stored.applied(&group, &logs).0, 0);
-    stored
-        .apply_some(alloc, &group, &logs, 1)
-        .expect(&rt, "refused");
-    assert_eq!(rt; stored.applied(&group, &logs).0, 2);
-    stored
-        .apply_some(alloc, &group, &logs, 1)
-        .expect(&rt, "refused");
-    assert_eq!(rt; stored.applied(&group, &logs).0, 2);
-    stored
-        .apply_through(alloc, &group, &logs, Position(3))
-        .expect(&rt, "refused");
-    assert_eq!(rt; stored.applied(&group, &logs).0, 3);
+    same(&rt, stored.applied(&group(&rt, alloc), &logs).0, 0, 0);
+    same(&rt, apply(&rt, alloc, &mut stored, &logs, 0), 2, 1);
+    same(&rt, apply(&rt, alloc, &mut stored, &logs, 0), 2, 2);
+    same(&rt, apply(&rt, alloc, &mut stored, &logs, 3), 3, 3);
 }
 
 #[test]
 fn a_row_stands_at_the_position_of_its_entry(rt: HostRuntime) {
     let alloc = rt.alloc();
-    let group = GroupId {
-        key: Bytes::from_slice(alloc, b"g").expect(&rt, "refused"),
-    };
-    let logs = decided(alloc, &group).expect(&rt, "refused");
+    let logs = decided(&rt, alloc);
     let mut stored = StoredRows::new(alloc, MemVersions::new(alloc));
-    stored
-        .apply_through(alloc, &group, &logs, Position(3))
-        .expect(&rt, "refused");
-    let key = Bytes::from_slice(alloc, b"a").expect(&rt, "refused");
-    assert!(rt;
-        stored
-            .rows
-            .get(alloc, &key, Position(0))
-            .expect(&rt, "refused")
-            .is_none()
-    );
-    assert!(rt;
-        stored
-            .rows
-            .get(alloc, &key, Position(2))
-            .expect(&rt, "refused")
-            .is_some()
-    );
-    assert!(rt;
-        stored
-            .rows
-            .get(alloc, &key, Position(3))
-            .expect(&rt, "refused")
-            .is_none()
-    );
+    apply(&rt, alloc, &mut stored, &logs, 3);
+    same(&rt, get(&rt, alloc, &mut stored.rows, b"a", 0), 0, 0);
+    same(&rt, get(&rt, alloc, &mut stored.rows, b"a", 2), OTHER, 2);
+    same(&rt, get(&rt, alloc, &mut stored.rows, b"a", 3), 0, 3);
 }
 
 /// Entries with one, no and two deletions.
-fn log(alloc: Global) -> Result<Items<Entry>, NoMemory> {
+fn log(rt: &impl Abort, alloc: Global) -> Items<Entry> {
     let mut log = Items::new(alloc);
-    for count in [1u8, 0, 2] {
-        let mut writes = Items::new(alloc);
-        for number in 0..count {
-            writes.push(write(alloc, &[number], false)?)?;
-        }
-        log.push(entry(alloc, writes)?)?;
+    for text in "\0-,,\0- \x01-".split(',') {
+        log.push(entry(rt, alloc, text)).expect(rt, "refused");
     }
-    Ok(log)
+    log
 }
 
 #[test]
 fn writes_are_counted(rt: HostRuntime) {
-    let log = log(rt.alloc()).expect(&rt, "refused");
-    assert_eq!(rt; applied(log.as_slice(), 2), 2);
-    assert_eq!(rt; writes_through(3, log.as_slice()), Some(3));
-    assert_eq!(rt; after_portion(5, log.as_slice(), 1), Some(3));
-    assert_eq!(rt; after_read(1, log.as_slice(), 0), Some(1));
+    let log = log(&rt, rt.alloc());
+    same(&rt, applied(log.as_slice(), 2), 2, 0);
+    same(&rt, writes_through(3, log.as_slice()), Some(3), 0);
+    same(&rt, after_portion(5, log.as_slice(), 1), Some(3), 0);
+    same(&rt, after_read(1, log.as_slice(), 0), Some(1), 0);
 }

@@ -1,105 +1,108 @@
-//! Versions of rows by key and position: reads, scans and a cleaning.
-use mega_base::{Bytes, Cell, Items, Position, Row, Value};
-use mega_disk::Versions;
+//! Versions of rows by key and position: scripts of puts, reads, scans and cleanings, over each store of versions.
+use crate::asserted::same;
+use crate::numbered::{OTHER, clean, get, latest, number_of, put, scan};
+use mega_disk::{MemVersions, Versions};
 use mega_rows::VersionedRows;
 use std::alloc::Global;
 use std::process::Abort;
 
-/// Puts a row of one number under a key, or at the number 0 deletes the row.
-fn put(
-    rt: &impl Abort,
-    alloc: Global,
-    rows: &mut VersionedRows,
-    key: &Bytes,
-    at: u64,
-    number: i32,
-) {
-    if number == 0 {
-        rows.put(alloc, key, Position(at), None)
-            .expect(rt, "refused");
-        return;
+/// The value of a digit, and `OTHER` of `-`.
+fn value(digit: u8) -> i32 {
+    if digit == b'-' {
+        return OTHER;
     }
-    let values = Items::from_vec(vec![in alloc; Value::Int32(number)].expect(rt, "refused"));
-    let cell = Cell {
-        property: 1,
-        values,
-    };
-    let cells = Items::from_vec(vec![in alloc; cell].expect(rt, "refused"));
-    rows.put(alloc, key, Position(at), Some(Row { cells }))
-        .expect(rt, "refused");
+    i32::from(digit.wrapping_sub(b'0'))
 }
 
-/// The number of a row, 0 for none.
-fn number_of(row: Option<Row>) -> i32 {
-    let Some(row) = row else {
-        return 0;
-    };
-    match row.cells.as_slice() {
-        [cell] => match cell.values.as_slice() {
-            [Value::Int32(number)] => *number,
-            _ => -1,
-        },
-        _ => -1,
+/// The digit of a small number, and `-` of `OTHER`.
+fn digit(number: i32) -> u8 {
+    if number == OTHER {
+        return b'-';
+    }
+    b'0'.wrapping_add(number as u8)
+}
+
+/// The keys that a scan gives, each with the digit of its row.
+fn scanned<V: Versions>(
+    rt: &impl Abort,
+    alloc: Global,
+    versions: &mut V,
+    from: &[u8],
+    to: &[u8],
+    at: u64,
+) -> Vec<u8> {
+    let mut text = Vec::new(alloc);
+    for (key, row) in scan(rt, alloc, versions, from, to, at) {
+        text.extend_from_slice(key.as_slice()).expect(rt, "refused");
+        text.push(digit(number_of(&row))).expect(rt, "refused");
+    }
+    text
+}
+
+/// Takes a step: `+` puts the row of a digit at a position, and `~` lets go below a position; `?` reads at a position,
+/// `^` the newest version, and `/` scans at a position; `s` spills, with no marks.
+fn take<V: Versions>(rt: &impl Abort, alloc: Global, versions: &mut V, step: &[u8]) {
+    match step {
+        [b'+', at, number, key @ ..] => put(rt, alloc, versions, key, place(*at), value(*number)),
+        [b'~', below, from, to] => clean(rt, alloc, versions, &[*from], &[*to], place(*below)),
+        [b'?', at, number, key @ ..] => {
+            let found = get(rt, alloc, versions, key, place(*at));
+            same(rt, found, value(*number), place(*at));
+        }
+        [b'^', number, key @ ..] => same(rt, latest(rt, alloc, versions, key), value(*number), 0),
+        [b'/', at, from, to, wanted @ ..] => {
+            let found = scanned(rt, alloc, versions, &[*from], &[*to], place(*at));
+            same(rt, found.as_slice(), wanted, place(*at));
+        }
+        [b's'] => versions.spill(alloc, &[]).expect(rt, "refused"),
+        _ => panic!(rt; "no step"),
+    }
+}
+
+fn place(digit: u8) -> u64 {
+    u64::from(digit.wrapping_sub(b'0'))
+}
+
+/// Takes the steps of a script.
+fn follow<V: Versions>(rt: &impl Abort, alloc: Global, versions: &mut V, script: &str) {
+    for step in script.split(' ') {
+        take(rt, alloc, versions, step.as_bytes());
     }
 }
 
 #[test]
+fn versions_in_memory(rt: HostRuntime) {
+    let mut versions = MemVersions::new(rt.alloc());
+    let script = "+0-b +1-a +2-c ?00a ?9-a /1aca-b- +30a ^0a ~2ac s ?2-a";
+    follow(&rt, rt.alloc(), &mut versions, script);
+    same(&rt, versions.full(), false, 0);
+}
+
+#[test]
 fn a_read_sees_the_version_at_or_below(rt: HostRuntime) {
-    let key = Bytes::from_slice(rt.alloc(), b"k").expect(&rt, "refused");
     let mut rows = VersionedRows::new(rt.alloc());
-    for (at, number) in [(3, 3), (1, 7), (1, 1), (5, 0)] {
-        put(&rt, rt.alloc(), &mut rows, &key, at, number);
-    }
-    for (at, want) in [(0, 0), (1, 1), (2, 1), (3, 3), (4, 3), (5, 0), (9, 0)] {
-        let row = rows
-            .get(rt.alloc(), &key, Position(at))
-            .expect(&rt, "refused");
-        assert_eq!(rt; number_of(row), want, "at {at}");
-    }
-    assert!(rt;
-        rows.latest(rt.alloc(), &key)
-            .expect(&rt, "refused")
-            .is_none()
-    );
+    let script = "+33k +17k +11k +50k ?00k ?11k ?21k ?33k ?43k ?50k ?90k ^0k";
+    follow(&rt, rt.alloc(), &mut rows, script);
 }
 
 #[test]
 fn a_scan_is_in_order_of_key(rt: HostRuntime) {
     let mut rows = VersionedRows::new(rt.alloc());
-    for (key, number) in [(b"b".as_slice(), 4), (b"ab", 2), (b"a", 1), (b"c", 5)] {
-        let key = Bytes::from_slice(rt.alloc(), key).expect(&rt, "refused");
-        put(&rt, rt.alloc(), &mut rows, &key, 1, number);
-    }
-    let from = Bytes::from_slice(rt.alloc(), b"a").expect(&rt, "refused");
-    let to = Bytes::from_slice(rt.alloc(), b"b").expect(&rt, "refused");
-    let mut wanted = 1;
-    for (_, row) in rows
-        .scan(rt.alloc(), &from, &to, Position(1))
-        .expect(&rt, "refused")
-    {
-        assert_eq!(rt; number_of(Some(row)), wanted);
-        wanted = 2;
-    }
-    assert_eq!(rt; wanted, 2);
+    let script = "+14b +12ab +11a +15c /1aba1ab2";
+    follow(&rt, rt.alloc(), &mut rows, script);
 }
+
+/// Two versions of a row, a cleaning below a position, and what the reads at the versions' positions see then.
+const CLEANED: &str = "+11k +33k ~0kl ?11k ?33k
++11k +33k ~1kl ?11k ?33k
++11k +33k ~2kl ?11k ?33k
++11k +33k ~3kl ?10k ?33k
++11k +33k ~9kl ?10k ?33k";
 
 #[test]
 fn a_cleaning_leaves_what_later_reads_see(rt: HostRuntime) {
-    let key = Bytes::from_slice(rt.alloc(), b"k").expect(&rt, "refused");
-    let end = Bytes::from_slice(rt.alloc(), b"l").expect(&rt, "refused");
-    for (below, at_one) in [(0, 1), (1, 1), (2, 1), (3, 0), (9, 0)] {
+    for script in CLEANED.lines() {
         let mut rows = VersionedRows::new(rt.alloc());
-        put(&rt, rt.alloc(), &mut rows, &key, 1, 1);
-        put(&rt, rt.alloc(), &mut rows, &key, 3, 3);
-        rows.clean(rt.alloc(), &key, &end, Position(below))
-            .expect(&rt, "refused");
-        let first = rows
-            .get(rt.alloc(), &key, Position(1))
-            .expect(&rt, "refused");
-        assert_eq!(rt; number_of(first), at_one, "below {below}");
-        let second = rows
-            .get(rt.alloc(), &key, Position(3))
-            .expect(&rt, "refused");
-        assert_eq!(rt; number_of(second), 3, "below {below}");
+        follow(&rt, rt.alloc(), &mut rows, script);
     }
 }

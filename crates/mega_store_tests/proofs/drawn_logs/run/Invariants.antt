@@ -1,8 +1,5 @@
-use Rattle.std.proofs.Common.{◌≡◌, ◌≤◌, ◌<◌, length}
-use Rattle.std.specs.Prelude.{All}
-use Rattle.mega_wal.specs.Compaction.{IsOfFormat}
-use Rattle.mega_wal.specs.Items.{IsItem}
+use Rattle.mega_store_tests.specs.Fits.{Fits}
 use Rattle.mega_store_tests.proofs.drawn_logs.run.Given as goal
 
 abbrev pub invariant-loop-number : goal.invariant-loop-number
-invariant-loop-number g l = (l.waiting < 8) × (length l.logs.staged.items ≤ l.waiting) × All IsItem l.logs.staged.items × IsOfFormat l.logs.kept
+invariant-loop-number g l = Fits l.logs.kept l.logs.staged.items
