@@ -3,8 +3,8 @@ use Rattle.std.proofs.Common.{◌≡◌, ◌⊎◌, inl, inr, ◌≤◌, ℕ, []
 use Rattle.mega_disk.specs.Images.{LeavesOnly}
 use Rattle.mega_disk.specs.VersionMaps.{Cleaned, SameVersions, Versions}
 use Rattle.mega_chain.specs.Chain.{records_of}
-use Rattle.mega_runs.specs.Opening.{first_bad}
-use Rattle.mega_runs.specs.Reads.{held_in, stored_of}
+use Rattle.mega_run_files.specs.Opening.{first_bad}
+use Rattle.mega_run_files.specs.Reads.{held_in, stored_of}
 
 pub none_held : (key : List ℕ) (p : ℕ) → (stored_of (held_in [])).version key p ≡ None
 unfolding held_in records_of

@@ -12,16 +12,16 @@ use Rattle.mega_base.specs.declared.names.Position.{Position}
 use Rattle.mega_disk.specs.Images.{LeavesOnly, Within}
 use Rattle.mega_disk.proofs.Leaves.{weaker_leaves, opened_leaves}
 use Rattle.mega_disk.specs.VersionMaps.{Versions, Stored, Marks, Cleaned, Puts, IsSpilled, IsLatest, or_else, version_at, row_of, row_at}
-use Rattle.mega_runs.specs.declared.body.Version.{Version}
-use Rattle.mega_runs.specs.declared.body.Run.{Run}
-use Rattle.mega_runs.specs.Bodies.{spot_of, spot_cmp, IsVersion}
-use Rattle.mega_runs.specs.Fronts.{kept, kept_with, front_of, HoldsOr}
-use Rattle.mega_runs.specs.Index.{IsOrderly}
-use Rattle.mega_runs.specs.Merging.{put_by, with_version}
-use Rattle.mega_runs.specs.Reads.{is_version, versions_in, layered, held_in, stored_of}
+use Rattle.mega_run_files.specs.declared.body.Version.{Version}
+use Rattle.mega_run_files.specs.declared.body.Run.{Run}
+use Rattle.mega_run_files.specs.Bodies.{spot_of, spot_cmp, IsVersion}
+use Rattle.mega_run_files.specs.Fronts.{kept, kept_with, front_of, HoldsOr}
+use Rattle.mega_run_files.specs.Index.{IsOrderly}
+use Rattle.mega_run_files.specs.Merging.{put_by, with_version}
+use Rattle.mega_run_files.specs.Reads.{is_version, versions_in, layered, held_in, stored_of}
 use Rattle.mega_runs.specs.Stores.{IsSpillOf, SpilledOr, Opens, IsBounded}
-use Rattle.mega_runs.proofs.Fronting.{held_orderly}
-use Rattle.mega_runs.proofs.Mixing.{with_version_is, spot_there, spot_here}
+use Rattle.mega_run_files.proofs.Fronting.{held_orderly}
+use Rattle.mega_run_files.proofs.Mixing.{with_version_is, spot_there, spot_here}
 use Rattle.mega_runs.proofs.Readable.{spill_stored}
 
 -- ---- a version is put

@@ -1,15 +1,4 @@
-mod Blocks
 mod Emptied
-mod Found
-mod Fronting
-mod Growing
-mod Joining
 mod Keepings
-mod Listed
-mod Mixing
-mod Nexts
-mod Order
 mod Outcomes
 mod Readable
-mod Showing
-mod Spilled

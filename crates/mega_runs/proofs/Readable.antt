@@ -6,20 +6,20 @@ use Rattle.std.specs.List.{slice_get}
 use Rattle.std.specs.Cmp.Lexicographic.{pointwise}
 use Rattle.mega_base.specs.declared.values.Row.{Row}
 use Rattle.mega_disk.specs.VersionMaps.{Versions, Marks, Cleaned, IsAbove, IsWithin, Drops, IsSpilled, or_else, version_at}
-use Rattle.mega_runs.specs.declared.body.Version.{Version}
-use Rattle.mega_runs.specs.declared.body.Run.{Run}
+use Rattle.mega_run_files.specs.declared.body.Version.{Version}
+use Rattle.mega_run_files.specs.declared.body.Run.{Run}
 use Rattle.mega_runs.specs.declared.cleaning.Cleaning.{Cleaning}
-use Rattle.mega_runs.specs.Bodies.{Spot, is_before, spot_of, ascends_from, ascends}
-use Rattle.mega_runs.specs.Finding.{Found, later_of, one_found, found_in}
-use Rattle.mega_runs.specs.Fronts.{kept_with}
-use Rattle.mega_runs.specs.Merging.{merged, all_merged}
-use Rattle.mega_runs.specs.Reads.{Held, is_version, versions_in, layered, stored_of, mark_in}
-use Rattle.mega_runs.specs.Scanning.{is_within, is_hidden}
+use Rattle.mega_run_files.specs.Bodies.{Spot, is_before, spot_of, ascends_from, ascends}
+use Rattle.mega_run_files.specs.Finding.{Found, later_of, one_found, found_in}
+use Rattle.mega_run_files.specs.Fronts.{kept_with}
+use Rattle.mega_run_files.specs.Merging.{merged, all_merged}
+use Rattle.mega_run_files.specs.Reads.{Held, is_version, versions_in, layered, stored_of, mark_in}
+use Rattle.mega_run_files.specs.Scanning.{is_within, is_hidden}
 use Rattle.mega_runs.specs.Stores.{HasRangeAt, cleaned_of, mark_of_pair, added_run, base_run, is_range, with_cleaned, is_void_by, is_void, readable, IsSpillOf}
-use Rattle.mega_runs.proofs.Order.{both, before_trans, same_key, ascends_tail, position_before}
-use Rattle.mega_runs.proofs.Found.{latest, latest_or, list_latest}
-use Rattle.mega_runs.proofs.Mixing.{spot_there, merged_is, all_merged_is}
-use Rattle.mega_runs.proofs.Showing.{and_true, within_is, other_key, hidden_adds}
+use Rattle.mega_run_files.proofs.Order.{both, before_trans, same_key, ascends_tail, position_before}
+use Rattle.mega_run_files.proofs.Found.{latest, latest_or, list_latest}
+use Rattle.mega_run_files.proofs.Mixing.{spot_there, merged_is, all_merged_is}
+use Rattle.mega_run_files.proofs.Showing.{and_true, within_is, other_key, hidden_adds}
 
 -- ---- one version
 hidden_up : (below p : ℕ) (v : Version) (next : Option Version) → below ≤ p → is_hidden below v next ≡ true → is_hidden p v next ≡ true

@@ -1,19 +1,17 @@
 -- What a store of runs holds: versions in memory, those of its file, and the cleanings since its opening.
-use Rattle.std.specs.Prelude.{◌≡◌, ◌⊎◌, ◌<◌, ◌^◌, ◌+◌, ◌++◌, ◌&&◌, nat_eq, max, ℕ, Bool, true, false, List, [], ◌∷◌, Option, Some, None, length, map, if◌then◌else◌}
+use Rattle.std.specs.Prelude.{◌≡◌, ◌⊎◌, ◌<◌, ◌^◌, ◌++◌, ◌&&◌, nat_eq, max, ℕ, Bool, true, false, List, [], ◌∷◌, Option, Some, None, map, if◌then◌else◌}
 use Rattle.std.specs.List.{slice_get}
 use Rattle.std.specs.Cmp.Lexicographic.{pointwise}
 use Rattle.mega_base.specs.declared.names.GroupId.{GroupId}
 use Rattle.mega_base.specs.declared.names.Position.{Position}
 use Rattle.mega_disk.specs.VersionMaps.{Stored, Marks, Versions, Cleaned, Drops, IsSpilled}
-use Rattle.mega_runs.specs.declared.body.Version.{Version}
-use Rattle.mega_runs.specs.declared.body.Mark.{Mark}
-use Rattle.mega_runs.specs.declared.body.Run.{Run}
-use Rattle.mega_runs.specs.declared.index.Indexed.{Indexed}
+use Rattle.mega_run_files.specs.declared.body.Version.{Version}
+use Rattle.mega_run_files.specs.declared.body.Mark.{Mark}
+use Rattle.mega_run_files.specs.declared.body.Run.{Run}
 use Rattle.mega_runs.specs.declared.cleaning.Cleaning.{Cleaning}
-use Rattle.mega_runs.specs.Bodies.{run_text}
-use Rattle.mega_runs.specs.Fronts.{kept_with}
-use Rattle.mega_runs.specs.Reads.{held_in, layered, stored_of}
-use Rattle.mega_runs.specs.Scanning.{is_within, is_hidden}
+use Rattle.mega_run_files.specs.Fronts.{kept_with}
+use Rattle.mega_run_files.specs.Reads.{held_in, layered, stored_of}
+use Rattle.mega_run_files.specs.Scanning.{is_within, is_hidden}
 
 -- one of these images opens to it
 abbrev pub Opens : (List ℕ → Type 0) → Stored → Type 0
@@ -32,15 +30,6 @@ added_run marks versions = record { is_base = false; marks = map mark_of_pair ma
 -- the base that is written
 abbrev pub base_run : Marks → List Version → Run
 base_run marks versions = record { is_base = true; marks = map mark_of_pair marks; versions = versions }
-
--- the length of the file with this run
-abbrev pub length_with : ℕ → Run → ℕ
-length_with end run = end + 10 + length (run_text run)
-
--- how many of the runs are no bases
-abbrev pub count_added : List Indexed → ℕ
-count_added [] = 0
-count_added (run ∷ runs) = if run.is_base then count_added runs else count_added runs + 1
 
 -- ---- cleanings
 abbrev pub cleaned_of : Cleaning → Cleaned

@@ -3,10 +3,10 @@ ghost use Rattle.std.specs.Prelude.{◌≡◌, ◌≤◌, ◌⊎◌, [], ℕ, Li
 ghost use Rattle.mega_base.specs.Causes.{Rose};
 ghost use Rattle.mega_runs.specs.Devices.{cleanings_in};
 
-use crate::lookup::refusal;
 use crate::store::Runs;
 use mega_base::{Bytes, GroupId, Position, Row};
 use mega_disk::{Disk, StoreError, Versions};
+use mega_run_files::refusal;
 use std::alloc::Global;
 
 /// Versions of rows over a device, the newest in memory and the others in runs, of which none is ever let go: a cleaning does

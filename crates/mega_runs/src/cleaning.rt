@@ -1,13 +1,11 @@
 //! Cleanings of ranges of keys, and the versions that no read at or above them sees.
 ghost use Rattle.std.specs.Prelude.{◌≡◌, ◌≤◌, ◌++◌, ℕ, true, length, take, drop, map, max, option_map, IfOk, OnOk, OnErr};
 ghost use Rattle.std.specs.List.{slice_get};
-ghost use Rattle.mega_runs.specs.Scanning.{is_within as is_within_by};
+ghost use Rattle.mega_run_files.specs.Scanning.{is_within as is_within_by};
 ghost use Rattle.mega_runs.specs.Stores.{cleaned_of, is_range as is_range_by, with_cleaned, is_void as is_void_by_any, is_void_by, one_readable, readable, HasRangeAt};
 
-use crate::body::Version;
-use crate::merging::copy_of;
-use crate::scan::{is_hidden, is_within};
 use mega_base::{Bytes, Copied, NoMemory, Position};
+use mega_run_files::{Version, copy_of, is_hidden, is_within};
 use std::alloc::Global;
 
 /// Reads of the keys from `from` on and before `to` may differ below this position.

@@ -5,26 +5,23 @@ ghost use Rattle.mega_base.specs.Causes.{Rose};
 ghost use Rattle.mega_disk.specs.Fuse.{LowersBy, MayBurn, Burns};
 ghost use Rattle.mega_disk.specs.Images.{Within, LeavesOnly};
 ghost use Rattle.mega_disk.specs.VersionMaps.{Drops, IsLatest, IsScan, IsSpilled, row_at};
-ghost use Rattle.mega_runs.specs.Bodies.{IsRun, ascends};
-ghost use Rattle.mega_runs.specs.Files.{disk_of, opened_of};
-ghost use Rattle.mega_runs.specs.Finding.{found_in, row_found};
-ghost use Rattle.mega_runs.specs.Fronts.{kept};
-ghost use Rattle.mega_runs.specs.Merging.{all_merged, merged, with_version};
-ghost use Rattle.mega_runs.specs.Reads.{held_in, layered, mark_in, stored_of};
-ghost use Rattle.mega_runs.specs.Stores.{IsBounded, IsSpillOf, SpilledOr, added_run, base_run, cleaned_of, length_with, mark_of_pair, readable};
+ghost use Rattle.mega_run_files.specs.Bodies.{IsRun, ascends};
+ghost use Rattle.mega_run_files.specs.Files.{disk_of, opened_of};
+ghost use Rattle.mega_run_files.specs.Finding.{row_found};
+ghost use Rattle.mega_run_files.specs.Fronts.{kept};
+ghost use Rattle.mega_run_files.specs.Merging.{all_merged, merged, with_version};
+ghost use Rattle.mega_run_files.specs.Reads.{held_in, layered, mark_in, stored_of};
+ghost use Rattle.mega_run_files.specs.Spilling.{length_with};
+ghost use Rattle.mega_runs.specs.Stores.{IsBounded, IsSpillOf, SpilledOr, added_run, base_run, cleaned_of, mark_of_pair, readable};
 
-use crate::among::later;
-use crate::body::{Run, Version};
 use crate::cleaning::{Cleaning, readable_of};
-use crate::file::{MAX_LENGTH, RunFile};
-use crate::lookup::{Seen, copy_of};
 use crate::marking::marks_of;
-use crate::merging::{copies, merge, put};
-use crate::scan::rows_of;
-use crate::search::found;
-use crate::writable::{can_write, is_version};
 use mega_base::{Bytes, Copied, GroupId, Items, NoMemory, Position, Row};
 use mega_disk::{Disk, StoreError};
+use mega_run_files::{
+    Run, RunFile, Seen, Version, check_room, copies, is_version, later, merge, put, rows_of,
+    seen_in,
+};
 use std::alloc::Global;
 
 /// How many runs are added between two bases.
@@ -56,15 +53,6 @@ pub(crate) fn put_recent(
         Ok(()) => Ok(()),
         Err(NoMemory) => Err(StoreError::NoMemory),
     }
-}
-
-/// What the versions in memory have of a key at a position.
-fn seen_in(alloc: Global, recent: &[Version], key: &Bytes, at: Position) -> Result<Seen, StoreError>
-    requires { ascends recent.now ≡ true }
-    ensures value { IfOk result (λ seen. seen ≡ found_in key.now at.0 recent.now) }
-    ensures memory { OnErr result (result ≡ Err StoreError.NoMemory) }
-{
-    copy_of(alloc, found(recent, key, at))
 }
 
 /// The row of what was found.
@@ -237,29 +225,6 @@ fn check_added<D: Disk>(
 {
     match added(alloc, recent, marks) {
         Ok(run) => check_room(alloc, file, &run),
-        Err(NoMemory) => Err(StoreError::NoMemory),
-    }
-}
-
-/// Whether the file has room for a run, and the run can be written.
-fn check_room<D: Disk>(alloc: Global, file: &RunFile<D>, run: &Run) -> Result<(), StoreError>
-    ensures fits { OnOk result (IsRun run.now) }
-    ensures in_order { OnOk result (ascends run.now.versions ≡ true) }
-    ensures room { OnOk result (length_with (opened_of file.now).end run.now ≤ 2 ^ 40) }
-    ensures too_long { (n : ℕ) → result ≡ Err (StoreError.Full n) → (n ≡ length_with (opened_of file.now).end run.now) × (2 ^ 40 < n) }
-    ensures no_fault { result ≡ Err StoreError.DiskFault → ⊥ }
-    ensures no_bad { (n : ℕ) → result ≡ Err (StoreError.BadRecord n) → ⊥ }
-{
-    if !can_write(run) {
-        return Err(StoreError::NoMemory);
-    }
-    match file.length_after(alloc, run) {
-        Ok(length) => {
-            if length > MAX_LENGTH {
-                return Err(StoreError::Full { length });
-            }
-            Ok(())
-        }
         Err(NoMemory) => Err(StoreError::NoMemory),
     }
 }

@@ -2,15 +2,14 @@
 ghost use Rattle.std.specs.Prelude.{◌≡◌, ◌+◌, ◌≤◌, ◌<◌, ◌^◌, ◌∷◌, [], ◌⊎◌, ℕ, List, true, false, None, Some, Err, length, map, nat_le, IfOk, IfErr, OnOk, OnErr};
 ghost use Rattle.std.specs.List.{AllByRecursion, AllByRecursion-prop};
 ghost use Rattle.std.proofs.Props.{props};
-ghost use Rattle.mega_runs.specs.Bodies.{ascends};
+ghost use Rattle.mega_run_files.specs.Bodies.{ascends};
 ghost use Rattle.mega_runs.specs.Stores.{IsBounded};
 
-use crate::body::Version;
 use crate::cleaning::{Cleaning, add_cleaning};
-use crate::file::RunFile;
 use crate::keeping::{latest_of, put_recent, row_of, rows_between, spill_of};
 use mega_base::{Bytes, GroupId, NoMemory, Position, Row};
 use mega_disk::{Disk, StoreError, Versions};
+use mega_run_files::{RunFile, Version};
 use std::alloc::Global;
 
 /// How many versions are spilled together.
@@ -34,8 +33,8 @@ impl<D: Disk> Runs<D> {
     ghost use Rattle.mega_disk.specs.VersionMaps.{SameVersions, Stored};
     ghost use Rattle.mega_chain.specs.Chain.{records_of};
     ghost use Rattle.mega_runs.specs.Devices.{device_of};
-    ghost use Rattle.mega_runs.specs.Opening.{first_bad};
-    ghost use Rattle.mega_runs.specs.Reads.{held_in, stored_of};
+    ghost use Rattle.mega_run_files.specs.Opening.{first_bad};
+    ghost use Rattle.mega_run_files.specs.Reads.{held_in, stored_of};
     ghost use Rattle.mega_chain.specs.Rest.{HoldsAs};
 
     /// Opens a device that a crash may have left: its versions are those of its runs. A refusal hands the device back.
@@ -82,10 +81,11 @@ impl<D: Disk> Runs<D> {
 }
 
 impl<D: Disk> Versions for Runs<D> {
-    ghost use Rattle.mega_runs.specs.Files.{disk_of, opened_of};
-    ghost use Rattle.mega_runs.specs.Fronts.{kept};
-    ghost use Rattle.mega_runs.specs.Reads.{layered, mark_in};
-    ghost use Rattle.mega_runs.specs.Stores.{Opens, added_run, cleaned_of, length_with};
+    ghost use Rattle.mega_run_files.specs.Files.{disk_of, opened_of};
+    ghost use Rattle.mega_run_files.specs.Fronts.{kept};
+    ghost use Rattle.mega_run_files.specs.Reads.{layered, mark_in};
+    ghost use Rattle.mega_run_files.specs.Spilling.{length_with};
+    ghost use Rattle.mega_runs.specs.Stores.{Opens, added_run, cleaned_of};
     ghost use Rattle.mega_runs.specs.Durable.{true_false};
 
     ghost is_told = { D.is_told };

@@ -3,7 +3,7 @@ use Rattle.std.specs.Prelude.{Some, map}
 use Rattle.std.specs.List.{slice_get}
 use Rattle.mega_runs.specs.declared.cleaning.Cleaning.{Cleaning}
 use Rattle.mega_runs.specs.Stores.{HasRangeAt, cleaned_of, with_cleaned}
-use Rattle.mega_runs.proofs.Found.{slice_at}
+use Rattle.mega_run_files.proofs.Found.{slice_at}
 use Rattle.mega_runs.proofs.Readable.{raises}
 use Rattle.mega_runs.proofs.cleaning.add_cleaning.Goals as goal
 

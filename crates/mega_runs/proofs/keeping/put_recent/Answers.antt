@@ -1,10 +1,10 @@
 use Rattle.std.proofs.Common.{◌<◌, ◌^◌, sym, ◌∙◌, ap, subst, arith}
 use Rattle.std.specs.List.{AllByRecursion}
-use Rattle.mega_runs.specs.declared.body.Version.{Version}
-use Rattle.mega_runs.specs.Bodies.{ascends}
+use Rattle.mega_run_files.specs.declared.body.Version.{Version}
+use Rattle.mega_run_files.specs.Bodies.{ascends}
 use Rattle.mega_runs.specs.Stores.{IsBounded}
 use Rattle.mega_runs.proofs.Keepings.{with_all}
-use Rattle.mega_runs.proofs.Mixing.{with_ascends}
+use Rattle.mega_run_files.proofs.Mixing.{with_ascends}
 use Rattle.mega_runs.proofs.keeping.put_recent.Goals as goal
 
 pub returns-in-Ok-put-clause-in_order : goal.returns-in-Ok-put-clause-in_order

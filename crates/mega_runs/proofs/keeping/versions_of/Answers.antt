@@ -1,6 +1,6 @@
 use Rattle.std.proofs.Common.{◌∙◌, ap}
-use Rattle.mega_runs.specs.Bodies.{ascends}
-use Rattle.mega_runs.proofs.Mixing.{merged_ascends}
+use Rattle.mega_run_files.specs.Bodies.{ascends}
+use Rattle.mega_run_files.proofs.Mixing.{merged_ascends}
 use Rattle.mega_runs.proofs.keeping.versions_of.Goals as goal
 
 pub returns-in-Ok-merge-clause-in_order : goal.returns-in-Ok-merge-clause-in_order

@@ -1,9 +1,9 @@
 use Rattle.std.proofs.Common.{◌≡◌, ◌⊎◌, ◌∷◌, [], List, OnOk, refl}
 use Rattle.mega_disk.specs.VersionMaps.{Cleaned, IsSpilled, Stored}
 use Rattle.mega_runs.specs.Devices.{cleanings_in}
-use Rattle.mega_runs.specs.Files.{disk_of, opened_of}
-use Rattle.mega_runs.specs.Fronts.{kept}
-use Rattle.mega_runs.specs.Reads.{layered}
+use Rattle.mega_run_files.specs.Files.{disk_of, opened_of}
+use Rattle.mega_run_files.specs.Fronts.{kept}
+use Rattle.mega_run_files.specs.Reads.{layered}
 use Rattle.mega_runs.specs.Stores.{Opens}
 use Rattle.mega_runs.proofs.Emptied.{named_moments, none_cleaned}
 use Rattle.mega_runs.proofs.archive.ArchiveVersions.spill.Goals as goal

@@ -1,0 +1,57 @@
+use Rattle.std.proofs.Common.{rules, ◌≡◌, ◌<◌, ◌-◌, ℕ, List, length, sym, ◌∙◌, ap, subst, arith}
+use Rattle.std.specs.Prelude.{Some}
+use Rattle.std.specs.List.{slice_get}
+use Rattle.mega_disk.proofs.Leaves.{started, then_leaves}
+use Rattle.mega_run_files.specs.Finding.{found_among, later_of}
+use Rattle.mega_run_files.specs.Index.{IsIndexed}
+use Rattle.mega_run_files.proofs.Found.{slice_at}
+use Rattle.mega_run_files.proofs.Listed.{listed_at, same_count, none_left, last_left}
+use Rattle.mega_run_files.proofs.among.found_in_runs.Goals as goal
+
+pub loop-left-init : goal.loop-left-init
+loop-left-init g c = record {
+  within_runs = omega arith;
+  found = λ told end lists are. ap (found_among c.args.key.now c.args.at.0) (sym (none_left lists (length c.args.runs.now) (same_count (g.D.Disk.seen c.args.disk.now) end c.args.runs.now lists are.placed)));
+  same = search rules;
+  within = λ image left. left;
+  moments = started g.D.Disk.moment g.D.Disk.left_since c.args.disk.now (g.D.Disk.may_leave c.args.disk.now) (g.met.D.Disk.only_now c.args.disk.now);
+  later = omega arith;
+  lowers = search rules;
+  by_fuse = λ by. by;
+}
+
+pub found_in_run-requires : goal.found_in_run-requires
+found_in_run-requires g c =
+    let i = c.loop-left.invariant in
+    let runs = c.args.runs.now in
+    let j = c.loop-left.left - 1 in
+    let some : 0 < c.loop-left.left = c.loop-left-test.true in
+    let there : slice_get runs j ≡ Some c.index-runs-left.result = slice_at runs j c.index-runs-left.result (omega (arith, i.within_runs, some)) c.index-runs-left.is in
+    record {
+      indexed = λ told.
+          let h = c.requires.indexed told in
+          let listed = listed_at (g.D.Disk.seen c.args.disk.now) h.0 runs h.1 j c.index-runs-left.result h.2 there in
+          (h.0, (listed.versions, subst (λ (file : List ℕ). IsIndexed file h.0 listed.versions c.index-runs-left.result) (sym i.same) listed.is));
+    }
+
+pub loop-left-preserved : goal.loop-left-preserved
+loop-left-preserved g c =
+    let i = c.loop-left.invariant in
+    let runs = c.args.runs.now in
+    let j = c.loop-left.left - 1 in
+    let some : 0 < c.loop-left.left = c.loop-left-test.true in
+    let there : slice_get runs j ≡ Some c.index-runs-left.result = slice_at runs j c.index-runs-left.result (omega (arith, i.within_runs, some)) c.index-runs-left.is in
+    record {
+      within_runs = omega (arith, i.within_runs);
+      found = λ told end lists are.
+          let listed = listed_at (g.D.Disk.seen c.args.disk.now) end runs lists j c.index-runs-left.result are there in
+          let value = c.in_ok-newer.ensures.value told end listed.versions (subst (λ (file : List ℕ). IsIndexed file end listed.versions c.index-runs-left.result) (sym i.same) listed.is) in
+          let so_far = i.found told end lists are in
+          c.later-seen.ensures ∙ (λ i. later_of (value i) (so_far i)) ∙ ap (found_among c.args.key.now c.args.at.0) (sym (last_left lists c.loop-left.left listed.versions some listed.rest));
+      same = c.in_ok-newer.ensures.seen ∙ i.same;
+      within = λ image left. i.within image (c.found_in_run.ensures.within image left);
+      moments = then_leaves g.D.Disk.moment g.D.Disk.left_since c.args.disk.now c.loop-left.disk c.found_in_run.new.disk _ _ (g.D.Disk.may_leave c.args.disk.now) i.moments c.found_in_run.ensures.any_moment (λ image left. left) (λ image left. i.within image left);
+      later = omega (arith, i.later, c.found_in_run.ensures.later);
+      lowers = search rules;
+      by_fuse = λ by. c.found_in_run.ensures.by_fuse (i.by_fuse by);
+    }

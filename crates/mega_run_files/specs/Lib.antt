@@ -1,0 +1,15 @@
+pub mod Bodies
+pub mod BodyLaws
+pub mod Examples
+pub mod Files
+pub mod Finding
+pub mod Fronts
+pub mod Index
+pub mod Merging
+pub mod Opening
+pub mod Placed
+pub mod Reads
+pub mod Scanning
+pub mod Sides
+pub mod Spilling
+pub mod VersionLists

@@ -1,5 +1,0 @@
-use Rattle.mega_runs.proofs.Found.{row_among}
-use Rattle.mega_runs.proofs.laws.reads_find_the_latest.Goals as goal
-
-pub returns : goal.returns
-returns c = row_among
