@@ -22,7 +22,7 @@ fn group_in(alloc: Global, digits: &[u8]) -> Result<Option<GroupId>, NoMemory>
         return Ok(None);
     }
     match hex_in(alloc, digits)? {
-        Some(key) => Ok(Some(GroupId { key })),
+        Some(key) => Ok(Some(GroupId::new(alloc, key)?)),
         None => Ok(None),
     }
 }

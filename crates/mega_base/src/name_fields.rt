@@ -250,7 +250,7 @@ impl Field for GroupId {
     #[tactic(auto, unfolding(crate::specs::Names::group_at))]
     fn take(alloc: Global, cursor: &mut Cursor<'_>) -> Result<GroupId, FieldFault> {
         let key = Bytes::take(alloc, cursor)?;
-        Ok(GroupId { key })
+        Ok(GroupId::new(alloc, key)?)
     }
 
     fn put(&self, out: &mut Bytes) -> Result<(), NoMemory> {

@@ -1,6 +1,9 @@
 //! The names of nodes, log positions, epochs, operations and entity groups.
+ghost use Rattle.std.specs.Prelude.{◌≡◌, IfOk};
+
 use crate::bytes::Bytes;
 use crate::copied::{Copied, NoMemory};
+use crate::shared::Shared;
 use std::alloc::Global;
 
 /// A node of the cluster, counted from 1.
@@ -26,10 +29,20 @@ pub struct OpId {
     pub number: u32,
 }
 
-/// An entity group: the key bytes of its root's table number and root key values.
+/// An entity group: the key bytes of its root's table number and root key values, which copies share.
 #[derive(PartialEq, Eq, PartialOrd, Ord, Debug, Drop)]
 pub struct GroupId {
-    pub key: Bytes,
+    pub key: Shared<Bytes>,
+}
+
+impl GroupId {
+    /// The group with this key, with no copy.
+    pub fn new(alloc: Global, key: Bytes) -> Result<GroupId, NoMemory>
+        ensures { IfOk result (λ made. made.key ≡ key) }
+    {
+        let key = Shared::new(alloc, key)?;
+        Ok(GroupId { key })
+    }
 }
 
 impl Copied for NodeId {

@@ -63,7 +63,7 @@ impl Field for Row {
     fn take(alloc: Global, cursor: &mut Cursor<'_>) -> Result<Row, FieldFault> {
         let count = cursor.take_u8_between(0, u8::MAX)?;
         let cells = take_cells(alloc, cursor, count)?;
-        Ok(Row { cells })
+        Ok(Row::new(alloc, cells)?)
     }
 
     #[tactic(auto, using(crate::proofs::Keeps::keeps_front, crate::specs::ValueLaws::rising_each))]

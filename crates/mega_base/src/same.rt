@@ -108,6 +108,6 @@ impl Same for Cell {
 
 impl Same for Row {
     fn same_as(&self, other: &Row) -> bool {
-        self.cells.same_as(&other.cells)
+        (*self.cells).same_as(&*other.cells)
     }
 }

@@ -1,7 +1,10 @@
 //! The values that rows hold: kinds, values, cells, rows, and the shapes of row keys.
+ghost use Rattle.std.specs.Prelude.{◌≡◌, IfOk};
+
 use crate::bytes::Bytes;
 use crate::copied::{Copied, NoMemory};
 use crate::items::Items;
+use crate::shared::Shared;
 use crate::text::Text;
 use std::alloc::Global;
 
@@ -41,10 +44,20 @@ pub struct Cell {
     pub values: Items<Value>,
 }
 
-/// A row: its properties that have values, in ascending order of number.
+/// A row: its properties that have values, in ascending order of number, which copies share.
 #[derive(PartialEq, Debug, Drop)]
 pub struct Row {
-    pub cells: Items<Cell>,
+    pub cells: Shared<Items<Cell>>,
+}
+
+impl Row {
+    /// The row of these cells, with no copy.
+    pub fn new(alloc: Global, cells: Items<Cell>) -> Result<Row, NoMemory>
+        ensures { IfOk result (λ made. made.cells ≡ cells) }
+    {
+        let cells = Shared::new(alloc, cells)?;
+        Ok(Row { cells })
+    }
 }
 
 /// How the row keys of a table are spelled: the first byte, the root's table number and the kinds of

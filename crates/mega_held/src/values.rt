@@ -53,6 +53,6 @@ impl Held for Row {
     ghost holds = { HoldsRow };
 
     fn hold(&self) {
-        self.cells.hold();
+        (*self.cells).hold();
     }
 }

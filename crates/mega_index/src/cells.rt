@@ -75,7 +75,7 @@ pub fn row_set(alloc: Global, row: &Row, property: u8, value: &Value) -> Result<
     for cell in row.cells.as_slice() {
         cells.push(cell_set(alloc, cell, property, value)?)?;
     }
-    Ok(Row { cells })
+    Row::new(alloc, cells)
 }
 
 /// The values of the properties of a key, up to the first property that has not exactly one.
@@ -120,5 +120,5 @@ pub fn row_with(alloc: Global, numbers: &[u8], row: &Row) -> Result<Row, NoMemor
     for cell in row.cells.as_slice() {
         push_listed(alloc, &mut cells, numbers, cell)?;
     }
-    Ok(Row { cells })
+    Row::new(alloc, cells)
 }

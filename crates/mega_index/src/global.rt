@@ -42,7 +42,7 @@ impl GlobalIndex {
     pub fn mark(&self, group: &GroupId) -> Position
         ensures { result.0 ≡ (marked_in (marks_of self.now) group.now.key).position }
     {
-        match self.groups.get(&group.key) {
+        match self.groups.get(&*group.key) {
             Some(held) => Position(held.position),
             None => Position(0),
         }
@@ -63,21 +63,21 @@ impl GlobalIndex {
         ensures kept { is_kept_under schema.now self.old ≡ true → is_kept_under schema.now self.new ≡ true }
     {
         let writes = writes_of(alloc, entries)?;
-        let touched = touched_by(alloc, schema, &self.groups, &group.key, writes.as_slice())?;
+        let touched = touched_by(alloc, schema, &self.groups, &*group.key, writes.as_slice())?;
         hint_writes(
             alloc,
             &mut self.hints,
             schema,
-            &group.key,
+            &*group.key,
             writes.as_slice(),
         )?;
-        hold(alloc, &mut self.groups, &group.key, entries.len(), writes)?;
+        hold(alloc, &mut self.groups, &*group.key, entries.len(), writes)?;
         forget(
             alloc,
             &mut self.hints,
             schema,
             &self.groups,
-            &group.key,
+            &*group.key,
             touched.as_slice(),
         );
         Ok(())

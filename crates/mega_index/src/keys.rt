@@ -74,10 +74,7 @@ pub fn group_bytes_of(
 {
     let key = key_values(alloc, table.primary.as_slice(), row)?;
     match group_of(alloc, schema, number, table, key.as_slice()) {
-        Ok(group) => {
-            let GroupId { key } = group;
-            Ok(key)
-        }
+        Ok(group) => Bytes::from_slice(alloc, group.key.as_slice()),
         Err(KeyFault::NoMemory) => Err(NoMemory),
         Err(_) => Ok(Bytes::new(alloc)),
     }

@@ -85,7 +85,7 @@ pub fn group_of(alloc: Global, shape: &Shape, values: &[Value]) -> Result<GroupI
 {
     check(shape.root_kinds.as_slice(), &[], values)?;
     let key = limited(head(alloc, shape.root, shape.scatter, values)?)?;
-    Ok(GroupId { key })
+    Ok(GroupId::new(alloc, key)?)
 }
 
 /// The key of an entry of the index with this number: behind the prefix, which is the group of a local

@@ -21,10 +21,10 @@ fn key_in(item: &Item) -> Option<&Bytes>
     ensures { option_copied result ≡ key_in item.now }
 {
     match item {
-        Item::Valid { group, .. } => Some(&group.key),
-        Item::Invalid { group, .. } => Some(&group.key),
-        Item::Decide { group, .. } => Some(&group.key),
-        Item::Apply { group, .. } => Some(&group.key),
+        Item::Valid { group, .. } => Some(&*group.key),
+        Item::Invalid { group, .. } => Some(&*group.key),
+        Item::Decide { group, .. } => Some(&*group.key),
+        Item::Apply { group, .. } => Some(&*group.key),
         _ => None,
     }
 }
@@ -133,7 +133,7 @@ impl Groups {
     pub fn number(&self, group: &GroupId) -> u32
         ensures { result ≡ number_in self.now group.now.key }
     {
-        self.numbers.get(&group.key).copied().unwrap_or(0)
+        self.numbers.get(&*group.key).copied().unwrap_or(0)
     }
 
     /// The keys of the groups, in order of their numbers.

@@ -245,7 +245,7 @@ fn put_row(alloc: Global, schema: &Schema, object: &Json) -> Result<Row, NoMemor
         Some(row) => cells_of(alloc, properties, row)?,
         None => Items::new(alloc),
     };
-    Ok(Row { cells })
+    Row::new(alloc, cells)
 }
 
 impl Part for Change {

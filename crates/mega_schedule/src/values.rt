@@ -298,16 +298,14 @@ fn root_group(
     match spell_group(alloc, &shape, key.as_slice()) {
         Ok(group) => Ok(group),
         Err(KeyFault::NoMemory) => Err(NoMemory),
-        Err(_) => Ok(no_group(alloc)),
+        Err(_) => no_group(alloc),
     }
 }
 
-fn no_group(alloc: Global) -> GroupId
-    ensures { result ≡ no_group }
+fn no_group(alloc: Global) -> Result<GroupId, NoMemory>
+    ensures { IfOk result (λ made. made ≡ no_group) }
 {
-    GroupId {
-        key: Bytes::new(alloc),
-    }
+    GroupId::new(alloc, Bytes::new(alloc))
 }
 
 /// The group of the root with this name and these key values, or the empty one.
@@ -325,10 +323,10 @@ fn group_named(
             if table.group.is_empty() {
                 root_group(alloc, schema, number, table, items)
             } else {
-                Ok(no_group(alloc))
+                no_group(alloc)
             }
         }
-        None => Ok(no_group(alloc)),
+        None => no_group(alloc),
     }
 }
 
@@ -343,6 +341,6 @@ pub(crate) fn group_in(
 {
     match pair_of(list_in(object, name)) {
         Some((table, values)) => group_named(alloc, schema, text_of(table), list_of(values)),
-        None => Ok(no_group(alloc)),
+        None => no_group(alloc),
     }
 }

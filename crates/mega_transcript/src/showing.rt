@@ -269,7 +269,7 @@ impl Show for Mark {
     ghost no_float = { no_float_mark };
 
     fn show(&self, alloc: Global, _schema: &Schema) -> Result<Json, NoMemory> {
-        let group = hex_value(alloc, &self.group.key)?;
+        let group = hex_value(alloc, &*self.group.key)?;
         pair(alloc, group, Json::from(self.position.0))
     }
 }

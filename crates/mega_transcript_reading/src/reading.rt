@@ -227,7 +227,7 @@ impl<'a> Words<'a> {
         ensures { Takes result self.new (group_field end self.old) }
     {
         let key = self.hex(alloc, end)?;
-        Ok(GroupId { key })
+        Ok(GroupId::new(alloc, key)?)
     }
 
     /// A message in hex.

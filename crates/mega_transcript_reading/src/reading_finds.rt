@@ -98,10 +98,11 @@ fn found_of(
     let kinds = kinds_of(alloc, schema, number, table)?;
     let key = values_by(alloc, kinds.as_slice(), list_of(key))?;
     let cells = cells_of(alloc, table.properties.as_slice(), stored)?;
+    let stored = Row::new(alloc, cells)?;
     Ok(Found {
         table: number,
         key,
-        stored: Row { cells },
+        stored,
     })
 }
 

@@ -43,15 +43,14 @@ fn is_alone(marks: &[Mark]) -> bool
     marks.len() == 1
 }
 
-fn no_mark(alloc: Global) -> Mark
-    ensures { result ≡ mark_of None }
+fn no_mark(alloc: Global) -> Result<Mark, NoMemory>
+    ensures { IfOk result (λ mark. mark ≡ mark_of None) }
 {
-    Mark {
-        group: GroupId {
-            key: Bytes::new(alloc),
-        },
+    let group = GroupId::new(alloc, Bytes::new(alloc))?;
+    Ok(Mark {
+        group,
         position: Position(0),
-    }
+    })
 }
 
 impl Told for Mark {
@@ -61,12 +60,13 @@ impl Told for Mark {
         match pair_of(list_of(value)) {
             Some((group, position)) => {
                 let key = bytes_of(alloc, group)?;
+                let group = GroupId::new(alloc, key)?;
                 Ok(Mark {
-                    group: GroupId { key },
+                    group,
                     position: Position(number_of(u64::MAX, position)),
                 })
             }
-            None => Ok(no_mark(alloc)),
+            None => no_mark(alloc),
         }
     }
 }

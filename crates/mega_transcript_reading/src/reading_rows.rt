@@ -87,10 +87,8 @@ fn shown_by(
     match table_at(schema, number) {
         Some(table) => {
             let cells = cells_of(alloc, table.properties.as_slice(), row)?;
-            Ok(Some(Shown {
-                table: number,
-                row: Row { cells },
-            }))
+            let row = Row::new(alloc, cells)?;
+            Ok(Some(Shown { table: number, row }))
         }
         None => Ok(None),
     }

@@ -25,25 +25,24 @@ use std::alloc::Global;
 const MOST_BYTES: u64 = 32_768;
 
 /// A transaction of no group, which fits no schema.
-fn no_transaction(alloc: Global) -> Transaction
-    ensures { result ≡ no_transaction }
+fn no_transaction(alloc: Global) -> Result<Transaction, NoMemory>
+    ensures { IfOk result (λ txn. txn ≡ no_transaction) }
 {
-    Transaction {
-        group: GroupId {
-            key: Bytes::new(alloc),
-        },
+    let group = GroupId::new(alloc, Bytes::new(alloc))?;
+    Ok(Transaction {
+        group,
         checks: Items::new(alloc),
         reads: Items::new(alloc),
         writes: Items::new(alloc),
         sends: Items::new(alloc),
-    }
+    })
 }
 
-fn transaction_in(alloc: Global, request: Request) -> Transaction
-    ensures { result ≡ transaction_in request }
+fn transaction_in(alloc: Global, request: Request) -> Result<Transaction, NoMemory>
+    ensures { IfOk result (λ txn. txn ≡ transaction_in request) }
 {
     match request {
-        Request::Txn(txn) => txn,
+        Request::Txn(txn) => Ok(txn),
         _ => no_transaction(alloc),
     }
 }
@@ -56,10 +55,10 @@ fn transaction_of(alloc: Global, schema: &Schema, text: &[u8]) -> Result<Transac
     match asked(alloc, text, 1, schema) {
         Ok(ask) => {
             let Ask { request, .. } = ask;
-            Ok(transaction_in(alloc, request))
+            transaction_in(alloc, request)
         }
         Err(LineFault::NoMemory) => Err(NoMemory),
-        Err(LineFault::Refused { .. }) => Ok(no_transaction(alloc)),
+        Err(LineFault::Refused { .. }) => no_transaction(alloc),
     }
 }
 

@@ -41,7 +41,7 @@ pub fn group_in(alloc: Global, word: &[u8]) -> Result<Option<GroupId>, NoMemory>
         return Ok(None);
     }
     match key_in(alloc, word)? {
-        Some(key) => Ok(Some(GroupId { key })),
+        Some(key) => Ok(Some(GroupId::new(alloc, key)?)),
         None => Ok(None),
     }
 }
