@@ -7,8 +7,8 @@ ghost use Rattle.mega_finishing.specs.of_operations.Whole.{whole};
 ghost use Rattle.mega_finishing.specs.of_operations.Phases.{promised_of};
 ghost use Rattle.mega_rules.specs.Clock.{clock_of};
 ghost use Rattle.mega_rules.specs.Logs.{decided, log_of, prefix_of};
-ghost use Rattle.mega_rules.specs.Operations.{Now, Proposes, Reads};
-ghost use Rattle.mega_rules.specs.Acting.{acts, acts_within, completes_read, finishes, goes_on, reader_of, reads_on, seeks_on, unless_decided};
+ghost use Rattle.mega_rules.specs.Operations.{Now, Operation as OpenOne, Proposes, Reads, Setting};
+ghost use Rattle.mega_rules.specs.Acting.{acts, acts_within, completes_read, finishes, goes_on, keeps, reader_of, reads_on, seeks_on, unless_decided};
 ghost use Rattle.mega_replica.specs.Applying.{applied};
 ghost use Rattle.mega_read.specs.Catching.{seeks};
 ghost use Rattle.mega_replica.specs.Used.{StoreUsed};
@@ -89,6 +89,18 @@ fn seeks(
             drop(group);
             Err(refused)
         }
+    }
+}
+
+/// Whether an operation that acts stays as it is: it does not know through where it reads, or its position is not decided.
+fn stays<R: Records>(voter: &Voter<R>, operation: &Operation) -> bool
+    ensures { result ≡ true → (s : Setting) (again : Now → OpenOne → Now) (now : Now) → Tells voter.now.logs.kept now.met → acts s again now operation.now ≡ keeps now operation.now }
+{
+    match &operation.phase {
+        Phase::Reads { reading, .. } => reading.through_of().is_none(),
+        Phase::Proposes {
+            group, position, ..
+        } => voter.decided(group, Position(*position)).is_none(),
     }
 }
 
@@ -305,6 +317,10 @@ impl<R: Records, V: Versions> Replica<R, V> {
         ensures indexed { self.new.indexed ≡ self.old.indexed }
         ensures unserved { result ≡ Err Unserved → is_open operation.request ≡ false }
     {
+        if stays(&self.voter, &operation) {
+            work.kept.push(operation)?;
+            return Ok(None);
+        }
         let (kept, phase) = operation.parts();
         match phase {
             Phase::Reads { group, reading } => {

@@ -4,7 +4,7 @@ ghost use Rattle.std.specs.List.{range_with_len};
 ghost use Rattle.mega_rules.specs.Members.{full_nodes, is_full, is_voter, voters};
 ghost use Rattle.mega_operations.specs.declared.members.MembersFault.TheVariants.{NoMemory as Refused, TooMany};
 
-use mega_base::{Copied, GroupId, Items, NoMemory, OpId};
+use mega_base::{Copied, GroupId, Items, NoMemory, OpId, Shared};
 use mega_cluster::Cluster;
 use mega_kinds::{is_full, is_voter};
 use mega_propose::Site;
@@ -33,8 +33,8 @@ impl From<NoMemory> for MembersFault {
 #[derive(Debug, Drop)]
 pub struct Members {
     cluster: Cluster,
-    voters: Items<u8>,
-    full: Items<u8>,
+    voters: Shared<Items<u8>>,
+    full: Shared<Items<u8>>,
 }
 
 impl Model for Members {
@@ -90,8 +90,8 @@ impl Members {
             return Err(MembersFault::TooMany);
         }
         let count = count as u8;
-        let voters = voters(alloc, &cluster, count)?;
-        let full = full_nodes(alloc, &cluster, count)?;
+        let voters = Shared::new(alloc, voters(alloc, &cluster, count)?)?;
+        let full = Shared::new(alloc, full_nodes(alloc, &cluster, count)?)?;
         Ok(Members {
             cluster,
             voters,

@@ -1,6 +1,6 @@
 //! A proposal: its place, its round, and what it has heard.
 use mega_ballot::Ballot;
-use mega_base::{GroupId, Items, OpId};
+use mega_base::{GroupId, Items, OpId, Shared};
 use mega_entry::Entry;
 use mega_wire::Message;
 
@@ -11,8 +11,8 @@ pub struct Site {
     pub op: OpId,
     pub group: GroupId,
     pub position: u64,
-    pub voters: Items<u8>,
-    pub full: Items<u8>,
+    pub voters: Shared<Items<u8>>,
+    pub full: Shared<Items<u8>>,
     pub cells: u8,
     pub asked: Items<u8>,
 }

@@ -1,5 +1,5 @@
 //! A read: who reads among whom, its stage, and the position that it completes.
-use mega_base::{Epoch, GroupId, Items, OpId};
+use mega_base::{Epoch, GroupId, Items, OpId, Shared};
 use mega_propose::Proposal;
 use mega_propose::mega_wire::Message;
 
@@ -8,8 +8,8 @@ use mega_propose::mega_wire::Message;
 pub struct Reader {
     pub op: OpId,
     pub group: GroupId,
-    pub voters: Items<u8>,
-    pub full: Items<u8>,
+    pub voters: Shared<Items<u8>>,
+    pub full: Shared<Items<u8>>,
     pub cells: u8,
 }
 
