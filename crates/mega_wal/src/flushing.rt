@@ -21,13 +21,16 @@ use std::alloc::Global;
 /// The length in bytes that no record reaches.
 pub(crate) const RECORD_LIMIT: u64 = 1 << 32;
 
+/// The room that a record gets at first: most are shorter.
+const FIRST_ROOM: usize = 256;
+
 /// The text of a record of these items.
 pub(crate) fn text(alloc: Global, items: &Items<JournalItem>) -> Result<Bytes, NoMemory>
     requires each { All IsItem items.now }
     requires few { length items.now < 2 ^ 32 }
     ensures { IfOk result (λ text. text ≡ record_text items.now) }
 {
-    let mut text = Bytes::new(alloc);
+    let mut text = Bytes::from_vec(Vec::with_capacity(alloc, FIRST_ROOM)?);
     put_list(items, &mut text)?;
     Ok(text)
 }
