@@ -11,7 +11,7 @@ use std::process::Abort;
 /// The group of user 101.
 fn group(alloc: Global) -> Result<GroupId, NoMemory> {
     let key = Bytes::from_slice(alloc, &[1, 128, 0, 0, 0, 0, 0, 0, 101])?;
-    Ok(GroupId { key })
+    GroupId::new(alloc, key)
 }
 
 /// A source of texts, one behind the other.

@@ -19,7 +19,7 @@ fn group(alloc: Global) -> Result<GroupId, NoMemory>
     ensures { IfOk result (λ group. length group.key ≤ 65536) }
 {
     let key = Bytes::from_slice(alloc, &[1, 128, 0, 0, 0, 0, 0, 0, 101])?;
-    Ok(GroupId { key })
+    GroupId::new(alloc, key)
 }
 
 /// The entry of this text.

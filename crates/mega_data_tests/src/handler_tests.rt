@@ -28,13 +28,13 @@ fn rows(rt: &impl Abort, alloc: Global, balance: i64) -> Vec<(Bytes, Row)> {
     add(rt, alloc, &mut cells, 2, Value::Int64(balance));
     add(rt, alloc, &mut cells, 3, Value::Str(text(rt, alloc, "Ann")));
     let key = Bytes::from_slice(alloc, &KEY).expect(rt, "refused");
-    vec![in alloc; (key, Row { cells })].expect(rt, "refused")
+    let row = Row::new(alloc, cells).expect(rt, "refused");
+    vec![in alloc; (key, row)].expect(rt, "refused")
 }
 
 fn message(rt: &impl Abort, alloc: Global, payload: Bytes) -> Enter {
-    let group = GroupId {
-        key: Bytes::from_slice(alloc, &[1]).expect(rt, "refused"),
-    };
+    let key = Bytes::from_slice(alloc, &[1]).expect(rt, "refused");
+    let group = GroupId::new(alloc, key).expect(rt, "refused");
     let name = Name {
         group,
         position: Position(3),

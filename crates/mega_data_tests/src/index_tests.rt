@@ -70,7 +70,7 @@ fn photo_of(
         };
         cells.push(tagged).expect(rt, "refused");
     }
-    Row { cells }
+    Row::new(alloc, cells).expect(rt, "refused")
 }
 
 /// For each write the byte behind the group that tells the index, the first byte behind that, and
@@ -271,7 +271,7 @@ fn part_of_a_photo(rt: &impl Abort, alloc: Global) -> Row {
     let mut cells = Items::new(alloc);
     add(rt, alloc, &mut cells, 1, Value::Int64(101));
     add(rt, alloc, &mut cells, 2, Value::Int32(500));
-    Row { cells }
+    Row::new(alloc, cells).expect(rt, "refused")
 }
 
 #[test]

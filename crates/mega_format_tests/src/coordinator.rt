@@ -15,7 +15,7 @@ fn group(rt: &impl Abort, alloc: Global) -> GroupId {
     let key = Bytes::from_slice(alloc, b"\x01\x80\x00\x00\x00\x00\x00\x00\x65").expect(
         rt, "refused",
     );
-    GroupId { key }
+    GroupId::new(alloc, key).expect(rt, "refused")
 }
 
 /// Lets the first two cells of three grant an epoch, and asserts that the second grant makes it serve.

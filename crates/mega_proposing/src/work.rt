@@ -1,5 +1,5 @@
 //! What a step has come to: operations, groups that became valid, answers and messages.
-ghost use Rattle.std.specs.Prelude.{◌≡◌, ◌++◌, [], OnOk};
+ghost use Rattle.std.specs.Prelude.{◌≡◌, ◌++◌, [], IfOk, OnOk};
 ghost use Rattle.mega_rules.specs.Operations.{Now};
 ghost use Rattle.mega_proposing.specs.Completed.{completed};
 ghost use Rattle.mega_proposing.specs.Actions.{does, ended_by, said};
@@ -73,6 +73,19 @@ impl Work {
             answers: Items::new(alloc),
             sends: Items::new(alloc),
         }
+    }
+
+    /// The same, with room for so many operations that stay open.
+    pub fn with_room(alloc: Global, operations: usize) -> Result<Work, NoMemory>
+        ensures { IfOk result (λ work. work ≡ record { kept = []; valid = []; answers = []; sends = [] }) }
+    {
+        let kept = Items::with_capacity(alloc, operations)?;
+        Ok(Work {
+            kept,
+            valid: Items::new(alloc),
+            answers: Items::new(alloc),
+            sends: Items::new(alloc),
+        })
     }
 
     /// Adds messages, where there are any.

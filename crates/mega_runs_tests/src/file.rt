@@ -83,9 +83,8 @@ fn the_first_run_has_these_bytes(rt: HostRuntime) {
     let alloc = rt.alloc();
     let mut file = opened(alloc, MemDisk::new(alloc)).expect(&rt, "refused");
     let mut marks = Items::new(alloc);
-    let group = GroupId {
-        key: Bytes::from_slice(alloc, b"b").expect(&rt, "refused"),
-    };
+    let key = Bytes::from_slice(alloc, b"b").expect(&rt, "refused");
+    let group = GroupId::new(alloc, key).expect(&rt, "refused");
     marks
         .push(Mark {
             group,

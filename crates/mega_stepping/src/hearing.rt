@@ -1,5 +1,5 @@
 //! The open operations hear a message: only one that the message is for is changed by it.
-ghost use Rattle.std.specs.Prelude.{◌≡◌, map, IfOk};
+ghost use Rattle.std.specs.Prelude.{◌≡◌, ◌++◌, ◌∷◌, [], map, IfOk, OnOk};
 ghost use Rattle.mega_rules.specs.Operations.{Setting};
 ghost use Rattle.mega_rules.specs.Steps.{hears_message};
 
@@ -9,7 +9,7 @@ use mega_proposing::mega_operations::{Heard, Members, Operation};
 use mega_wire::Message;
 use std::alloc::Global;
 
-/// What an open operation comes to when its node takes a message, at a clock: nothing else where the message is not for it.
+/// Adds what an open operation comes to when its node takes a message, at a clock: nothing else where the message is not for it.
 #[tactic(auto, using(crate::proofs::Unheard::not_for))]
 fn hears(
     alloc: Global,
@@ -17,16 +17,18 @@ fn hears(
     clock: u64,
     message: &Message,
     operation: Operation,
-) -> Result<Heard, NoMemory>
-    ensures { (s : Setting) → s.cluster ≡ members.now → IfOk result (λ heard. heard ≡ hears_message s clock message.now operation) }
+    heard: &mut Items<Heard>,
+) -> Result<(), NoMemory>
+    ensures { (s : Setting) → s.cluster ≡ members.now → OnOk result (heard.new ≡ heard.old ++ hears_message s clock message.now operation ∷ []) }
 {
     if !is_for(operation.id, &message.body) {
-        return Ok(Heard {
+        return heard.push(Heard {
             operation,
             sends: Items::new(alloc),
         });
     }
-    operation.hears(alloc, members, clock, message)
+    let one = operation.hears(alloc, members, clock, message)?;
+    heard.push(one)
 }
 
 /// What the open operations come to when their node takes a message, at a clock.
@@ -39,10 +41,9 @@ pub fn all_hear(
 ) -> Result<Items<Heard>, NoMemory>
     ensures { IfOk result (λ heard. (s : Setting) → s.cluster ≡ members.now → heard ≡ map (hears_message s clock message.now) operations) }
 {
-    let mut heard = Items::new(alloc);
+    let mut heard = Items::with_capacity(alloc, operations.len())?;
     for operation in operations.into_vec() {
-        let one = hears(alloc, members, clock, message, operation)?;
-        heard.push(one)?;
+        hears(alloc, members, clock, message, operation, &mut heard)?;
     }
     Ok(heard)
 }

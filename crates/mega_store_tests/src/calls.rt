@@ -77,7 +77,7 @@ pub fn group(alloc: Global, number: u8) -> Result<GroupId, NoMemory>
         1 => Bytes::from_slice(alloc, &bytes)?,
         _ => Bytes::from_slice(alloc, &bytes[1..])?,
     };
-    Ok(GroupId { key })
+    GroupId::new(alloc, key)
 }
 
 pub fn position(number: u8) -> Position

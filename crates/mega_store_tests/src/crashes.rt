@@ -153,9 +153,7 @@ fn shown_on(alloc: Global, disk: MemDisk, group: &GroupId) -> (u32, u32) {
 #[test]
 fn what_was_answered_stands_after_a_crash_at_any_call(rt: HostRuntime) -> Result<(), Fail> {
     let alloc = rt.alloc();
-    let group = GroupId {
-        key: Bytes::from_slice(alloc, b"g")?,
-    };
+    let group = GroupId::new(alloc, Bytes::from_slice(alloc, b"g")?)?;
     let entry = entry(
         alloc,
         &[1, 0, 1, 0, 0, 0, 0, 0, 0, 0, 0, 0, 0, 0, 0, 0, 0, 0, 0],

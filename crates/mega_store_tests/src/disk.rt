@@ -129,9 +129,7 @@ fn versions_in_memory(rt: HostRuntime) {
     let keys = [b"b".as_slice(), b"a".as_slice(), b"c".as_slice()];
     for (place, key) in keys.iter().enumerate() {
         let key = Bytes::from_slice(alloc, key).expect(&rt, "refused");
-        let row = Row {
-            cells: Items::new(alloc),
-        };
+        let row = Row::new(alloc, Items::new(alloc)).expect(&rt, "refused");
         versions
             .put(alloc, &key, Position(place as u64), Some(row))
             .expect(&rt, "refused");

@@ -47,7 +47,7 @@ fn row_of(rt: &impl Abort, alloc: Global, number: i32) -> Option<Row> {
         values,
     };
     let cells = Items::from_vec(vec![in alloc; cell].expect(rt, "refused"));
-    Some(Row { cells })
+    Some(Row::new(alloc, cells).expect(rt, "refused"))
 }
 
 /// The number of a row, 0 for none.

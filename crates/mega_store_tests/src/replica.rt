@@ -10,13 +10,16 @@ use std::alloc::Global;
 fn write(alloc: Global, key: &[u8], there: bool) -> Result<Write, NoMemory> {
     let key = Bytes::from_slice(alloc, key)?;
     let row = if there {
-        Some(Row {
-            cells: Items::new(alloc),
-        })
+        Some(Row::new(alloc, Items::new(alloc))?)
     } else {
         None
     };
     Ok(Write { key, row })
+}
+
+/// The group of these entries.
+fn group(alloc: Global) -> Result<GroupId, NoMemory> {
+    GroupId::new(alloc, Bytes::from_slice(alloc, b"g")?)
 }
 
 /// An entry of these writes.
@@ -53,9 +56,7 @@ fn decided(alloc: Global, group: &GroupId) -> Result<Logs<MemRecords>, LogFault>
 #[test]
 fn entries_are_applied_when_all_their_writes_are_stored(rt: HostRuntime) {
     let alloc = rt.alloc();
-    let group = GroupId {
-        key: Bytes::from_slice(alloc, b"g").expect(&rt, "refused"),
-    };
+    let group = group(alloc).expect(&rt, "refused");
     let logs = decided(alloc, &group).expect(&rt, "refused");
     let mut stored = StoredRows::new(alloc, MemVersions::new(alloc));
     assert_eq!(rt; stored.applied(&group, &logs).0, 0);
@@ -76,9 +77,7 @@ fn entries_are_applied_when_all_their_writes_are_stored(rt: HostRuntime) {
 #[test]
 fn a_row_stands_at_the_position_of_its_entry(rt: HostRuntime) {
     let alloc = rt.alloc();
-    let group = GroupId {
-        key: Bytes::from_slice(alloc, b"g").expect(&rt, "refused"),
-    };
+    let group = group(alloc).expect(&rt, "refused");
     let logs = decided(alloc, &group).expect(&rt, "refused");
     let mut stored = StoredRows::new(alloc, MemVersions::new(alloc));
     stored

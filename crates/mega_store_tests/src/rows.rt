@@ -25,7 +25,8 @@ fn put(
         values,
     };
     let cells = Items::from_vec(vec![in alloc; cell].expect(rt, "refused"));
-    rows.put(alloc, key, Position(at), Some(Row { cells }))
+    let row = Row::new(alloc, cells).expect(rt, "refused");
+    rows.put(alloc, key, Position(at), Some(row))
         .expect(rt, "refused");
 }
 

@@ -134,9 +134,7 @@ fn other_leader(voted: &Voted) -> u8 {
 #[test]
 fn a_promise_stands_over_a_reopening(rt: HostRuntime) -> Result<(), Fail> {
     let alloc = rt.alloc();
-    let group = GroupId {
-        key: Bytes::from_slice(alloc, b"g")?,
-    };
+    let group = GroupId::new(alloc, Bytes::from_slice(alloc, b"g")?)?;
     let mut logs = fresh(alloc)?;
     let promised = prepare(alloc, &mut logs, &group, FIRST)?;
     assert!(rt; matches!(promised, Promised::Yes(None)));
@@ -152,9 +150,7 @@ fn a_promise_stands_over_a_reopening(rt: HostRuntime) -> Result<(), Fail> {
 #[test]
 fn another_entry_at_zero_is_refused_over_a_reopening(rt: HostRuntime) -> Result<(), Fail> {
     let alloc = rt.alloc();
-    let group = GroupId {
-        key: Bytes::from_slice(alloc, b"g")?,
-    };
+    let group = GroupId::new(alloc, Bytes::from_slice(alloc, b"g")?)?;
     let mut logs = fresh(alloc)?;
     for (leader, other) in [(1, 0), (1, 0), (2, 1)] {
         let entry = empty_entry(alloc, leader)?;

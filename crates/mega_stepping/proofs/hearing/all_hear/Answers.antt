@@ -9,7 +9,6 @@ loop-operation-preserved c = λ s is.
     let hears = hears_message s c.args.clock c.args.message.now in
     let heard = c.loop-operation.heard in
     let rest = map hears (into_iter_items c.next.new.self) in
-    ap (λ (all : List Heard). all ++ rest) c.in_ok-push.ensures.ok
-    ∙ (append_assoc heard (c.in_ok-one.one ∷ []) rest
-    ∙ (ap (λ (one : Heard). heard ++ one ∷ rest) (c.in_ok-one.ensures s is)
-    ∙ (ap (λ (os : List Operation). heard ++ map hears os) (sym c.in-Some.ensures.steps.0) ∙ c.loop-operation.invariant s is)))
+    ap (λ (all : List Heard). all ++ rest) (c.in_ok-hears.ensures s is)
+    ∙ (append_assoc heard (hears c.in-Some.operation ∷ []) rest
+    ∙ (ap (λ (os : List Operation). heard ++ map hears os) (sym c.in-Some.ensures.steps.0) ∙ c.loop-operation.invariant s is))
