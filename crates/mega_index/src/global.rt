@@ -38,14 +38,49 @@ impl GlobalIndex {
         }
     }
 
+    /// The mark of the group with this key, 0 where it has none.
+    fn mark_of_key(&self, key: &Bytes) -> Position
+        ensures { result.0 ≡ (marked_in (marks_of self.now) key.now).position }
+    {
+        match self.groups.get(key) {
+            Some(held) => Position(held.position),
+            None => Position(0),
+        }
+    }
+
     /// The mark of a group, 0 where it has none.
     pub fn mark(&self, group: &GroupId) -> Position
         ensures { result.0 ≡ (marked_in (marks_of self.now) group.now.key).position }
     {
-        match self.groups.get(&*group.key) {
-            Some(held) => Position(held.position),
-            None => Position(0),
-        }
+        self.mark_of_key(&group.key)
+    }
+
+    /// Moves the mark of the group with this key on.
+    fn refresh_key(
+        &mut self,
+        alloc: Global,
+        schema: &Schema,
+        key: &Bytes,
+        entries: &[Entry],
+    ) -> Result<(), IndexFault>
+        ensures ok { OnOk result (marks_of self.new ≡ refreshed (marks_of self.old) key.now entries.now) }
+        ensures err { OnErr result (marks_of self.new ≡ marks_of self.old) }
+        ensures fault { IfErr result (λ fault. fault ≡ IndexFault.NoMemory) }
+        ensures kept { is_kept_under schema.now self.old ≡ true → is_kept_under schema.now self.new ≡ true }
+    {
+        let writes = writes_of(alloc, entries)?;
+        let touched = touched_by(alloc, schema, &self.groups, key, writes.as_slice())?;
+        hint_writes(alloc, &mut self.hints, schema, key, writes.as_slice())?;
+        hold(alloc, &mut self.groups, key, entries.len(), writes)?;
+        forget(
+            alloc,
+            &mut self.hints,
+            schema,
+            &self.groups,
+            key,
+            touched.as_slice(),
+        );
+        Ok(())
     }
 
     /// Moves the mark of a group on by the entries of its log that follow it. A refusal, which is
@@ -62,25 +97,7 @@ impl GlobalIndex {
         ensures fault { IfErr result (λ fault. fault ≡ IndexFault.NoMemory) }
         ensures kept { is_kept_under schema.now self.old ≡ true → is_kept_under schema.now self.new ≡ true }
     {
-        let writes = writes_of(alloc, entries)?;
-        let touched = touched_by(alloc, schema, &self.groups, &*group.key, writes.as_slice())?;
-        hint_writes(
-            alloc,
-            &mut self.hints,
-            schema,
-            &*group.key,
-            writes.as_slice(),
-        )?;
-        hold(alloc, &mut self.groups, &*group.key, entries.len(), writes)?;
-        forget(
-            alloc,
-            &mut self.hints,
-            schema,
-            &self.groups,
-            &*group.key,
-            touched.as_slice(),
-        );
-        Ok(())
+        self.refresh_key(alloc, schema, &group.key, entries)
     }
 
     /// What is found in the global index with this number of the entries that begin with these values, in

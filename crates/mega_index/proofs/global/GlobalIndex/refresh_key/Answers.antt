@@ -7,7 +7,7 @@ use Rattle.mega_index.specs.Marks.{Marked, Marks, marked_in}
 use Rattle.mega_index.specs.Hints.{all_hinted, writes_are_hinted}
 use Rattle.mega_index.specs.Keeping.{marks_in, moved}
 use Rattle.mega_index.proofs.Kept.{marks_more, moved-hinted, moved-advanced}
-use Rattle.mega_index.proofs.global.GlobalIndex.refresh.Goals as goal
+use Rattle.mega_index.proofs.global.GlobalIndex.refresh_key.Goals as goal
 
 pub returns-in_err-hint_writes-clause-kept : goal.returns-in_err-hint_writes-clause-kept
 returns-in_err-hint_writes-clause-kept c = λ h.
@@ -21,7 +21,7 @@ returns-in_err-hold-clause-kept c = λ h.
 pub returns-clause-ok : goal.returns-clause-ok
 returns-clause-ok c =
     let marks = marks_in c.args.self.now.groups.entries in
-    let g = c.args.group.now.key in
+    let g = c.args.key.now in
     c.in_ok-hold.ensures.ok
     ∙ ap (λ (m : Marked). insert_entry key_cmp marks g m)
     (ap (λ (ws : List Write). moved (length c.args.entries.now) ws (marked_in marks g)) c.in_ok-writes.ensures ∙ moved-advanced c.args.entries.now (marked_in marks g))
@@ -29,7 +29,7 @@ returns-clause-ok c =
 pub returns-clause-kept : goal.returns-clause-kept
 returns-clause-kept c = λ h.
     let marks = marks_in c.args.self.now.groups.entries in
-    let g = c.args.group.now.key in
+    let g = c.args.key.now in
     c.forget.ensures
     (ap (λ (marks : Marks). all_hinted c.args.schema.now c.hint_writes.new.hints marks) c.in_ok-hold.ensures.ok
     ∙ moved-hinted c.args.schema.now c.hint_writes.new.hints marks g _ c.in_ok-writes.writes.items
