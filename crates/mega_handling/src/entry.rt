@@ -20,11 +20,18 @@ use std::alloc::Global;
 /// The most bytes that an entry may have.
 pub const MOST_BYTES: u64 = 32768;
 
+/// The length of a group's key.
+fn key_length(group: &GroupId) -> u64
+    ensures { result ≡ length group.now.key }
+{
+    group.key.len() as u64
+}
+
 /// The length of the entry of an operation that handles a message with these.
 fn entry_length(name: &Name, writes: &[Write], sends: &[Send]) -> Result<u64, NoMemory>
     ensures { IfOk result (λ n. (op : Op) → n ≡ length (entry_text (entry_handling op name.now (writes.now, sends.now)))) }
 {
-    let marked = sum(44, name.group.key.len() as u64)?;
+    let marked = sum(44, key_length(&name.group))?;
     let written = writes_length(writes)?;
     let sent = sends_length(sends)?;
     let made = sum(written, sent)?;

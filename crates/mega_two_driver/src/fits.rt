@@ -97,17 +97,23 @@ fn are_writes_apart(writes: &[Write]) -> bool
     }
 }
 
+fn group_key(txn: &Transaction) -> &[u8]
+    ensures { result.now ≡ group_key txn.now }
+{
+    txn.group.key.as_slice()
+}
+
 fn is_group(key: &[u8], other: &Transaction) -> bool
     ensures { result ≡ same_key key.now (group_key other.now) }
 {
-    key.cmp(other.group.key.as_slice()).is_eq()
+    key.cmp(group_key(other)).is_eq()
 }
 
 fn is_new_group(txn: &Transaction, txns: &[Transaction]) -> bool
     ensures { result ≡ is_new (group_key txn.now) (map group_key txns.now) }
 {
     for other in txns {
-        if is_group(txn.group.key.as_slice(), other) {
+        if is_group(group_key(txn), other) {
             return false;
         }
     }

@@ -33,6 +33,13 @@ pub fn tables_of(schema: &Schema) -> &[Table]
     tables.split_at(64).0
 }
 
+/// The bytes of a group's key.
+fn key_of(group: &GroupId) -> &[u8]
+    ensures { result.now ≡ group.now.key }
+{
+    group.key.as_slice()
+}
+
 /// All rows of a group's tables at a position. It fails as the store does, or where memory is wanting.
 pub fn table_rows<V: Versions>(
     alloc: Global,
@@ -45,7 +52,7 @@ pub fn table_rows<V: Versions>(
     ensures looks { Looks V.Versions (result_err result) rows.old rows.new }
 {
     let mut found = BTreeMap::new(alloc);
-    let group = group.key.as_slice();
+    let group = key_of(group);
     let mut number = 0;
     for table in tables_of(schema) {
         number += 1;

@@ -29,9 +29,9 @@ loop-table-preserved g c =
     record {
       counted = omega arith;
       through = λ told.
-          let before : AreThrough s c.as_slice-group.result.now (rows_at (g.V.Versions.version c.loop-table.rows) p) index (get key_cmp c.loop-table.found) = coe 1 0 (i. AreThrough s (c.as_slice-group.ensures i) (rows_at (looked i) p) (sym c.loop-table.invariant.counted i) (get key_cmp c.loop-table.found)) (c.loop-table.invariant.through told) in
+          let before : AreThrough s c.key_of-group.result.now (rows_at (g.V.Versions.version c.loop-table.rows) p) index (get key_cmp c.loop-table.found) = coe 1 0 (i. AreThrough s (c.key_of-group.ensures i) (rows_at (looked i) p) (sym c.loop-table.invariant.counted i) (get key_cmp c.loop-table.found)) (c.loop-table.invariant.through told) in
           let after = c.in_ok-add_table.ensures.found told index counted (table_there s.tables c.tables_of-table-items.result.now index c.table-item.result c.tables_of-table-items.ensures.exact (omega arith) c.table-item.is) before in
-          coe 0 1 (i. AreThrough s (c.as_slice-group.ensures i) (rows_at (looked i) p) (sym counted i) (get key_cmp c.add_table.new.found)) after;
+          coe 0 1 (i. AreThrough s (c.key_of-group.ensures i) (rows_at (looked i) p) (sym counted i) (get key_cmp c.add_table.new.found)) after;
       looks = search rules;
     }
 
