@@ -161,6 +161,7 @@ pub fn takes<R: Records, V: Versions>(
 }
 
 /// The operations act on what they heard.
+#[tactic(auto, using(mega_replica::proofs::Using::used_here))]
 pub fn acts<R: Records, V: Versions, H: QueueHandlers>(
     alloc: Global,
     handlers: &mut H,

@@ -43,6 +43,7 @@ pub struct Ticked {
 }
 
 /// The operations act at a tick.
+#[tactic(auto, using(mega_replica::proofs::Using::used_here))]
 pub fn acts_ticked<R: Records, V: Versions, H: QueueHandlers>(
     alloc: Global,
     handlers: &mut H,
