@@ -17,7 +17,7 @@ ghost use Rattle.mega_view.specs.Small.{IsSmall};
 ghost use Rattle.mega_view.specs.Scanning.{is_it};
 ghost use Rattle.mega_view.specs.Shows.{Shows};
 
-use crate::keys::is_in;
+use crate::keys::{is_in, key_of};
 use crate::scanning::scan_table;
 use mega_base::{Bytes, GroupId, Items, NoMemory, Position, Row, Value};
 use mega_disk::{StoreError, Versions};
@@ -157,7 +157,7 @@ pub fn find_all<V: Versions>(
     if number > 64 {
         return Ok(Ok(Items::new(alloc)));
     }
-    let group = group.key.as_slice();
+    let group = key_of(group);
     let own = table_rows(alloc, schema, index.table, group, rows, at)?;
     let found = told(find_over(alloc, schema, number, group, values, own.as_slice()))?;
     Ok(found)

@@ -10,10 +10,17 @@ ghost use Rattle.mega_index.specs.Fitted.{is_key_of};
 ghost use Rattle.mega_view.specs.Keys.{AreBytes};
 ghost use Rattle.mega_view.specs.Scanning.{is_in, is_it, tail_of};
 
-use mega_base::{Bytes, NoMemory, Shape, Value};
+use mega_base::{Bytes, GroupId, NoMemory, Shape, Value};
 use mega_keys::{KeyFault, group_of, read_key};
 use mega_schema::{Schema, Table};
 use std::alloc::Global;
+
+/// The bytes of a group's key.
+pub(crate) fn key_of(group: &GroupId) -> &[u8]
+    ensures { result.now ≡ group.now.key }
+{
+    group.key.as_slice()
+}
 
 /// How the keys of the table with this number are spelled.
 pub fn shape_of(

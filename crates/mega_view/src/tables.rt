@@ -10,6 +10,7 @@ ghost use Rattle.mega_outcome.specs.Answers.{rows_at};
 ghost use Rattle.mega_outcome.specs.Looks.{Looks};
 ghost use Rattle.mega_view.specs.TableRows.{AreTableRows};
 
+use crate::keys::key_of;
 use crate::scanning::add_table;
 use mega_base::{Bytes, GroupId, Items, NoMemory, Position};
 use mega_disk::{StoreError, Versions};
@@ -31,13 +32,6 @@ pub fn tables_of(schema: &Schema) -> &[Table]
         return tables;
     }
     tables.split_at(64).0
-}
-
-/// The bytes of a group's key.
-fn key_of(group: &GroupId) -> &[u8]
-    ensures { result.now ≡ group.now.key }
-{
-    group.key.as_slice()
 }
 
 /// All rows of a group's tables at a position. It fails as the store does, or where memory is wanting.

@@ -17,7 +17,7 @@ returns-clause-exact g c told small listed shows =
     let looked = rows_at (g.V.Versions.version c.args.rows.now) c.args.at.0 in
     let there : numbered s.indexes n ≡ Some index = sym c.in-Some.ensures in
     let same = same_found s group looked listed own n index c.args.values.now there shows
-    (λ table is. coe 0 1 (i. AreOwnRows s index.table table (c.as_slice-group.ensures i) looked own) (c.in_ok-own.ensures.own told small table is)) in
+    (λ table is. coe 0 1 (i. AreOwnRows s index.table table (c.key_of-group.ensures i) looked own) (c.in_ok-own.ensures.own told small table is)) in
     c.in_ok-found.ensures (found_over s n group.key c.args.values.now listed)
     (coe 0 1 (i. GivesOrPlace (λ found. found.items) c.find_over.result (same i))
-    (coe 0 1 (i. GivesOrPlace (λ found. found.items) c.find_over.result (found_over s n (c.as_slice-group.ensures i) c.args.values.now (c.as_slice.ensures.value i))) c.find_over.ensures))
+    (coe 0 1 (i. GivesOrPlace (λ found. found.items) c.find_over.result (found_over s n (c.key_of-group.ensures i) c.args.values.now (c.as_slice.ensures.value i))) c.find_over.ensures))
