@@ -56,6 +56,10 @@ pub struct Work {
 fn extend(sends: &mut Items<Message>, more: Items<Message>) -> Result<(), NoMemory>
     ensures { OnOk result (sends.new ≡ sends.old ++ more) }
 {
+    if sends.is_empty() {
+        *sends = more;
+        return Ok(());
+    }
     for message in more.into_vec() {
         sends.push(message)?;
     }
