@@ -99,7 +99,9 @@ fn stays<R: Records>(voter: &Voter<R>, operation: &Operation) -> bool
     match &operation.phase {
         Phase::Reads { reading, .. } => reading.through_of().is_none(),
         Phase::Proposes {
-            group, position, ..
+            group,
+            position,
+            ..
         } => voter.decided(group, Position(*position)).is_none(),
     }
 }
