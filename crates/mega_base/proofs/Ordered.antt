@@ -1,5 +1,5 @@
 -- Two lists that are compared from a place on: where they agree so far, what is left decides.
-use Rattle.std.proofs.Common.{◌≡◌, ℕ, zero, suc, ◌+◌, ◌<◌, ◌≤◌, List, [], ◌∷◌, length, get_or, drop, take, length-drop, refl, sym, ◌∙◌, ap, arith, min}
+use Rattle.std.proofs.Common.{◌≡◌, ℕ, zero, suc, ◌+◌, ◌<◌, ◌≤◌, List, [], ◌∷◌, length, get_or, drop, length-drop, refl, sym, ◌∙◌, ap, arith, min}
 use Rattle.std.specs.Cmp.{ranked}
 use Rattle.std.specs.Cmp.Lexicographic.{slice_cmp}
 use Rattle.std.specs.declared.cmp.Ordering.{Ordering}
@@ -46,19 +46,3 @@ ended xs ys i r m h =
     let p = length-drop i xs in
     let q = length-drop i ys in
     by_lengths (drop i xs) (drop i ys) r (omega arith) (shifted (length xs) (length ys) i (length (drop i xs)) (length (drop i ys)) r m (omega arith) (omega arith) (ranked _ _ r h))
-
--- of two numbers that are one, what follows decides
-alike : (x y : ℕ) (r rest : Ordering) → MatchOrdering r (x < y) (x ≡ y) (y < x) → x ≡ y → ordering_then r rest ≡ rest
-alike x y Less rest m e = let l : x < y = m in absurd (omega arith)
-alike x y Equal rest m e = refl
-alike x y Greater rest m e = let l : y < x = m in absurd (omega arith)
-
--- lists that begin alike compare as what is left of them
-pub same_front : (xs ys : List ℕ) (n : ℕ) → n ≤ length xs → n ≤ length ys → take n xs ≡ take n ys → slice_cmp nat_cmp (drop n xs) (drop n ys) ≡ slice_cmp nat_cmp xs ys
-same_front xs ys zero h g e = refl
-same_front [] ys (suc n) h g e = absurd (omega arith)
-same_front (x ∷ xs) [] (suc n) h g e = absurd (omega arith)
-same_front (x ∷ xs) (y ∷ ys) (suc n) h g e =
-    let head : x ≡ y = ap (λ l. get_or l 0 x) e in
-    let tail : take n xs ≡ take n ys = ap (λ l. drop 1 l) e in
-    same_front xs ys n (omega arith) (omega arith) tail ∙ sym (alike x y (nat_cmp x y) (slice_cmp nat_cmp xs ys) (ranked x y (nat_cmp x y) refl) head)

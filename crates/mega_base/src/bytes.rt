@@ -161,38 +161,12 @@ impl Ord for Bytes {
     }
 }
 
-/// The first eight bytes, as one number.
-#[tactic(auto, unfolding(crate::specs::Codec::number_text))]
-fn word(bytes: &[u8]) -> u64
-    requires { 8 ≤ length bytes.now }
-    ensures { number_text 8 result ≡ take 8 bytes.now }
-{
-    let (front, _) = bytes.split_at(8);
-    u64::from_be_bytes([
-        front[0], front[1], front[2], front[3], front[4], front[5], front[6], front[7],
-    ])
-}
-
-/// Eight, where so many bytes stand in both and the first eight are the same, or none: the rest then compare as the whole strings do.
-fn shared_front(a: &[u8], b: &[u8]) -> usize
-    ensures least { (result ≤ length a.now) × (result ≤ length b.now) }
-    ensures rest { slice_cmp nat_cmp (drop result a.now) (drop result b.now) ≡ slice_cmp nat_cmp a.now b.now }
-{
-    if a.len() < 8 || b.len() < 8 {
-        return 0;
-    }
-    if word(a) != word(b) {
-        return 0;
-    }
-    8
-}
-
-/// How two byte strings compare: the first eight bytes at once where they are the same, as in most keys, and then byte by byte.
+/// How two byte strings compare, byte by byte. Keys are short, so this costs less than the comparison of slices, which looks for long equal fronts first.
 fn order(a: &[u8], b: &[u8]) -> Ordering
     ensures { result ≡ slice_cmp nat_cmp a.now b.now }
 {
     let both = a.len().min(b.len());
-    for i in shared_front(a, b)..both {
+    for i in 0..both {
         let found = a[i].cmp(&b[i]);
         if found.is_ne() {
             return found;
