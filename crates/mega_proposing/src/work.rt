@@ -56,6 +56,10 @@ pub struct Work {
 fn extend(sends: &mut Items<Message>, more: Items<Message>) -> Result<(), NoMemory>
     ensures { OnOk result (sends.new ≡ sends.old ++ more) }
 {
+    if sends.is_empty() {
+        *sends = more;
+        return Ok(());
+    }
     for message in more.into_vec() {
         sends.push(message)?;
     }
@@ -63,20 +67,8 @@ fn extend(sends: &mut Items<Message>, more: Items<Message>) -> Result<(), NoMemo
 }
 
 impl Work {
-    /// A step that has come to nothing yet.
-    pub fn new(alloc: Global) -> Work
-        ensures { result ≡ record { kept = []; valid = []; answers = []; sends = [] } }
-    {
-        Work {
-            kept: Items::new(alloc),
-            valid: Items::new(alloc),
-            answers: Items::new(alloc),
-            sends: Items::new(alloc),
-        }
-    }
-
-    /// The same, with room for so many operations that stay open.
-    pub fn with_room(alloc: Global, operations: usize) -> Result<Work, NoMemory>
+    /// A step that has come to nothing yet, with room for so many operations that stay open.
+    pub fn new(alloc: Global, operations: usize) -> Result<Work, NoMemory>
         ensures { IfOk result (λ work. work ≡ record { kept = []; valid = []; answers = []; sends = [] }) }
     {
         let kept = Items::with_capacity(alloc, operations)?;

@@ -13,6 +13,10 @@ use mega_wire::Message;
 pub fn add_sends(sends: &mut Items<Message>, more: Items<Message>) -> Result<(), NoMemory>
     ensures { OnOk result (sends.new ≡ sends.old ++ more) }
 {
+    if sends.is_empty() {
+        *sends = more;
+        return Ok(());
+    }
     for message in more.into_vec() {
         sends.push(message)?;
     }

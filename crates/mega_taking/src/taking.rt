@@ -183,7 +183,7 @@ pub fn acts<R: Records, V: Versions, H: QueueHandlers>(
     ensures unserved { result ≡ Err act.Unserved → All IsServableHeard heard → ⊥ }
     ensures used { StoreUsed V.Versions (failed_to_act result) replica.old.rows.rows replica.new.rows.rows }
 {
-    let mut work = Work::with_room(alloc, heard.len())?;
+    let mut work = Work::new(alloc, heard.len())?;
     replica.all_act(alloc, handlers, &mut work, heard)?;
     Ok(work)
 }

@@ -66,7 +66,7 @@ pub fn acts_ticked<R: Records, V: Versions, H: QueueHandlers>(
     ensures unserved { result ≡ Err act.Unserved → All IsServable operations → ⊥ }
     ensures used { StoreUsed V.Versions (failed_to_act result) replica.old.rows.rows replica.new.rows.rows }
 {
-    let mut work = Work::with_room(alloc, operations.len())?;
+    let mut work = Work::new(alloc, operations.len())?;
     replica.all_ticked(alloc, handlers, &mut work, now, operations)?;
     Ok(work)
 }
