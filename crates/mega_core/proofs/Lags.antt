@@ -160,13 +160,6 @@ all_applied (entry ∷ log) stored le = by (nat_le (length entry.writes) stored)
 not_below : (a b : ℕ) → b ≤ a → nat_lt a b ≡ false
 not_below a b le = grind (arith, nat_tests)
 
-pub started_whole : (lagging : BTreeSet GroupId) (c : Cluster) (me : ℕ) (h : Meanings) → KnowsLagging c me lagging (start (setting c me h) 1 [] []).met (start (setting c me h) 1 [] []).stored
-started_whole lagging c me h = λ rows group out. by (has_rows c me) group
-  where
-    by : (t : Bool) (group : GroupId) → is_behind (onto ((Starts 1 ∷ []) ++ cond t [] []) []) (λ (one : GroupId). cond t (apply_all [] one) 0) group ≡ false
-    by true group = refl
-    by false group = refl
-
 pub restarted_whole : (lagging : BTreeSet GroupId) (c : Cluster) (me : ℕ) (h : Meanings) (old : Kept) (starts : ℕ) (met owed : List Met) → AreOwed owed met → starts < 4294967295 → Recalls old starts (onto owed met)
     → KnowsLagging c me lagging (start (setting c me h) (starts + 1) owed met).met (start (setting c me h) (starts + 1) owed met).stored
 restarted_whole lagging c me h old starts met owed are few recalls = λ rows group out.

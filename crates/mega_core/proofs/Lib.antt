@@ -7,7 +7,6 @@ pub mod Walked
 pub mod Ended
 pub mod Begun
 pub mod Messages
-pub mod Opened
 pub mod Clocks
 pub mod Refused
 pub mod Untouched

@@ -6,7 +6,6 @@ mod beginning;
 mod ending;
 mod node;
 mod restarting;
-mod starting;
 
 pub use mega_actions;
 pub use mega_stepping;

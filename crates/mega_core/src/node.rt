@@ -1,40 +1,30 @@
-//! A node of a cluster: its start, and the step of each event.
-ghost use Rattle.std.specs.Prelude.{◌≡◌, ◌≢◌, ◌⊎◌, ℕ, List, [], map, None, true, false, IfOk, OnOk, OnErr, Err};
+//! A node of a cluster, and the step of each event.
+ghost use Rattle.std.specs.Prelude.{◌≡◌, ◌≢◌, List, map, true, false, IfOk, OnOk, Err};
 ghost use Rattle.mega_handler.specs.Named.{Meanings};
 ghost use Rattle.mega_stepping.specs.of_leases.Taking.{IsByStranger, IsLate};
-ghost use Rattle.mega_rules.specs.Members.{is_node};
 ghost use Rattle.mega_rules.specs.Met.{Met};
 ghost use Rattle.mega_rules.specs.Operations.{Node as RuleNode};
-ghost use Rattle.mega_rules.specs.Steps.{Begin, Take, Tick, start, step};
+ghost use Rattle.mega_rules.specs.Steps.{Begin, Take, Tick, step};
 ghost use Rattle.mega_replica.specs.Used.{StoreUsed};
-ghost use Rattle.mega_wal.specs.Kept.{Represents as Holds};
 ghost use Rattle.mega_actions.specs.of_proposing.Servable.{is_served};
 ghost use Rattle.mega_actions.specs.IsAt.{setting_of};
-ghost use Rattle.mega_actions.specs.of_proposing.Settings.{setting};
-ghost use Rattle.mega_taking.specs.declared.fault.StepFault.TheVariants.{Late, NoMemory, Stranger, Unserved};
+ghost use Rattle.mega_taking.specs.declared.fault.StepFault.TheVariants.{Late, Stranger, Unserved};
 ghost use Rattle.mega_taking.specs.Faults.{failed_by};
 ghost use Rattle.mega_stepping.specs.Notes.{met_of};
-ghost use Rattle.mega_core.specs.Served.{IsServed};
 ghost use Rattle.mega_stepping.specs.Staging.{Stages};
 ghost use Rattle.mega_core.specs.Standing.{StandsFor};
 ghost use Rattle.mega_core.specs.Stepping.{AtEach, IsStrange, IsTooLate, IsUnserved};
 ghost use Rattle.mega_stepping.specs.Events.{event_of};
 
-use crate::starting::{leases_of, members_of, voter_of};
 use mega_actions::Replica;
-use mega_actions::mega_marks::Indexed;
-use mega_actions::mega_pumps::Digest;
 use mega_base::{Copied, GroupId, Items, Text};
-use mega_cluster::Cluster;
 use mega_disk::{Records, Versions};
 use mega_lagging::{behind, watched};
 use mega_meanings::QueueHandlers;
 use mega_outcome::Request;
-use mega_replica::StoredRows;
 use mega_stepping::mega_operations::Operation;
 use mega_stepping::{Event, Step, all_hear, begun_groups, touched};
 use mega_taking::{StepFault, Taken, Ticked, acts, acts_ticked, takes, ticks};
-use mega_wal::Logs;
 use mega_wire::Message;
 use std::alloc::Global;
 use std::collections::BTreeSet;
@@ -48,50 +38,6 @@ pub struct Node<R: Records, V: Versions> {
     pub open: Items<Operation>,
     pub begun: u32,
     pub lagging: BTreeSet<GroupId>,
-}
-
-impl<R: Records + Drop, V: Versions + Drop> Node<R, V> {
-    /// The node of this number at its first start, over logs and rows that hold nothing; `Unserved` where the logs tell of
-    /// a start.
-    pub fn start(
-        alloc: Global,
-        cluster: Cluster,
-        me: u8,
-        logs: Logs<R>,
-        rows: V,
-    ) -> Result<Node<R, V>, StepFault>
-        requires served { IsServed cluster }
-        requires member { is_node cluster me ≡ true }
-        ensures state { IfOk result (λ node. (h : Meanings) → Holds logs.kept [] → ((key : List ℕ) (n : ℕ) → V.version rows key n ≡ None) →
-            StandsFor V.version h node
-            (start (setting cluster me h) 1 [] [])) }
-        ensures members { IfOk result (λ node. node.replica.members ≡ cluster) }
-        ensures me { IfOk result (λ node. node.replica.me ≡ me) }
-        ensures unserved { result ≡ Err Unserved → Holds logs.kept [] → ⊥ }
-        ensures only { OnErr result ((result ≡ Err NoMemory) ⊎ (result ≡ Err Unserved)) }
-    {
-        let members = members_of(alloc, cluster)?;
-        let voter = voter_of(alloc, logs)?;
-        let leases = leases_of(alloc, members.cluster(), me);
-        let rows = StoredRows::new(alloc, rows);
-        let indexed = Indexed::new(alloc);
-        let digest = Digest::new(alloc);
-        let replica = Replica {
-            members,
-            me,
-            voter,
-            leases,
-            rows,
-            indexed,
-            digest,
-        };
-        Ok(Node {
-            replica,
-            open: Items::new(alloc),
-            begun: 0,
-            lagging: BTreeSet::new(alloc),
-        })
-    }
 }
 
 impl<R: Records, V: Versions> Node<R, V> {

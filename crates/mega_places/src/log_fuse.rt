@@ -13,7 +13,7 @@ pub struct LogFuse {
 }
 
 /// A fuse, if one is set, after one append more.
-pub fn after_append(fuse: Option<LogFuse>) -> Option<LogFuse>
+pub(crate) fn after_append(fuse: Option<LogFuse>) -> Option<LogFuse>
     ensures { HasRoom (run_fuse fuse) → run_fuse result ≡ after_append (run_fuse fuse) }
 {
     match fuse {
@@ -28,7 +28,7 @@ pub fn after_append(fuse: Option<LogFuse>) -> Option<LogFuse>
 
 /// Whether the append in which a fuse burns is kept: its gate was the last call that went well, and the image keeps what is
 /// pending.
-pub fn keeps_record(fuse: Option<LogFuse>) -> bool
+pub(crate) fn keeps_record(fuse: Option<LogFuse>) -> bool
     ensures { result ≡ is_kept (left_by (run_fuse fuse)) }
 {
     match fuse {

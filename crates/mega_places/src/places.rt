@@ -136,7 +136,7 @@ pub fn take_down(alloc: Global, places: &mut Vec<Place>, me: u8)
 }
 
 /// The node of a number, whose step its log's fuse cut off, goes down.
-pub fn cut_down(alloc: Global, places: &mut Vec<Place>, me: u8, cut: Cut)
+pub(crate) fn cut_down(alloc: Global, places: &mut Vec<Place>, me: u8, cut: Cut)
     requires least { 1 ≤ me }
     requires most { me ≤ length places.old.items }
     ensures { (member : MemberValue) → slice_get places.old.items (me - 1) ≡ Some (Up member) →

@@ -18,7 +18,6 @@ pub use mega_operations;
 pub use mega_voter;
 pub use proposing::{Proposing, unless_decided};
 pub use serving::{
-    group_asked, is_answered, is_at_once, is_indexed, is_plain, is_proposed, is_pump, is_served,
-    mode_asked,
+    group_asked, is_answered, is_at_once, is_indexed, is_proposed, is_pump, is_served, mode_asked,
 };
 pub use work::{Answered, Valid, Work};

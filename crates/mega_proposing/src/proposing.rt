@@ -86,7 +86,7 @@ pub fn unless_decided(
 }
 
 /// The leader of the position after one: the node that the entry there names, and of position 1 the lowest voter.
-pub fn leader_after<R: Records>(
+fn leader_after<R: Records>(
     members: &Members,
     voter: &Voter<R>,
     group: &GroupId,

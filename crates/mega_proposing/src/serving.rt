@@ -74,7 +74,7 @@ pub fn is_pump(request: &Request) -> bool
 
 /// Whether a request is served whose operation looks at one group alone: a transaction, a batch of at most 16, a read,
 /// or a find in a group.
-pub fn is_plain(request: &Request) -> bool
+fn is_plain(request: &Request) -> bool
     ensures { result ≡ is_plain request.now }
 {
     is_proposed(request) || is_answered(request)

@@ -75,7 +75,7 @@ fn told_decision(alloc: Global, body: &Body) -> Result<Option<Chosen>, NoMemory>
 }
 
 /// Whether a message tells a decision by itself.
-pub fn tells_decision(body: &Body) -> bool
+pub(crate) fn tells_decision(body: &Body) -> bool
     ensures { result ≡ is_some (told_decision body.now) }
 {
     matches!(body, Body::Decide { .. } | Body::Have { .. })

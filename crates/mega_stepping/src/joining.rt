@@ -54,7 +54,7 @@ fn add_answers(notes: &mut Items<Note>, answers: Items<Answered>) -> Result<(), 
 }
 
 /// Adds what the cell and the coordinator note.
-pub fn add_of_leases(notes: &mut Items<Note>, more: Items<OfLeases>) -> Result<(), NoMemory>
+pub(crate) fn add_of_leases(notes: &mut Items<Note>, more: Items<OfLeases>) -> Result<(), NoMemory>
     ensures { OnOk result (map met_of notes.new ≡ map met_of notes.old ++ map leases_met more) }
 {
     for note in more.into_vec() {

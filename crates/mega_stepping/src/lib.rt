@@ -17,7 +17,7 @@ mod storing;
 mod touching;
 
 pub use applying::{Before, apply_notes, positions};
-pub use deciding::{Chosen, decides, decision, note_decision, tells_decision};
+pub use deciding::{Chosen, decides, decision, note_decision};
 pub use event::Event;
 pub use fetching::background;
 pub use hearing::all_hear;

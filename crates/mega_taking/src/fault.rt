@@ -15,7 +15,7 @@ pub enum StepFault {
     Full { length: u64 },
     /// The bytes that were read of this run are none of the format.
     BadRecord { number: u64 },
-    /// A batch of more than 16 transactions was asked for, or a node is to start first over logs that tell of a start.
+    /// A batch of more than 16 transactions was asked for.
     Unserved,
     /// The message is of a node that is none of 1 to 9, or asks about one.
     Stranger,
