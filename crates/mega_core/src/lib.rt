@@ -8,7 +8,8 @@ mod node;
 mod restarting;
 
 pub use mega_actions;
+pub use mega_propose;
 pub use mega_stepping;
-pub use mega_taking::StepFault;
+pub use mega_taking::{StepFault, next_op};
 pub use node::Node;
 pub use restarting::{RestartFault, Restarted};

@@ -10,6 +10,5 @@ pub mod Owing
 pub mod Stepping
 pub mod Burning
 pub mod Refusing
-pub mod Named
 pub mod Summing
 pub mod AfterSpill

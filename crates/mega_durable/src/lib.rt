@@ -1,12 +1,12 @@
 //! A node over its records: nothing that it promises is sent before its record is kept (Lamport 2001; CIDR 2011).
 #![tactic(auto)]
 
+mod asking;
 mod compacting;
 mod cut;
 mod down;
 mod fault;
 mod keeping;
-mod naming;
 mod noting;
 mod replying;
 mod spilling;

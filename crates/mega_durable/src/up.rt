@@ -29,7 +29,7 @@ use std::alloc::Global;
 /// step is given out. After a fault it is used no more but to be crashed.
 #[derive(Drop)]
 pub struct Up<R: Records, V: Versions> {
-    pub node: Node<R, V>,
+    pub(crate) node: Node<R, V>,
 }
 
 impl<R: Records, V: Versions> Up<R, V> {

@@ -1,8 +1,7 @@
 -- One node of a world makes a step.
-use Rattle.std.proofs.Common.{◌≡◌, ℕ, ◌+◌, ◌-◌, ◌≤◌, ◌&&◌, min, cond, Bool, true, false, List, [], ◌∷◌, get_or, length, map, Option, Some, refl, sym, ap, ◌∙◌, subst, arith}
+use Rattle.std.proofs.Common.{◌≡◌, ℕ, ◌+◌, ◌-◌, ◌≤◌, ◌&&◌, cond, Bool, true, false, List, [], ◌∷◌, get_or, length, map, Option, Some, refl, sym, ap, ◌∙◌, subst, arith}
 use Rattle.std.proofs.lemmas.Option.{slice_get_read}
 use Rattle.std.specs.List.{slice_get}
-use Rattle.mega_base.specs.declared.names.OpId.{OpId}
 use Rattle.mega_cluster.specs.declared.cluster.Cluster.{Cluster}
 use Rattle.mega_disk.specs.declared.mem_records.MemRecords.{MemRecords}
 use Rattle.mega_disk.specs.Fuse.{Unset, after_append as less, is_short, keeps_record}
@@ -10,13 +9,12 @@ use Rattle.mega_disk.specs.MemDisk.{fuse_of, image_of}
 use Rattle.mega_rows.specs.declared.rows.VersionedRows.{VersionedRows}
 use Rattle.mega_handler.specs.Named.{Meaning, Meanings}
 use Rattle.mega_voter.specs.Holding.{HoldsMet}
-use Rattle.mega_voter.specs.Telling.{Tells}
 use Rattle.mega_durable.specs.of_actions.of_proposing.Settings.{setting as at_node}
 use Rattle.mega_leases.specs.Opening.{AreOwed}
-use Rattle.mega_rules.specs.Clock.{begun_of, start_of}
+use Rattle.mega_rules.specs.Clock.{start_of}
 use Rattle.mega_rules.specs.Met.{Crashes, Met}
 use Rattle.mega_rules.specs.Operations.{Node as RuleNode, Setting}
-use Rattle.mega_rules.specs.Steps.{Event, op_of, step}
+use Rattle.mega_rules.specs.Steps.{Event, step}
 use Rattle.mega_replica.specs.Following.{progress_at}
 use Rattle.mega_node_laws.specs.Acted.{own_item}
 use Rattle.mega_durable.specs.of_core.declared.node.Node.{Node}
@@ -174,17 +172,3 @@ was_cut {makes} c h me ruled fuse member stepped cut event one fused may same sa
 -- the node at a place of a list, counted from 1
 pub found : {X : Type 0} (xs : List X) (i me : ℕ) (x : X) → i ≡ me - 1 → 1 ≤ me → me ≤ length xs → x ≡ get_or xs i x → slice_get xs i ≡ Some x
 found xs i me x is least most value = slice_get_read xs (length xs) i x refl (omega (arith, is, least, most)) value
-
--- the next number is the same where the count stops at the last one
-next : (begun n number : ℕ) → number ≡ min (begun + 1) 4294967295 → begun ≡ min n 4294967295 → number ≡ min (n + 1) 4294967295
-next begun n number is counted = omega (arith, is, counted)
-
--- the id under which an operation begins
-pub id_is : (c : Cluster) (h : Meanings) (me : ℕ) (member : Member) (ruled : RuleNode) (start number : ℕ) → IsMember c me member ruled
-    → ((met : List Met) → Tells (node_in member).replica.voter.logs.kept met → start ≡ start_of met) → number ≡ min ((node_in member).begun + 1) 4294967295
-    → ◌≡◌ {A = OpId} (record { node = record { 0 = (node_in member).replica.me }; start = start; number = number }) (op_of (setting c h me) ruled.met)
-id_is c h me member ruled start number one starts counts =
-    let told = one.told h in
-    ap (λ (n : ℕ). record { node = record { 0 = n }; start = start; number = number }) one.number
-    ∙ ap (λ (n : ℕ). record { node = record { 0 = me }; start = n; number = number }) (starts ruled.met told.tells)
-    ∙ ap (λ (n : ℕ). record { node = record { 0 = me }; start = start_of ruled.met; number = n }) (next (node_in member).begun (begun_of ruled.met) number counts told.begun_is)

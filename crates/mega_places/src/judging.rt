@@ -19,7 +19,7 @@ fn counts(places: &[Place], node: u8, cell: u8, epoch: Epoch) -> bool
     ensures { (c : Cluster) (ruled : ℕ → RuleNode) → AreMembers c places.now ruled → result ≡ counts_cell c (ruled node).met cell epoch }
 {
     match member_of(places, usize::from(node)) {
-        Some(member) => member.up.node.replica.leases.counts(cell, epoch),
+        Some(member) => member.up.counts(cell, epoch),
         None => false,
     }
 }

@@ -1,6 +1,7 @@
 //! A node of a world that is up, over logs and rows in memory, with the fuse on its log.
 ghost use Rattle.std.specs.Prelude.{◌≡◌, ◌≢◌, ◌⊎◌, ◌+◌, ℕ, Err, Option};
 ghost use Rattle.mega_cluster.specs.declared.cluster.Cluster.{Cluster};
+ghost use Rattle.mega_rules.specs.Clock.{clock_of};
 ghost use Rattle.mega_rules.specs.Operations.{Node as RuleNode};
 ghost use Rattle.mega_durable.specs.of_core.of_stepping.Events.{event_of};
 ghost use Rattle.mega_promises.specs.Runs.{Fuse, after_append, new_fuse};
@@ -23,8 +24,8 @@ use std::alloc::Global;
 /// A node that is up, and the fuse that is set on its log.
 #[derive(Drop)]
 pub struct Member {
-    pub up: Up<MemRecords, VersionedRows>,
-    pub fuse: Option<LogFuse>,
+    pub(crate) up: Up<MemRecords, VersionedRows>,
+    pub(crate) fuse: Option<LogFuse>,
 }
 
 /// A fuse, if one is set, where there were so many records before and are so many now.
@@ -39,6 +40,13 @@ fn counted(fuse: Option<LogFuse>, before: u64, now: u64) -> Option<LogFuse>
 }
 
 impl Member {
+    /// The last time that the clock of the node showed in this start.
+    pub fn clock(&self) -> u64
+        ensures { (c : Cluster) (me : ℕ) (ruled : RuleNode) → IsMember c me self.now ruled → result ≡ clock_of ruled.met }
+    {
+        self.up.clock()
+    }
+
     /// The node makes the step of an event.
     pub fn step<H: QueueHandlers>(
         &mut self,
@@ -52,10 +60,10 @@ impl Member {
         ensures served { (why : ℕ) → result ≢ Err (Fault (Refused why)) }
         ensures limited { result ≢ Err (Fault Limit) }
     {
-        let before = self.up.node.replica.voter.records();
+        let before = self.up.records();
         match self.up.step(alloc, handlers, event) {
             Ok(made) => {
-                self.fuse = counted(self.fuse, before, self.up.node.replica.voter.records());
+                self.fuse = counted(self.fuse, before, self.up.records());
                 Ok(made)
             }
             Err(UpFault::Cut(cut)) => Err(NotMade::Cut(cut)),

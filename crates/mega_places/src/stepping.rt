@@ -2,7 +2,6 @@
 ghost use Rattle.std.specs.Prelude.{◌≡◌, ◌≢◌, ◌⊎◌, ◌≤◌, ◌-◌, ℕ, List, true, false, length, set, IfOk, Err};
 ghost use Rattle.mega_cluster.specs.declared.cluster.Cluster.{Cluster};
 ghost use Rattle.mega_handler.specs.Named.{Meanings};
-ghost use Rattle.mega_rules.specs.Operations.{Node as RuleNode};
 ghost use Rattle.mega_rules.specs.Steps.{Begin, Event as RuleEvent, op_of};
 ghost use Rattle.mega_durable.specs.of_core.of_stepping.Events.{event_of};
 ghost use Rattle.mega_rules.specs.Clock.{is_up};
@@ -14,15 +13,14 @@ ghost use Rattle.mega_places.specs.declared.not_made.NotMade.TheVariants as not_
 ghost use Rattle.mega_places.specs.declared.place.Place.{Place as PlaceValue};
 ghost use Rattle.mega_places.specs.declared.place.Place.TheVariants.{Up};
 ghost use Rattle.mega_places.specs.Kept.{AreNodes};
-ghost use Rattle.mega_places.specs.Members.{IsMember, is_up_at};
+ghost use Rattle.mega_places.specs.Members.{is_up_at};
 ghost use Rattle.mega_places.specs.Stepping.{AtEachRun, Comes, IsRunning, Outcome};
 
 use crate::fault::WorldFault;
-use crate::member::Member;
 use crate::not_made::NotMade;
 use crate::place::Place;
 use crate::places::cut_down;
-use mega_base::{NodeId, OpId, Text};
+use mega_base::{OpId, Text};
 use mega_durable::mega_core::mega_stepping::{Event, Step};
 use mega_meanings::QueueHandlers;
 use mega_outcome::Request;
@@ -89,18 +87,6 @@ pub fn step_at<H: QueueHandlers>(
     }
 }
 
-/// The id of the operation that begins next at a node.
-fn op_of(member: &Member) -> OpId
-    ensures { (c : Cluster) (h : Meanings) (me : ℕ) (ruled : RuleNode) → IsMember c me member.now ruled → result ≡ op_of (setting c h me) ruled.met }
-{
-    let node = &member.up.node;
-    OpId {
-        node: NodeId(node.replica.me),
-        start: node.replica.voter.start(),
-        number: node.begun.saturating_add(1),
-    }
-}
-
 /// The id of the operation that begins next at a node that is up.
 fn op_at(places: &[Place], me: u8) -> OpId
     requires least { 1 ≤ me }
@@ -109,7 +95,7 @@ fn op_at(places: &[Place], me: u8) -> OpId
     ensures { (c : Cluster) (h : Meanings) (now : Standing) → AreNodes c places.now now → result ≡ op_of (setting c h me) (now.node me).met }
 {
     match &places[usize::from(me) - 1] {
-        Place::Up(member) => op_of(member),
+        Place::Up(member) => member.up.next_op(),
         Place::Down(_) => unreachable!(),
     }
 }

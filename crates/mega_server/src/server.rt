@@ -23,13 +23,11 @@ ghost use Rattle.mega_server.specs.Serving.{devices_of};
 use crate::faults::fault_of;
 use crate::forming::formed;
 use crate::number::Number;
-use mega_base::{NodeId, OpId};
+use mega_base::OpId;
 use mega_disk::{Records, Versions};
 use mega_durable::mega_core::mega_stepping::{Event as Given, Step};
 use mega_durable::{Up, UpFault};
 use mega_meanings::QueueHandlers;
-use mega_operations::Operation;
-use mega_propose::is_same_op;
 use mega_schema::Schema;
 use mega_serve::{Event, Made, NodeFault, Steps};
 use std::alloc::Global;
@@ -40,13 +38,6 @@ pub struct Server<R: Records, V: Versions, H: QueueHandlers> {
     pub up: Up<R, V>,
     pub handlers: H,
     pub number: Number,
-}
-
-/// Whether an operation is open.
-fn opens(operations: &[Operation], op: OpId) -> bool
-    ensures { result ≡ list_any (λ o. same_op o.id op) operations.now }
-{
-    operations.iter().any(|one| is_same_op(one.id, op))
 }
 
 /// Before a step one record takes the place of all of a node's log where they are due for it, and its rows are spilled where they
@@ -147,7 +138,7 @@ impl<R: Records, V: Versions, H: QueueHandlers> Steps for Server<R, V, H> {
     ghost opens_are = { λ s h node journal at op. ap (list_any (λ o. same_op o.id op)) (sym at.up.stands.within.opened) };
 
     fn schema(&self) -> &Schema {
-        &self.up.node.replica.members.cluster().schema
+        &self.up.cluster().schema
     }
 
     fn number(&self) -> u8 {
@@ -159,7 +150,7 @@ impl<R: Records, V: Versions, H: QueueHandlers> Steps for Server<R, V, H> {
     }
 
     fn is_open(&self, op: OpId) -> bool {
-        opens(self.up.node.open.as_slice(), op)
+        self.up.is_open(op)
     }
 
     fn step(&mut self, alloc: Global, event: Event) -> Result<Made, NodeFault> {

@@ -27,7 +27,7 @@ fn clock_of(places: &[Place], me: u8) -> u64
     ensures { (c : Cluster) (ruled : ℕ → RuleNode) → AreMembers c places.now ruled → is_up_at places.now me ≡ true → result ≡ clock_of (ruled me).met }
 {
     match member_of(places, usize::from(me)) {
-        Some(member) => member.up.node.replica.leases.now(),
+        Some(member) => member.clock(),
         None => 0,
     }
 }

@@ -1,7 +1,9 @@
-use Rattle.std.proofs.Common.{◌-◌, ap}
+use Rattle.std.proofs.Common.{◌-◌, ◌∙◌, ap, sym}
+use Rattle.mega_rules.specs.Operations.{Setting}
+use Rattle.mega_rules.specs.Steps.{op_of}
 use Rattle.mega_places.proofs.Joining.{not_down}
 use Rattle.mega_places.proofs.Outcomes.{stands_at}
-use Rattle.mega_places.proofs.StepsMade.{found}
+use Rattle.mega_places.proofs.StepsMade.{found, is_here, own_setting}
 use Rattle.mega_places.proofs.stepping.op_at.Goals as goal
 
 pub returns : goal.returns
@@ -12,7 +14,10 @@ returns c cluster h now all =
     let at = ap (λ n. n - 1) c.from.ensures in
     let there = found places i me c.index-places-from.result at c.requires.least c.requires.most c.index-places-from.is in
     let stands = stands_at cluster places now me i c.index-places-from.result c.in-Up.member all at c.requires.least there c.in-Up.is in
-    c.op_of.ensures cluster h me (now.node me) stands.is
+    let member = c.in-Up.member in
+    let here = is_here cluster h me member (now.node me) stands.is in
+    c.next_op.ensures h (now.node me) (record { stands = here.stands; empty = here.empty; ready = here.ready; holds = λ told. here.holds; granted = here.granted })
+    ∙ ap (λ (s : Setting). op_of s (now.node me).met) (sym (own_setting cluster h me member (now.node me) stands.is))
 
 pub unreachable-requires : goal.unreachable-requires
 unreachable-requires c =

@@ -1,5 +1,4 @@
-use Rattle.mega_durable.proofs.Named.{id_is}
 use Rattle.mega_durable.proofs.up.Up.next_op.Goals as goal
 
 pub returns : goal.returns
-returns g c h node up = id_is g.R.Records g.V.Versions.version h c.args.self.now.node node c.start.result c.saturating_add.result up c.start.ensures.exact c.saturating_add.ensures
+returns g c h node up = c.next_op.ensures c.args.self.now.node.replica.members h node.met up.stands.within.tells up.stands.within.begun_is
