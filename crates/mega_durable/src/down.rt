@@ -5,6 +5,7 @@ ghost use Rattle.mega_disk.specs.Fuse.{set_to};
 ghost use Rattle.mega_replica.specs.Following.{progress_at};
 ghost use Rattle.mega_rules.specs.Met.{Met};
 ghost use Rattle.mega_core.specs.Restarting.{HaveFollowed};
+ghost use Rattle.mega_durable.specs.Fusing.{FusesRows};
 ghost use Rattle.mega_durable.specs.Standing.{MayStart};
 
 use mega_disk::{Records, Versions};
@@ -44,5 +45,15 @@ impl<R: Records, V: Versions> Down<R, V> {
         ensures image { R.by_four ≡ true → R.fuse_image self.new.voter.logs.records ≡ image }
     {
         self.voter.fuse(calls, image);
+    }
+
+    /// Sets a fuse on the device below the node's rows, where there is one.
+    pub fn fuse_rows(&mut self, calls: u64, image: u8)
+        ensures state { (c : ClusterValue) (me starts : ℕ) (met owed : List Met) → MayStart R.Records V.version c me self.old starts met owed → MayStart R.Records V.version c me self.new starts met owed }
+        ensures rows { FusesRows V.Versions calls self.old.rows.rows self.new.rows.rows }
+        ensures progress { self.new.rows.progress ≡ self.old.rows.progress }
+        ensures voter { self.new.voter ≡ self.old.voter }
+    {
+        self.rows.rows.fuse(calls, image);
     }
 }

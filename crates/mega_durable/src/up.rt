@@ -13,6 +13,8 @@ ghost use Rattle.mega_core.specs.of_stepping.Notes.{met_of};
 ghost use Rattle.mega_promises.specs.Runs.{appends};
 ghost use Rattle.mega_durable.specs.declared.fault.UpFault.TheVariants.{Step as Failed, Unformed};
 ghost use Rattle.mega_durable.specs.Cut.{IsCutBy, IsOwedBy, IsWhole, LogProceeds, MayLeave, failed_by, log_failed_by};
+ghost use Rattle.mega_durable.specs.Fusing.{FusesRows};
+ghost use Rattle.mega_durable.specs.Spilling.{rows_in};
 ghost use Rattle.mega_durable.specs.Standing.{IsUp, records_in};
 ghost use Rattle.mega_durable.specs.Stepped.{AtEach};
 
@@ -90,5 +92,17 @@ impl<R: Records, V: Versions> Up<R, V> {
         ensures me { self.new.node.replica.me ≡ self.old.node.replica.me }
     {
         self.node.replica.voter.fuse(calls, image);
+    }
+
+    /// Sets a fuse on the device below the node's rows, where there is one.
+    pub fn fuse_rows(&mut self, calls: u64, image: u8)
+        ensures state { (h : Meanings) (node : RuleNode) → IsUp R.Records V.version h self.old.node node → IsUp R.Records V.version h self.new.node node }
+        ensures rows { FusesRows V.Versions calls (rows_in self.old.node) (rows_in self.new.node) }
+        ensures progress { self.new.node.replica.rows.progress ≡ self.old.node.replica.rows.progress }
+        ensures voter { self.new.node.replica.voter ≡ self.old.node.replica.voter }
+        ensures members { self.new.node.replica.members ≡ self.old.node.replica.members }
+        ensures me { self.new.node.replica.me ≡ self.old.node.replica.me }
+    {
+        self.node.replica.rows.rows.fuse(calls, image);
     }
 }
