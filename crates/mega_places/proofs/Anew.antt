@@ -19,10 +19,10 @@ use Rattle.mega_places.specs.declared.starting.Begun.{Begun}
 use Rattle.mega_places.specs.declared.remains.Remains.TheVariants.{OnDisk}
 use Rattle.mega_places.specs.Kept.{AreReady, IsFallen, IsReady, records_below}
 use Rattle.mega_places.specs.LogFuses.{HasRoom, IsFused, run_fuse}
-use Rattle.mega_places.specs.Members.{node_in, records_of}
+use Rattle.mega_places.specs.Members.{IsUpAs, node_in, records_of}
 use Rattle.mega_places.specs.Starting.{BeginsSo, FallsAgain, IsOpened}
 use Rattle.mega_places.proofs.Fuses.{fused_more, fused_same, leaves, short_is}
-use Rattle.mega_places.proofs.StepsMade.{IsHere, as_member}
+use Rattle.mega_places.proofs.StepsMade.{as_member}
 
 -- records that hold nothing
 pub nothing_held : (records : MemRecords) → records.list.items ≡ [] → HoldsMet records.list.items 0 []
@@ -52,7 +52,7 @@ not_short fuse kept records is long = sym (ap is_short is.left ∙ short_is fuse
 -- ---- a node that starts over them
 pub started_over : (c : Cluster) (me : ℕ) (down : DownNode MemRecords VersionedRows) (kept : Option LogFuse) (owing : Option Cut) (starts : ℕ) (owed met : List Met) (fuse : Option Fuse) (begun : Begun) → IsOpened c me down kept starts owed met fuse
     → begun.start ≡ down.voter.logs.kept.starts + 1 → begun.owed ≡ owing → ((h : Meanings) → map met_of begun.notes ≡ start_notes (setting c h me) (onto owed (Starts (starts + 1) ∷ met)))
-    → (node_in begun.member).replica.members ≡ c → (node_in begun.member).replica.me ≡ me → ((h : Meanings) → IsHere h (node_in begun.member) (start (setting c h me) (starts + 1) owed met))
+    → (node_in begun.member).replica.members ≡ c → (node_in begun.member).replica.me ≡ me → ((h : Meanings) → IsUpAs h (node_in begun.member) (start (setting c h me) (starts + 1) owed met))
     → (true && is_short (fuse_of down.voter.logs.records.fuse)) ≡ false → fuse_of (records_of begun.member).fuse ≡ less (fuse_of down.voter.logs.records.fuse) → image_of (records_of begun.member).fuse ≡ image_of down.voter.logs.records.fuse
     → (HasRoom (run_fuse kept) → run_fuse begun.member.fuse ≡ after_append (run_fuse kept)) → BeginsSo c me starts owed met fuse owing begun
 started_over c me down kept owing starts owed met fuse begun is number owes notes members mine here long left image counts =

@@ -1,5 +1,5 @@
 -- One node of a world makes a step.
-use Rattle.std.proofs.Common.{◌≡◌, ℕ, ◌+◌, ◌-◌, ◌≤◌, ◌&&◌, cond, Bool, true, false, List, [], ◌∷◌, get_or, length, map, Option, Some, refl, sym, ap, ◌∙◌, subst, arith}
+use Rattle.std.proofs.Common.{◌≡◌, ℕ, ◌+◌, ◌-◌, ◌≤◌, ◌&&◌, cond, Bool, true, false, List, ◌∷◌, get_or, length, map, Option, Some, refl, sym, ap, ◌∙◌, subst, arith}
 use Rattle.std.proofs.lemmas.Option.{slice_get_read}
 use Rattle.std.specs.List.{slice_get}
 use Rattle.mega_cluster.specs.declared.cluster.Cluster.{Cluster}
@@ -8,75 +8,44 @@ use Rattle.mega_disk.specs.Fuse.{Unset, after_append as less, is_short, keeps_re
 use Rattle.mega_disk.specs.MemDisk.{fuse_of, image_of}
 use Rattle.mega_rows.specs.declared.rows.VersionedRows.{VersionedRows}
 use Rattle.mega_handler.specs.Named.{Meaning, Meanings}
-use Rattle.mega_voter.specs.Holding.{HoldsMet}
 use Rattle.mega_durable.specs.of_actions.of_proposing.Settings.{setting as at_node}
 use Rattle.mega_leases.specs.Opening.{AreOwed}
-use Rattle.mega_rules.specs.Clock.{start_of}
-use Rattle.mega_rules.specs.Met.{Crashes, Met}
+use Rattle.mega_rules.specs.Met.{Crashes}
 use Rattle.mega_rules.specs.Operations.{Node as RuleNode, Setting}
 use Rattle.mega_rules.specs.Steps.{Event, step}
-use Rattle.mega_replica.specs.Following.{progress_at}
 use Rattle.mega_node_laws.specs.Acted.{own_item}
 use Rattle.mega_durable.specs.of_core.declared.node.Node.{Node}
 use Rattle.mega_durable.specs.of_core.of_stepping.declared.step.Step.{Step}
 use Rattle.mega_durable.specs.of_core.of_stepping.Notes.{met_of}
-use Rattle.mega_durable.specs.of_core.Lagging.{KnowsLagging}
-use Rattle.mega_durable.specs.of_core.Represents.{Represents}
-use Rattle.mega_durable.specs.of_core.Standing.{StandsFor}
 use Rattle.mega_durable.specs.declared.cut.Cut.{Cut}
 use Rattle.mega_durable.specs.Cut.{HoldsCut}
 use Rattle.mega_durable.specs.Replying.{owed_by}
-use Rattle.mega_durable.specs.Granted.{KeepsGrants}
 use Rattle.mega_durable.specs.Standing.{MayHappen}
 use Rattle.mega_promises.specs.Runs.{AsItWas, Fuse, Recorded, after_append, appends, is_burning, owes, replies_in, setting}
 use Rattle.mega_places.specs.declared.log_fuse.LogFuse.{LogFuse}
 use Rattle.mega_places.specs.declared.member.Member.{Member}
 use Rattle.mega_places.specs.LogFuses.{HasRoom, IsFused, run_fuse}
-use Rattle.mega_places.specs.Members.{IsMember, IsTold, node_in, records_of, version_of}
+use Rattle.mega_places.specs.Members.{IsMember, IsUpAs, node_in, records_of}
 use Rattle.mega_places.specs.Stepping.{MadeStep, WasCut}
 use Rattle.mega_places.proofs.Fuses.{fused_more, fused_same, leaves, short_is}
 
--- the handlers do not matter to what is told
-any_handlers : (c : Cluster) (me : ℕ) (g h : Meanings) (node : Node MemRecords VersionedRows) (ruled : RuleNode) → IsTold c g me node ruled → IsTold c h me node ruled
-any_handlers c me g h node ruled r = record { kind = r.kind; tells = r.tells; leased = r.leased; follows = r.follows; marked = r.marked; noted = r.noted; opened = r.opened; begun_is = r.begun_is; about = r.about; built = r.built }
+-- the handlers do not matter to a node that is up
+any_handlers : (g h : Meanings) (node : Node MemRecords VersionedRows) (ruled : RuleNode) → IsUpAs g node ruled → IsUpAs h node ruled
+any_handlers g h node ruled up =
+    let r = up.stands.within in
+    record {
+      stands = record {
+        within = record { kind = r.kind; tells = r.tells; leased = r.leased; follows = r.follows; marked = r.marked; noted = r.noted; opened = r.opened; begun_is = r.begun_is; about = r.about; built = r.built };
+        lagging = up.stands.lagging;
+      };
+      empty = up.empty;
+      ready = up.ready;
+      holds = up.holds;
+      granted = up.granted;
+    }
 
-pub same_setting : (c d : Cluster) (h : Meanings) (me you : ℕ) → c ≡ d → me ≡ you → setting c h me ≡ setting d h you
-same_setting c d h me you cluster number = ap (λ one. setting one h me) cluster ∙ ap (setting d h) number
-
--- a node that is up, by what it keeps itself
-pub record IsHere (h : Meanings) (node : Node MemRecords VersionedRows) (ruled : RuleNode) : Type 0 where
-  pub stands : StandsFor version_of h node ruled
-  pub empty : node.replica.voter.logs.staged.items ≡ []
-  pub ready : node.replica.voter.logs.records.spent ≡ false
-  pub holds : HoldsMet node.replica.voter.logs.records.list.items (start_of ruled.met) ruled.met
-  pub granted : KeepsGrants node.replica.members node.replica.me ruled.met
-
-pub is_here : (c : Cluster) (h : Meanings) (me : ℕ) (member : Member) (ruled : RuleNode) → IsMember c me member ruled → IsHere h (node_in member) ruled
-is_here c h me member ruled one = record {
-  stands = record {
-    within = subst (λ (s : Setting). Represents s (node_in member).replica.voter.logs.kept (node_in member).replica.leases (node_in member).replica.indexed (node_in member).replica.digest (version_of (node_in member).replica.rows.rows) (progress_at (node_in member).replica.rows.progress) (node_in member).open (node_in member).begun ruled)
-        (same_setting c (node_in member).replica.members h me (node_in member).replica.me (sym one.members) (sym one.number)) (one.told h);
-    lagging = coe 1 0 (i. KnowsLagging (one.members i) (one.number i) (node_in member).lagging ruled.met ruled.stored) one.lagging;
-  };
-  empty = one.empty;
-  ready = one.ready;
-  holds = one.holds;
-  granted = one.granted;
-}
-
-pub as_member : (c : Cluster) (h : Meanings) (me : ℕ) (member : Member) (ruled : RuleNode) → (node_in member).replica.members ≡ c → (node_in member).replica.me ≡ me → IsHere h (node_in member) ruled → IsMember c me member ruled
-as_member c h me member ruled members number here = record {
-  members = members;
-  number = number;
-  told = λ g. any_handlers c me h g (node_in member) ruled
-      (subst (λ (s : Setting). Represents s (node_in member).replica.voter.logs.kept (node_in member).replica.leases (node_in member).replica.indexed (node_in member).replica.digest (version_of (node_in member).replica.rows.rows) (progress_at (node_in member).replica.rows.progress) (node_in member).open (node_in member).begun ruled)
-      (same_setting (node_in member).replica.members c h (node_in member).replica.me me members number) here.stands.within);
-  lagging = coe 0 1 (i. KnowsLagging (members i) (number i) (node_in member).lagging ruled.met ruled.stored) here.stands.lagging;
-  empty = here.empty;
-  ready = here.ready;
-  holds = here.holds;
-  granted = here.granted;
-}
+pub as_member : (c : Cluster) (h : Meanings) (me : ℕ) (member : Member) (ruled : RuleNode) → (node_in member).replica.members ≡ c → (node_in member).replica.me ≡ me → IsUpAs h (node_in member) ruled → IsMember c me member ruled
+as_member c h me member ruled members number up = record { members = members; number = number; up = λ g. any_handlers h g (node_in member) ruled up }
 
 -- the log's fuse had an append left where one was made, and counts its calls
 pub record IsWhole (appending : Bool) (old new : MemRecords) : Type 0 where
@@ -87,17 +56,17 @@ pub record IsWhole (appending : Bool) (old new : MemRecords) : Type 0 where
 
 -- what a node's own clauses say of a step
 pub record Steps (makes : List ℕ → Option Meaning) (node stepped : Node MemRecords VersionedRows) (made : Step) (event : Event) : Type 0 where
-  pub notes : (h : Meanings) (ruled : RuleNode) → IsHere h node ruled → MayHappen makes (at_node node.replica.members node.replica.me h) ruled event → map met_of made.notes ≡ (step (at_node node.replica.members node.replica.me h) ruled event).notes
-  pub sends : (h : Meanings) (ruled : RuleNode) → IsHere h node ruled → MayHappen makes (at_node node.replica.members node.replica.me h) ruled event → made.sends ≡ (step (at_node node.replica.members node.replica.me h) ruled event).sends
-  pub state : (h : Meanings) (ruled : RuleNode) → IsHere h node ruled → MayHappen makes (at_node node.replica.members node.replica.me h) ruled event → IsHere h stepped (step (at_node node.replica.members node.replica.me h) ruled event).node
-  pub whole : (h : Meanings) (ruled : RuleNode) → IsHere h node ruled → MayHappen makes (at_node node.replica.members node.replica.me h) ruled event
+  pub notes : (h : Meanings) (ruled : RuleNode) → IsUpAs h node ruled → MayHappen makes (at_node node.replica.members node.replica.me h) ruled event → map met_of made.notes ≡ (step (at_node node.replica.members node.replica.me h) ruled event).notes
+  pub sends : (h : Meanings) (ruled : RuleNode) → IsUpAs h node ruled → MayHappen makes (at_node node.replica.members node.replica.me h) ruled event → made.sends ≡ (step (at_node node.replica.members node.replica.me h) ruled event).sends
+  pub state : (h : Meanings) (ruled : RuleNode) → IsUpAs h node ruled → MayHappen makes (at_node node.replica.members node.replica.me h) ruled event → IsUpAs h stepped (step (at_node node.replica.members node.replica.me h) ruled event).node
+  pub whole : (h : Meanings) (ruled : RuleNode) → IsUpAs h node ruled → MayHappen makes (at_node node.replica.members node.replica.me h) ruled event
       → IsWhole (appends (step (at_node node.replica.members node.replica.me h) ruled event)) node.replica.voter.logs.records stepped.replica.voter.logs.records
   pub members : stepped.replica.members ≡ node.replica.members
   pub me : stepped.replica.me ≡ node.replica.me
 
 -- the setting of a node of a cluster is its own
 pub own_setting : (c : Cluster) (h : Meanings) (me : ℕ) (member : Member) (ruled : RuleNode) → IsMember c me member ruled → setting c h me ≡ at_node (node_in member).replica.members (node_in member).replica.me h
-own_setting c h me member ruled one = same_setting c (node_in member).replica.members h me (node_in member).replica.me (sym one.members) (sym one.number)
+own_setting c h me member ruled one = sym (ap (λ k. setting k h (node_in member).replica.me) one.members ∙ ap (setting c h) one.number)
 
 -- ---- the fuse that is kept beside the node
 pub record Counts (kept next : Option LogFuse) (before now : ℕ) : Type 0 where
@@ -122,15 +91,15 @@ made_step {makes} c h me ruled fuse member stepped made event one fused may step
   sends = steps.sends h ruled here its ∙ ap (λ (s : Setting). (step s ruled event).sends) (sym own);
   long = not_burning (appends (step (setting c h me) ruled event)) (records_of member) member.fuse fuse fused whole.long;
   is = as_member c h me stepped (step (setting c h me) ruled event).node (steps.members ∙ one.members) (steps.me ∙ one.number)
-      (subst (λ (s : Setting). IsHere h (node_in stepped) (step s ruled event).node) (sym own) (steps.state h ruled here its));
+      (subst (λ (s : Setting). IsUpAs h (node_in stepped) (step s ruled event).node) (sym own) (steps.state h ruled here its));
   fused = fused_step (appends (step (setting c h me) ruled event)) member.fuse stepped.fuse (records_of member) (records_of stepped) fuse fused whole counts;
 }
   where
     own : setting c h me ≡ at_node (node_in member).replica.members (node_in member).replica.me h
     own = own_setting c h me member ruled one
 
-    here : IsHere h (node_in member) ruled
-    here = is_here c h me member ruled one
+    here : IsUpAs h (node_in member) ruled
+    here = one.up h
 
     its : MayHappen makes (at_node (node_in member).replica.members (node_in member).replica.me h) ruled event
     its = subst (λ (s : Setting). MayHappen makes s ruled event) own may
@@ -149,7 +118,7 @@ pub record CutSo (s : Setting) (ruled : RuleNode) (event : Event) (old new : Mem
 
 pub was_cut : {makes : List ℕ → Option Meaning} (c : Cluster) (h : Meanings) (me : ℕ) (ruled : RuleNode) (fuse : Option Fuse) (member stepped : Member) (cut : Cut) (event : Event) → IsMember c me member ruled → IsFused member.fuse (records_of member) fuse
     → MayHappen makes (setting c h me) ruled event → stepped.fuse ≡ member.fuse
-    → (IsHere h (node_in member) ruled → MayHappen makes (at_node (node_in member).replica.members (node_in member).replica.me h) ruled event
+    → (IsUpAs h (node_in member) ruled → MayHappen makes (at_node (node_in member).replica.members (node_in member).replica.me h) ruled event
     → CutSo (at_node (node_in member).replica.members (node_in member).replica.me h) ruled event (records_of member) (records_of stepped) cut)
     → WasCut c h me ruled event fuse stepped cut
 was_cut {makes} c h me ruled fuse member stepped cut event one fused may same says = record {
@@ -167,7 +136,7 @@ was_cut {makes} c h me ruled fuse member stepped cut event one fused may same sa
 
     so : CutSo (setting c h me) ruled event (records_of member) (records_of stepped) cut
     so = subst (λ (s : Setting). CutSo s ruled event (records_of member) (records_of stepped) cut) (sym own)
-        (says (is_here c h me member ruled one) (subst (λ (s : Setting). MayHappen makes s ruled event) own may))
+        (says (one.up h) (subst (λ (s : Setting). MayHappen makes s ruled event) own may))
 
 -- the node at a place of a list, counted from 1
 pub found : {X : Type 0} (xs : List X) (i me : ℕ) (x : X) → i ≡ me - 1 → 1 ≤ me → me ≤ length xs → x ≡ get_or xs i x → slice_get xs i ≡ Some x

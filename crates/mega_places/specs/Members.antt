@@ -1,20 +1,16 @@
 -- How the nodes of a world that are up stand to the nodes of a run.
-use Rattle.std.specs.Prelude.{◌≡◌, ℕ, ◌-◌, ◌==◌, Bool, false, if◌then◌else◌, List, [], length, slice_get, Option, Some, None, is_some}
+use Rattle.std.specs.Prelude.{◌≡◌, ℕ, ◌-◌, ◌==◌, Bool, if◌then◌else◌, List, length, slice_get, Option, Some, None, is_some}
 use Rattle.mega_cluster.specs.declared.cluster.Cluster.{Cluster}
 use Rattle.mega_disk.specs.VersionMaps.{Versions}
+use Rattle.mega_disk.specs.contracts.mem_records.MemRecordsRecords.TheImpl.{ghosts as in_memory}
 use Rattle.mega_disk.specs.declared.mem_records.MemRecords.{MemRecords}
 use Rattle.mega_rows.specs.declared.rows.VersionedRows.{VersionedRows}
 use Rattle.mega_rows.specs.Lines.{version_in}
 use Rattle.mega_handler.specs.Named.{Meanings}
-use Rattle.mega_rules.specs.Clock.{is_up, start_of}
+use Rattle.mega_rules.specs.Clock.{is_up}
 use Rattle.mega_rules.specs.Operations.{Node as RuleNode}
-use Rattle.mega_replica.specs.Following.{progress_at}
-use Rattle.mega_voter.specs.Holding.{HoldsMet}
 use Rattle.mega_durable.specs.of_core.declared.node.Node.{Node}
-use Rattle.mega_durable.specs.of_core.Lagging.{KnowsLagging}
-use Rattle.mega_durable.specs.of_core.Represents.{Represents}
-use Rattle.mega_durable.specs.Granted.{KeepsGrants}
-use Rattle.mega_promises.specs.Runs.{setting}
+use Rattle.mega_durable.specs.Standing.{IsUp}
 use Rattle.mega_places.specs.declared.member.Member.{Member}
 use Rattle.mega_places.specs.declared.place.Place.{Place}
 use Rattle.mega_places.specs.declared.place.Place.TheVariants.{Up, Down}
@@ -43,23 +39,15 @@ member_of places me = if me == 0 then None else member_in (slice_get places (me 
 abbrev pub is_up_at : List Place → ℕ → Bool
 is_up_at places me = is_some (member_of places me)
 
--- what a node keeps is told by a node of the rules, in this cluster and under this number
-abbrev pub IsTold : Cluster → Meanings → ℕ → Node MemRecords VersionedRows → RuleNode → Type 0
-IsTold c h me node ruled =
-    Represents (setting c h me) node.replica.voter.logs.kept node.replica.leases node.replica.indexed node.replica.digest (version_of node.replica.rows.rows) (progress_at node.replica.rows.progress) node.open node.begun ruled
+-- such a node is up as a node of the rules
+abbrev pub IsUpAs : Meanings → Node MemRecords VersionedRows → RuleNode → Type 0
+IsUpAs h node ruled = IsUp in_memory version_of h node ruled
 
--- the node of this number of a cluster, which a node of the rules tells of, whatever handlers are there; it knows the groups
--- of which it may not have applied all that is decided; nothing of it waits to be kept, and its records, which are open, hold what it met, and
--- its lock cell keeps what it granted last
+-- the node of this number of a cluster, which is up as a node of the rules, whatever handlers are there
 pub record IsMember (c : Cluster) (me : ℕ) (member : Member) (ruled : RuleNode) : Type 0 where
   pub members : (node_in member).replica.members ≡ c
   pub number : (node_in member).replica.me ≡ me
-  pub told : (h : Meanings) → IsTold c h me (node_in member) ruled
-  pub lagging : KnowsLagging c me (node_in member).lagging ruled.met ruled.stored
-  pub empty : (node_in member).replica.voter.logs.staged.items ≡ []
-  pub ready : (records_of member).spent ≡ false
-  pub holds : HoldsMet (records_of member).list.items (start_of ruled.met) ruled.met
-  pub granted : KeepsGrants (node_in member).replica.members (node_in member).replica.me ruled.met
+  pub up : (h : Meanings) → IsUpAs h (node_in member) ruled
 
 -- all nodes of a cluster in their places, in order, up where the rules have them so
 pub record AreMembers (c : Cluster) (places : List Place) (ruled : ℕ → RuleNode) : Type 0 where

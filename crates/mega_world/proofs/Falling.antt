@@ -3,6 +3,7 @@ use Rattle.std.proofs.Common.{◌≡◌, ℕ, ◌-◌, ◌≤◌, ◌==◌, ◌+
 use Rattle.std.proofs.lemmas.Bool.Decides.{nat_tests}
 use Rattle.std.specs.List.{slice_get}
 use Rattle.mega_base.specs.declared.names.Epoch.{Epoch}
+use Rattle.mega_base.specs.declared.names.GroupId.{GroupId}
 use Rattle.mega_base.specs.declared.names.NodeId.{NodeId}
 use Rattle.mega_cluster.specs.declared.cluster.Cluster.{Cluster}
 use Rattle.mega_places.specs.of_handler.Named.{Meanings}
@@ -15,6 +16,7 @@ use Rattle.mega_places.proofs.of_transcript.Tapes.{newest-append}
 use Rattle.mega_member_laws.specs.of_format_laws.Nodes.{IsNode}
 use Rattle.mega_member_laws.specs.Nodes.{StaysWithin}
 use Rattle.mega_places.specs.of_voter.of_rules.Clock.{start_of}
+use Rattle.mega_places.specs.of_voter.of_rules.Members.{has_rows}
 use Rattle.mega_places.specs.of_voter.of_rules.Met.{Crashes, Met}
 use Rattle.mega_places.specs.of_voter.of_rules.Operations.{Node as RuleNode}
 use Rattle.mega_places.specs.of_voter.of_rules.Steps.{crashed, onto}
@@ -31,7 +33,7 @@ use Rattle.mega_places.specs.Carries.{Carries}
 use Rattle.mega_world.specs.Formed.{IsFormed}
 use Rattle.mega_places.specs.Kept.{AreNodes, AreReady, remains_of}
 use Rattle.mega_safety.specs.Lapses.{KnowsLeases}
-use Rattle.mega_places.specs.Members.{IsMember, IsTold, is_up_at, node_in, records_of, version_of}
+use Rattle.mega_places.specs.Members.{IsMember, is_up_at, node_in, records_of, version_of}
 use Rattle.mega_world.specs.Restarting.{StaysDown}
 use Rattle.mega_world.specs.Stands.{StandsWith}
 use Rattle.mega_world.specs.Within.{RunsWithin}
@@ -42,15 +44,16 @@ use Rattle.mega_places.proofs.Outcomes.{StandsAt, stands_at, up_at}
 
 -- a crash is met, and is nothing that logs or records hold, or that rows follow
 left_ready : (c : Cluster) (h : Meanings) (me : ℕ) (member : Member) (ruled : RuleNode) → IsMember c me member ruled → AreReady c me (remains_of member) (start_of ruled.met) (Crashes ∷ ruled.met)
-left_ready c h me member ruled is = record {
-  empty = is.empty;
-  recalls = crash_recalled (node_in member).replica.voter.logs.kept (start_of ruled.met) ruled.met (told_recalled (node_in member).replica.voter.logs.kept ruled.met told.tells);
-  ready = is.ready;
-  rows = crash_followed c me (version_of (node_in member).replica.rows.rows) (progress_at (node_in member).replica.rows.progress) ruled.met ruled.stored told.follows told.kind.bare;
-}
-  where
-    told : IsTold c h me (node_in member) ruled
-    told = is.told h
+left_ready c h me member ruled is =
+    let up = is.up h in
+    let told = up.stands.within in
+    record {
+      empty = up.empty;
+      recalls = crash_recalled (node_in member).replica.voter.logs.kept (start_of ruled.met) ruled.met (told_recalled (node_in member).replica.voter.logs.kept ruled.met told.tells);
+      ready = up.ready;
+      rows = crash_followed c me (version_of (node_in member).replica.rows.rows) (progress_at (node_in member).replica.rows.progress) ruled.met ruled.stored told.follows
+          (coe 0 1 (i. has_rows (is.members i) (is.number i) ≡ false → (group : GroupId) → ruled.stored group ≡ 0) told.kind.bare);
+    }
 
 pub falls_down : (c : Cluster) (h : Meanings) (places : List Place) (now : Standing) (me : ℕ) (member : Member) → AreNodes c places now → 1 ≤ me → me ≤ length places → StandsAt c places now me member
     → AreNodes c (set places (me - 1) (Down (record { remains = remains_of member; fuse = member.fuse; owed = None }))) (crashes now me)
@@ -61,7 +64,7 @@ falls_down c h places now me member all least most stands =
       follows = subst (λ (owed : List Met). AreOwed owed (Crashes ∷ (now.node me).met)) (sym stands.settled.unowed) tt;
       holds = subst (λ (owed : List Met). HoldsMet (records_of member).list.items (now.starts me) (onto owed (Crashes ∷ (now.node me).met))) (sym stands.settled.unowed)
           (subst (λ (starts : ℕ). HoldsMet (records_of member).list.items starts (Crashes ∷ (now.node me).met)) (sym stands.settled.started)
-          (crash_held (records_of member).list.items (start_of (now.node me).met) (now.node me).met stands.is.holds));
+          (crash_held (records_of member).list.items (start_of (now.node me).met) (now.node me).met ((stands.is.up h).holds refl)));
       ready = subst (λ (owed : List Met). AreReady c me (remains_of member) (now.starts me) (onto owed (Crashes ∷ (now.node me).met))) (sym stands.settled.unowed)
           (subst (λ (starts : ℕ). AreReady c me (remains_of member) starts (Crashes ∷ (now.node me).met)) (sym stands.settled.started) (left_ready c h me member (now.node me) stands.is));
       owes = sym stands.settled.unowed;

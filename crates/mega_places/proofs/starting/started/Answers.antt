@@ -10,8 +10,7 @@ returns-in-Ok-clause-begun c starts owed met run is =
     started_over c.args.cluster c.args.me c.args.down c.args.fuse c.args.owed starts owed met run _ is c.in-Ok.ensures.number refl
     (λ h. c.in-Ok.ensures.notes h starts met owed (record { owes = is.follows; recalls = is.stands.recalls; ready = is.stands.ready; holds = λ told. is.holds; rows = is.stands.rows }))
     c.in-Ok.ensures.members c.in-Ok.ensures.me
-    (λ h. let up = c.in-Ok.ensures.state h starts met owed (record { owes = is.follows; recalls = is.stands.recalls; ready = is.stands.ready; holds = λ told. is.holds; rows = is.stands.rows }) in
-    record { stands = up.stands; empty = up.empty; ready = up.ready; holds = up.holds refl; granted = up.granted })
+    (λ h. c.in-Ok.ensures.state h starts met owed (record { owes = is.follows; recalls = is.stands.recalls; ready = is.stands.ready; holds = λ told. is.holds; rows = is.stands.rows }))
     whole.long whole.fuse whole.image c.after_append.ensures
 
 pub returns-in-Err-Cut-clause-cut : goal.returns-in-Err-Cut-clause-cut
