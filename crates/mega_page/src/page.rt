@@ -47,19 +47,19 @@ impl Page {
 
     /// A datagram that the node got.
     #[tactic(auto, using(crate::proofs::Gathering::one_quiet))]
-    pub fn got(&mut self, alloc: Global, from: Peer, bytes: &[u8]) -> Result<(), NoMemory>
+    pub fn got(&mut self, from: Peer, bytes: &[u8]) -> Result<(), NoMemory>
         ensures { OnOk result ((schema : _) (lines : List Line) → IsPage schema self.old lines → IsPage schema self.new (lines ++ Got (peer_of from) bytes.now ∷ [])) }
     {
-        put_datagram(alloc, b"got", from, bytes, &mut self.text)?;
+        put_datagram(b"got", from, bytes, &mut self.text)?;
         Ok(())
     }
 
     /// A datagram that the node puts out.
     #[tactic(auto, using(crate::proofs::Gathering::one_more))]
-    pub fn put(&mut self, alloc: Global, to: Peer, bytes: &[u8]) -> Result<(), NoMemory>
+    pub fn put(&mut self, to: Peer, bytes: &[u8]) -> Result<(), NoMemory>
         ensures { OnOk result ((schema : _) (lines : List Line) → IsPage schema self.old lines → IsPage schema self.new (lines ++ Put (peer_of to) bytes.now ∷ [])) }
     {
-        put_datagram(alloc, b"put", to, bytes, &mut self.text)?;
+        put_datagram(b"put", to, bytes, &mut self.text)?;
         self.outbox.send(to, bytes)?;
         Ok(())
     }
@@ -76,7 +76,7 @@ impl Page {
     {
         let mut bytes = Bytes::new(alloc);
         encode(message, &mut bytes)?;
-        self.put(alloc, to, bytes.as_slice())?;
+        self.put(to, bytes.as_slice())?;
         Ok(())
     }
 
