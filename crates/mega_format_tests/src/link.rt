@@ -7,6 +7,7 @@ use mega_link::{Clock, Link, MemClock, MemLink, Outbox, Peer, StdClock, UdpLink}
 use std::alloc::Global;
 use std::net::{Net, UdpSocket};
 use std::process::Abort;
+use std::time::Clock as SystemClock;
 
 const ROOM: usize = 65_507;
 
@@ -53,7 +54,7 @@ fn a_clock_in_memory_stays_at_its_last_reading(rt: HostRuntime) {
 }
 
 /// Sends a datagram from a socket to a link and back, and tells who the link takes the socket for.
-fn exchange<R: Net + Drop>(
+fn exchange<R: Net + SystemClock + Drop>(
     rt: &impl Abort,
     link: &mut UdpLink<R>,
     socket: &UdpSocket,
@@ -93,6 +94,9 @@ fn datagrams_cross_the_loopback(rt: HostRuntime) {
     same(&rt, first, Some(Peer::Node(NodeId(1))));
     let second = exchange(&rt, &mut link, &client, buffer.as_mut_slice());
     same(&rt, second, Some(Peer::Client(1)));
+    same(&rt, link.receive(buffer.as_mut_slice()), None);
+    let third = exchange(&rt, &mut link, &client, buffer.as_mut_slice());
+    same(&rt, third, second);
     same(&rt, link.bind(NodeId(2), &[]).is_err(), true);
 }
 

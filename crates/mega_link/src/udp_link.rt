@@ -1,5 +1,5 @@
 //! A link over UDP, between addresses of nodes and of clients.
-ghost use Rattle.std.specs.Prelude.{◌≡◌, None};
+ghost use Rattle.std.specs.Prelude.{◌≡◌, ◌≤◌, length, IfSome, None};
 
 use crate::link::Link;
 use crate::peer::{Failed, Peer};
@@ -8,11 +8,17 @@ use mega_base::{NoMemory, NodeId, Text};
 use std::alloc::Global;
 use std::io;
 use std::net::{Ipv4Addr, Net, SocketAddr, ToSocketAddrs, UdpSocket};
-use std::time::Duration;
+use std::time::{Clock as SystemClock, Duration, Instant};
 
 /// How many milliseconds a receive waits. The system rounds them up to its own ticks, and they stay below
 /// 10 then.
 const WAIT: u64 = 4;
+
+/// How many microseconds a receive polls before it waits, where the one before gave something.
+const SPIN: u64 = 50;
+
+/// How often it polls at most.
+const MOST_POLLS: u32 = 1_000;
 
 /// A link over UDP. A datagram from no address of a node is a client's. Number 0 is no node: it is bound to
 /// a free port of the loopback address.
@@ -20,6 +26,8 @@ const WAIT: u64 = 4;
 pub struct UdpLink<R> {
     system: R,
     socket: Option<UdpSocket>,
+    /// Whether the next receive polls before it waits. The socket does not block then.
+    polls: bool,
     nodes: [Option<SocketAddr>; 9],
     clients: IndexSet<SocketAddr>,
     faults: u64,
@@ -46,7 +54,35 @@ fn listen<R: Net>(system: &R, at: SocketAddr) -> io::Result<UdpSocket> {
     Ok(socket)
 }
 
-impl<R: Net + Drop> UdpLink<R> {
+/// Whether the polls that began at this time are to end.
+fn is_over<R: SystemClock>(system: &R, begun: Instant) -> bool {
+    match begun.elapsed(system) {
+        Ok(elapsed) => elapsed >= Duration::from_micros(SPIN),
+        Err(_) => true,
+    }
+}
+
+/// What comes within a short time to a socket that does not block.
+fn poll<R: SystemClock>(
+    system: &R,
+    socket: &UdpSocket,
+    into: &mut [u8],
+) -> Option<(usize, SocketAddr)>
+    ensures { IfSome result (λ found. found.0 ≤ length into.new) }
+{
+    let begun = Instant::now(system).ok()?;
+    for _ in 0..MOST_POLLS {
+        if let Ok(found) = socket.recv_from(into) {
+            return Some(found);
+        }
+        if is_over(system, begun) {
+            return None;
+        }
+    }
+    None
+}
+
+impl<R: Net + SystemClock + Drop> UdpLink<R> {
     /// A link that is not bound. It takes no memory.
     pub fn new(alloc: Global, system: R) -> UdpLink<R>
         ensures { ⟦<UdpLink<R> as Link>⟧.faults result ≡ 0 }
@@ -54,6 +90,7 @@ impl<R: Net + Drop> UdpLink<R> {
         UdpLink {
             system,
             socket: None,
+            polls: false,
             nodes: [None; 9],
             clients: IndexSet::new(alloc),
             faults: 0,
@@ -101,11 +138,29 @@ impl<R: Net + Drop> UdpLink<R> {
             self.address_of(Peer::Node(own))?
         };
         self.socket = Some(listen(&self.system, at).ok()?);
+        self.polls = false;
         Some(())
+    }
+
+    /// What the socket gives: while datagrams come at short distances by polls, and else by a wait.
+    fn take(&mut self, into: &mut [u8]) -> Option<(usize, SocketAddr)>
+        ensures faults { self.new.faults ≡ self.old.faults }
+        ensures bound { IfSome result (λ found. found.0 ≤ length into.new) }
+    {
+        let socket = self.socket.as_ref()?;
+        if self.polls {
+            if let Some(found) = poll(&self.system, socket, into) {
+                return Some(found);
+            }
+            self.polls = socket.set_nonblocking(false).is_err();
+        }
+        let found = socket.recv_from(into).ok()?;
+        self.polls = socket.set_nonblocking(true).is_ok();
+        Some(found)
     }
 }
 
-impl<R: Net + Drop> Link for UdpLink<R> {
+impl<R: Net + SystemClock + Drop> Link for UdpLink<R> {
     ghost faults = { λ link. link.faults };
 
     ghost taken = { λ _. None };
@@ -128,7 +183,7 @@ impl<R: Net + Drop> Link for UdpLink<R> {
     }
 
     fn receive(&mut self, into: &mut [u8]) -> Option<(Peer, usize)> {
-        let (count, from) = self.socket.as_ref()?.recv_from(into).ok()?;
+        let (count, from) = self.take(into)?;
         let peer = self.peer_at(from)?;
         Some((peer, count))
     }

@@ -1,3 +1,4 @@
 pub mod Outcomes
 pub mod Gathering
 pub mod Giving
+pub mod Hexing

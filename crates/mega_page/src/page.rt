@@ -1,7 +1,7 @@
 //! A page: what a step puts into the record and onto the link, gathered before either has it.
-ghost use Rattle.std.specs.Prelude.{◌≡◌, ◌≤◌, ◌++◌, ◌∷◌, [], ℕ, List, map, All, IfErr, OnErr, OnOk};
+ghost use Rattle.std.specs.Prelude.{◌≡◌, ◌≤◌, ◌++◌, ◌∷◌, [], ℕ, List, All, IfErr, OnErr, OnOk};
 ghost use Rattle.mega_wire.specs.Messages.{IsMessage, message_text};
-ghost use Rattle.mega_transcript.specs.Lines.{HasLine};
+ghost use Rattle.mega_transcript.specs.Lines.{HasLine, line};
 ghost use Rattle.mega_transcript.specs.Recorded.{Got, Line, Noted, Put, put_out};
 ghost use Rattle.mega_page.specs.Lines.{peer_of};
 ghost use Rattle.mega_page.specs.Causes.{Devices, IsCaused};
@@ -35,11 +35,19 @@ impl Page {
         }
     }
 
-    /// What the node notes.
+    /// The text of its lines.
+    pub fn text(&self) -> &[u8]
+        ensures { result.now ≡ self.now.text }
+    {
+        self.text.as_slice()
+    }
+
+    /// What the node notes. Its line stands behind the text that was there.
     #[tactic(auto, using(crate::proofs::Gathering::one_quiet))]
     pub fn note(&mut self, alloc: Global, schema: &Schema, item: &Item) -> Result<(), NoMemory>
         requires { HasLine item.now }
-        ensures { OnOk result ((lines : List Line) → IsPage schema.now self.old lines → IsPage schema.now self.new (lines ++ Noted item.now ∷ [])) }
+        ensures lines { OnOk result ((lines : List Line) → IsPage schema.now self.old lines → IsPage schema.now self.new (lines ++ Noted item.now ∷ [])) }
+        ensures text { OnOk result (self.new.text ≡ self.old.text ++ line schema.now item.now) }
     {
         text(alloc, schema, item, &mut self.text)?;
         Ok(())
@@ -47,19 +55,19 @@ impl Page {
 
     /// A datagram that the node got.
     #[tactic(auto, using(crate::proofs::Gathering::one_quiet))]
-    pub fn got(&mut self, alloc: Global, from: Peer, bytes: &[u8]) -> Result<(), NoMemory>
+    pub fn got(&mut self, from: Peer, bytes: &[u8]) -> Result<(), NoMemory>
         ensures { OnOk result ((schema : _) (lines : List Line) → IsPage schema self.old lines → IsPage schema self.new (lines ++ Got (peer_of from) bytes.now ∷ [])) }
     {
-        put_datagram(alloc, b"got", from, bytes, &mut self.text)?;
+        put_datagram(b"got", from, bytes, &mut self.text)?;
         Ok(())
     }
 
     /// A datagram that the node puts out.
     #[tactic(auto, using(crate::proofs::Gathering::one_more))]
-    pub fn put(&mut self, alloc: Global, to: Peer, bytes: &[u8]) -> Result<(), NoMemory>
+    pub fn put(&mut self, to: Peer, bytes: &[u8]) -> Result<(), NoMemory>
         ensures { OnOk result ((schema : _) (lines : List Line) → IsPage schema self.old lines → IsPage schema self.new (lines ++ Put (peer_of to) bytes.now ∷ [])) }
     {
-        put_datagram(alloc, b"put", to, bytes, &mut self.text)?;
+        put_datagram(b"put", to, bytes, &mut self.text)?;
         self.outbox.send(to, bytes)?;
         Ok(())
     }
@@ -76,23 +84,7 @@ impl Page {
     {
         let mut bytes = Bytes::new(alloc);
         encode(message, &mut bytes)?;
-        self.put(alloc, to, bytes.as_slice())?;
-        Ok(())
-    }
-
-    /// All that a step shows.
-    pub fn note_all(
-        &mut self,
-        alloc: Global,
-        schema: &Schema,
-        items: &[Item],
-    ) -> Result<(), NoMemory>
-        requires { All HasLine items.now }
-        ensures { OnOk result ((lines : List Line) → IsPage schema.now self.old lines → IsPage schema.now self.new (lines ++ map Noted items.now)) }
-    {
-        for item in items {
-            self.note(alloc, schema, item)?;
-        }
+        self.put(to, bytes.as_slice())?;
         Ok(())
     }
 

@@ -1,12 +1,14 @@
 //! The words of the record's own lines.
-ghost use Rattle.std.specs.Prelude.{◌≡◌, ◌++◌, ◌∷◌, [], decimal, OnOk};
+ghost use Rattle.std.specs.Prelude.{◌≡◌, ◌≤◌, ◌++◌, ◌∷◌, [], length, decimal, OnOk};
 ghost use Rattle.hex.specs.Hex.{encode_lower};
 ghost use Rattle.mega_page.specs.Lines.{datagram_line, peer_of, peer_text};
 
 use itoa::Buffer;
 use mega_base::{Bytes, NoMemory};
 use mega_link::Peer;
-use std::alloc::Global;
+
+/// How many bytes are spelled in hex at once.
+const PART: usize = 64;
 
 /// Appends the decimal digits of a number.
 pub fn put_digits(out: &mut Bytes, number: u64) -> Result<(), NoMemory>
@@ -35,6 +37,35 @@ pub fn put_number(out: &mut Bytes, number: u64) -> Result<(), NoMemory>
     Ok(())
 }
 
+/// Appends at most 64 bytes in lower-case hex.
+fn put_part(out: &mut Bytes, bytes: &[u8]) -> Result<(), NoMemory>
+    requires { length bytes.now ≤ 64 }
+    ensures { OnOk result (out.new ≡ out.old ++ encode_lower bytes.now) }
+{
+    let mut digits = [0u8; 2 * PART];
+    let (spelled, _rest) = digits.split_at_mut(2 * bytes.len());
+    match hex::encode_to_slice(bytes, spelled) {
+        Ok(()) => {
+            out.extend_from_slice(spelled)?;
+            Ok(())
+        }
+        Err(_) => Err(NoMemory),
+    }
+}
+
+/// Appends bytes in lower-case hex, with no text of their own in between.
+fn put_hex(out: &mut Bytes, bytes: &[u8]) -> Result<(), NoMemory>
+    ensures { OnOk result (out.new ≡ out.old ++ encode_lower bytes.now) }
+{
+    let mut rest = bytes;
+    while !rest.is_empty() {
+        let (front, behind) = rest.split_at(rest.len().min(PART));
+        put_part(out, front)?;
+        rest = behind;
+    }
+    Ok(())
+}
+
 /// Appends who is at the other end.
 fn put_peer(out: &mut Bytes, peer: Peer) -> Result<(), NoMemory>
     ensures { OnOk result (out.new ≡ out.old ++ peer_text (peer_of peer)) }
@@ -54,7 +85,6 @@ fn put_peer(out: &mut Bytes, peer: Peer) -> Result<(), NoMemory>
 
 /// Appends the line of a datagram that came from a peer or goes to it, behind its word.
 pub(crate) fn put_datagram(
-    alloc: Global,
     word: &[u8],
     peer: Peer,
     bytes: &[u8],
@@ -62,10 +92,10 @@ pub(crate) fn put_datagram(
 ) -> Result<(), NoMemory>
     ensures { OnOk result (out.new ≡ out.old ++ datagram_line word.now (peer_of peer) bytes.now) }
 {
-    let hex = hex::encode(alloc, bytes)?;
     out.extend_from_slice(word)?;
     put_peer(out, peer)?;
-    put_word(out, hex.as_bytes())?;
+    out.push(b' ')?;
+    put_hex(out, bytes)?;
     out.push(b'\n')?;
     Ok(())
 }

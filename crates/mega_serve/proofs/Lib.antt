@@ -1,4 +1,5 @@
 pub mod Words
+pub mod Gathered
 pub mod Going
 pub mod Stepped
 pub mod Joining

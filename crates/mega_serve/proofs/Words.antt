@@ -6,7 +6,6 @@ use Rattle.mega_base.specs.declared.names.OpId.{OpId}
 use Rattle.mega_schema.specs.declared.schema.Schema.{Schema}
 use Rattle.mega_outcome.specs.declared.answer.Answer.{Answer}
 use Rattle.mega_outcome.specs.declared.answer.Answer.TheVariants.{Committed, Conflict, Turned, Unknown, TimedOut, Read, Found, Refreshed, LogFull, Busy, Worn, NotHere, NothingToDo, NoHandler, Batched, AllTurned}
-use Rattle.mega_transcript.specs.declared.item.Item.{Item}
 use Rattle.mega_transcript.specs.declared.item.Item.TheVariants.{Answer as AnswerItem}
 use Rattle.mega_transcript.specs.Answers.{answer_words}
 use Rattle.mega_transcript.specs.Lines.{line}
@@ -75,11 +74,6 @@ found_between line head words found is cut =
 pub three_joined : (first second third : List ℕ) → (first ++ 32 ∷ second) ++ 32 ∷ third ≡ joined (first ∷ second ∷ third ∷ [])
 three_joined first second third =
     append_assoc first (32 ∷ second) (32 ∷ third) ∙ ap (λ (xs : List ℕ). first ++ ((32 ∷ second) ++ xs)) (sym (append-nil (32 ∷ third)))
-
--- the line of an answer, as it is made
-pub line_made : (schema : Schema) (op : OpId) (answer : Answer) (item : Item) (empty made : List ℕ) → empty ≡ [] → item ≡ AnswerItem op answer → made ≡ empty ++ line schema item → made ≡ head_of op ++ (joined (answer_words schema answer) ++ 10 ∷ [])
-line_made schema op answer item empty made none is written =
-    written ∙ ap (λ (front : List ℕ). front ++ line schema item) none ∙ ap (λ (item : Item). line schema item) is ∙ answer_line_is schema op answer
 
 pub enough_behind : (line head words : List ℕ) → line ≡ head ++ (words ++ 10 ∷ []) → length head + 1 ≤ length line
 enough_behind line head words is = subst (λ (xs : List ℕ). length head + 1 ≤ length xs) (sym is) (long_enough head words 10)

@@ -215,7 +215,7 @@ pub(crate) fn receive<S: Steps, L: Link, O: Sink>(
     ensures me { S.me node.new ≡ S.me node.old }
 {
     let mut page = Page::new(alloc);
-    page.got(alloc, peer, bytes)?;
+    page.got(peer, bytes)?;
     match decode(alloc, bytes) {
         Ok(message) => {
             match take_if(alloc, node, waiting, peer, message, page, link, out) {

@@ -2,6 +2,7 @@
 ghost use Rattle.std.specs.Prelude.{◌≡◌, ◌≤◌, ◌+◌, ◌-◌, ◌++◌, ◌∷◌, [], codes, decimal, drop, length, take, ℕ, List, IfOk, OnOk};
 ghost use Rattle.mega_transcript.specs.declared.item.Item.TheVariants.{Answer as AnswerItem};
 ghost use Rattle.mega_transcript.specs.Answers.{answer_words};
+ghost use Rattle.mega_transcript.specs.Lines.{line};
 ghost use Rattle.mega_transcript.specs.Words.{op_word};
 ghost use Rattle.mega_promises.specs.Served.{joined};
 
@@ -9,7 +10,6 @@ use mega_base::{Bytes, NoMemory, OpId};
 use mega_outcome::Answer;
 use mega_page::{put_digits, put_number, put_word};
 use mega_schema::Schema;
-use mega_transcript::{Item, text};
 use std::alloc::Global;
 
 /// The most bytes of the text of a reply.
@@ -58,7 +58,7 @@ fn words_behind(alloc: Global, line: &[u8], head: &[u8]) -> Result<Bytes, NoMemo
 
 /// Of the text of a reply the first 65,000 bytes.
 #[tactic(auto, using(crate::proofs::Words::taken_short))]
-fn shortened(text: Bytes) -> Bytes
+pub(crate) fn shortened(text: Bytes) -> Bytes
     ensures text { result ≡ take 65000 text }
     ensures short { length result ≤ 65000 }
 {
@@ -67,39 +67,22 @@ fn shortened(text: Bytes) -> Bytes
     text
 }
 
-/// The words of an answer.
-fn answer_words(
+/// The words of an answer, out of its line.
+pub(crate) fn answer_words(
     alloc: Global,
     schema: &Schema,
     op: OpId,
-    item: &Item,
     answer: &Answer,
+    written: &[u8],
 ) -> Result<Bytes, NoMemory>
-    requires { item.now ≡ AnswerItem op answer.now }
+    requires { written.now ≡ line schema.now (AnswerItem op answer.now) }
     ensures { IfOk result (λ words. words ≡ joined (answer_words schema.now answer.now)) }
 {
+    let _schema = schema;
     let _answer = answer;
-    let mut line = Bytes::new(alloc);
-    text(alloc, schema, item, &mut line)?;
     let head = answer_head(alloc, op)?;
-    let words = words_behind(alloc, line.as_slice(), head.as_slice())?;
+    let words = words_behind(alloc, written, head.as_slice())?;
     Ok(words)
-}
-
-/// The text of the reply that tells the answer of an operation: its words, and of them the first 65,000 bytes.
-pub(crate) fn answer_text(
-    alloc: Global,
-    schema: &Schema,
-    op: OpId,
-    item: &Item,
-    answer: &Answer,
-) -> Result<Bytes, NoMemory>
-    requires { item.now ≡ AnswerItem op answer.now }
-    ensures text { IfOk result (λ text. text ≡ take 65000 (joined (answer_words schema.now answer.now))) }
-    ensures short { IfOk result (λ text. length text ≤ 65000) }
-{
-    let words = answer_words(alloc, schema, op, item, answer)?;
-    Ok(shortened(words))
 }
 
 /// Two words and a number.

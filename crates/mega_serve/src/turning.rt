@@ -14,7 +14,7 @@ ghost use Rattle.mega_page.specs.Causes.{HaveGone, IsCaused};
 ghost use Rattle.mega_serve.specs.Stepping.{event_of};
 ghost use Rattle.mega_serve.specs.Turns.{Ended, IsServing, Proceeds, schema_of, setting_of};
 
-use crate::replying::reply_all;
+use crate::replying::{note_all, reply_all};
 use crate::steps::{Event, Made, Steps};
 use crate::waiting::{Waiting, keep_open};
 use mega_base::{NoMemory, NodeId};
@@ -41,9 +41,17 @@ fn show(
     ensures { OnOk result ((lines : List Line) → IsPage schema.now page.old lines →
         IsPage schema.now page.new (((lines ++ map Noted made.now.items) ++ put_out made.now.sends) ++ flat_map (item_reply schema.now me (map waiting_of waiting.now)) made.now.items)) }
 {
-    page.note_all(alloc, schema, made.items.as_slice())?;
+    let mut replies = Vec::new(alloc);
+    note_all(
+        page,
+        alloc,
+        schema,
+        waiting,
+        made.items.as_slice(),
+        &mut replies,
+    )?;
     page.put_all(alloc, made.sends.as_slice())?;
-    reply_all(page, alloc, schema, me, waiting, made.items.as_slice())?;
+    reply_all(page, alloc, me, replies)?;
     Ok(())
 }
 

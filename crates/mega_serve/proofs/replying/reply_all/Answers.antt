@@ -1,12 +1,31 @@
-use Rattle.std.proofs.Common.{map, subst}
-use Rattle.std.specs.List.{flat_map}
+use Rattle.std.proofs.Common.{◌≡◌, ◌∷◌, ◌++◌, ◌∙◌, [], List, ap, append-nil, map, refl, rules, subst, sym}
+use Rattle.std.specs.Vec.Iter.{into_iter_items, into_iter_len}
 use Rattle.mega_page.specs.Pages.{IsPage}
-use Rattle.mega_serve.specs.Replies.{item_reply, waiting_of}
-use Rattle.mega_page.proofs.Gathering.{each_on, next_lines}
+use Rattle.mega_serve.specs.declared.replying.Reply.{Reply}
+use Rattle.mega_serve.specs.Replies.{put_reply}
+use Rattle.mega_serve.proofs.Gathered.{next_on, nothing_left, one_less}
 use Rattle.mega_serve.proofs.replying.reply_all.Goals as goal
 
-pub loop-item-preserved : goal.loop-item-preserved
-loop-item-preserved c = λ lines page.
-    let each = item_reply c.args.schema.now c.args.me (map waiting_of c.args.waiting.now) in
-    subst (IsPage c.args.schema.now c.reply_to_item.new.page) (next_lines (flat_map each) each (each_on each) c.args.items.now c.loop-item.item-index c.item-item.result c.loop-item-test.true c.item-item.is lines)
-    (c.in_ok-reply_to_item.ensures _ (c.loop-item.invariant lines page))
+pub loop-one-init : goal.loop-one-init
+loop-one-init c = record {
+  count = search rules;
+  given = λ schema lines page. (lines, (refl, page));
+}
+
+pub loop-one-preserved : goal.loop-one-preserved
+loop-one-preserved c = record {
+  count = one_less (into_iter_items c.loop-one.one-iterator) (into_iter_items c.next.new.self) c.in-Some.one (into_iter_len c.loop-one.one-iterator) (into_iter_len c.next.new.self) c.loop-one.invariant.count c.in-Some.ensures.steps.0 c.in-Some.ensures.steps.1;
+  given = λ schema lines page.
+      let so_far = c.loop-one.invariant.given schema lines page in
+      let put = put_reply c.args.me in
+      (so_far.0 ++ put c.in-Some.one ∷ [], (next_on so_far.0 _ (put c.in-Some.one) (map put (into_iter_items c.loop-one.one-iterator)) (map put (into_iter_items c.next.new.self)) so_far.1.0 (ap (map put) c.in-Some.ensures.steps.0), c.in_ok-give_reply.ensures schema so_far.0 so_far.1.1));
+}
+
+pub returns : goal.returns
+returns c = λ schema lines page.
+    let so_far = c.loop-one.invariant.given schema lines page in
+    let put = put_reply c.args.me in
+    let none : into_iter_items c.loop-one.one-iterator ≡ [] = nothing_left (into_iter_items c.loop-one.one-iterator) (sym c.loop-one.invariant.count ∙ c.in-None.ensures.steps.0) in
+    subst (IsPage schema c.loop-one.page)
+    (sym (append-nil so_far.0) ∙ ap (λ (left : List Reply). so_far.0 ++ map put left) (sym none) ∙ so_far.1.0 ∙ ap (λ (all : List Reply). lines ++ map put all) c.into_iter-one-iterator.ensures.into_iter_gives.0)
+    so_far.1.1
