@@ -7,3 +7,4 @@ pub mod Shown
 pub mod Stands
 pub mod Last
 pub mod Within
+pub use Rattle.mega_places.specs.of_durable.of_core as of_core

@@ -1,11 +1,10 @@
 //! A world begins: all nodes start for the first time, with nothing on their devices.
-ghost use Rattle.std.specs.Prelude.{◌≡◌, ◌⊎◌, ◌≤◌, ◌<◌, ◌+◌, ◌^◌, ◌++◌, ◌∷◌, [], length, true, IfOk, OnOk, OnErr, Err};
+ghost use Rattle.std.specs.Prelude.{◌≡◌, ◌++◌, ◌∷◌, [], length, true, IfOk, OnOk, OnErr, Err};
 ghost use Rattle.std.specs.Prelude.{All};
 ghost use Rattle.mega_places.specs.of_handler.Named.{Meanings};
 ghost use Rattle.mega_places.specs.of_promises.of_transcript.Lines.{HasLine};
 ghost use Rattle.mega_places.specs.of_promises.of_transcript.Tape.{newest};
 ghost use Rattle.mega_places.specs.of_durable.of_core.Served.{IsServed};
-ghost use Rattle.mega_places.specs.of_durable.of_view.Small.{IsSmall};
 ghost use Rattle.mega_places.specs.of_voter.of_rules.Members.{is_node};
 ghost use Rattle.mega_places.specs.of_promises.Runs.{opening};
 ghost use Rattle.mega_places.specs.declared.fault.WorldFault.TheVariants.{NoMemory as OutOfMemory};
@@ -54,7 +53,6 @@ fn add(places: &mut Vec<Place>, node: Member) -> Result<(), NoMemory>
 /// Starts all nodes of a cluster, in order, and puts their starts on the tape.
 fn start_all(alloc: Global, cluster: &Cluster, tape: &mut Tape) -> Result<Vec<Place>, WorldFault>
     requires tape { tape.old.items ≡ [] }
-    requires few { length cluster.now.nodes ≤ 9 }
     requires served { IsServed cluster.now }
     ensures count { IfOk result (λ places. length places.items ≡ length cluster.now.nodes) }
     ensures nodes { IfOk result (λ places. AreStarted cluster.now places.items) }
@@ -83,13 +81,7 @@ impl World {
     /// A cluster, of nodes of any kinds, all started for the first time on empty disks, with their starts on the tape, which is empty before.
     pub fn new(alloc: Global, cluster: &Cluster, tape: &mut Tape) -> Result<World, WorldFault>
         requires tape { tape.old.items ≡ [] }
-        requires few { length cluster.now.nodes ≤ 9 }
-        requires cells { (cluster.now.cells ≡ 1) ⊎ (cluster.now.cells ≡ 3) ⊎ (cluster.now.cells ≡ 5) }
-        requires fits { cluster.now.lease + cluster.now.margin < 2 ^ 64 }
-        requires lease { cluster.now.lease ≤ 1000000000 }
-        requires small { IsSmall cluster.now.schema }
-        requires limit { (cluster.now.limit).0 ≤ 1000000 }
-        requires housed { cluster.now.cells ≤ length cluster.now.nodes }
+        requires served { IsServed cluster.now }
         ensures state { IfOk result (λ world. (h : Meanings) → IsAt cluster.now world (opening cluster.now h)) }
         ensures tape { OnOk result ((h : Meanings) → newest tape.new.items ≡ (opening cluster.now h).tape) }
         ensures lines { OnOk result (All HasLine tape.new.items) }

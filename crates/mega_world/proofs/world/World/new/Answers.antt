@@ -3,22 +3,18 @@ use Rattle.mega_world.proofs.Behind.{at_is}
 use Rattle.mega_world.proofs.Opened.{cells_few, opening_formed, opening_leases, opening_mail, opening_nodes, opening_tape, opening_within}
 use Rattle.mega_world.proofs.world.World.new.Goals as goal
 
-pub start_all-requires-clause-served : goal.start_all-requires-clause-served
-start_all-requires-clause-served c =
-    record { few = c.requires.few; cells = c.requires.cells; housed = c.requires.housed; fits = c.requires.fits; lease = c.requires.lease; limit = c.requires.limit; small = c.requires.small }
-
 pub returns-clause-state : goal.returns-clause-state
 returns-clause-state c h =
     let cluster = c.args.cluster.now in
     at_is cluster (record { cluster = c.in_ok-own.own; places = c.in-Ok.places; mail = c.new.result; safety = c.new-2.result }) c.start_all.new.tape.items (opening cluster h) (record {
       cluster = c.in_ok-own.ensures;
-      served = record { few = c.requires.few; cells = c.requires.cells; housed = c.requires.housed; fits = c.requires.fits; lease = c.requires.lease; limit = c.requires.limit; small = c.requires.small };
+      served = c.requires.served;
       nodes = opening_nodes cluster h c.in-Ok.places.items c.in-Ok.ensures.count c.in-Ok.ensures.nodes;
       mail = opening_mail cluster h c.new.result c.new.ensures;
       tape = opening_tape cluster h c.start_all.new.tape.items c.in-Ok.ensures.tape;
       leases = opening_leases cluster h c.new-2.result c.new-2.ensures.lapses c.new-2.ensures.told;
-      formed = opening_formed cluster h (record { nodes = c.requires.few; cells = cells_few cluster.cells c.requires.cells; limit = c.requires.limit }) c.requires.lease;
-      within = opening_within cluster h c.requires.housed;
+      formed = opening_formed cluster h (record { nodes = c.requires.served.few; cells = cells_few cluster.cells c.requires.served.cells; limit = c.requires.served.limit }) c.requires.served.lease;
+      within = opening_within cluster h c.requires.served.housed;
     })
 
 pub returns-clause-tape : goal.returns-clause-tape
