@@ -13,6 +13,7 @@ schema = "CREATE SCHEMA S; CREATE TABLE User { required int64 user_id; required 
 ---
 '''
 CALLS, IMAGES = range(5), range(3)
+APPEND = 4
 
 
 class Trial:
@@ -85,7 +86,9 @@ def each_stop(trial, image, step, node=2):
         event = step(trial, 10 * image + number + 1)
         trial.do(do="fuse", node=node, calls=calls, image=image)
         event()
-        if trial.is_down(node):
+        if trial.is_down(node) != (calls < APPEND):
+            sys.exit(f"a fuse of {calls} calls: down {trial.is_down(node)}\n{trial.text()[-600:]}")
+        if calls < APPEND:
             trial.start(node)
         trial.do(do="fuse", node=node, calls=1000000, image=0)
         trial.drain()
@@ -117,6 +120,16 @@ def decide(trial, user):
     return lambda: trial.do(do="deliver", message=number)
 
 
+def have(trial, user):
+    """Node 2 lost what node 1 told it of a decision, and reads: another node tells it what was decided."""
+    trial.put(1, user)
+    trial.do(do="drop", message=trial.until("decide", 2))
+    trial.drain()
+    trial.do(do="read", node=2, mode="current", group=["User", [user]], rows=[])
+    number = trial.until("have", 2)
+    return lambda: trial.do(do="deliver", message=number)
+
+
 def own_decide(trial, user):
     """The vote that settles the put of node 2 arrives: it decides, applies and answers."""
     trial.put(2, user)
@@ -140,11 +153,11 @@ def grant(trial, user):
 
 
 def lapse(trial, user):
-    """The clock of node 2 passes a lease that its cell granted, whose node is silent."""
+    """The clock of node 2, which ticked in this start, passes a lease that its cell granted, whose node is silent."""
+    trial.tick(2, 60)
     trial.tick(1, 60)
     trial.drain()
-    trial.clocks[2] = trial.clocks.get(2, 0) + 400
-
+    trial.clocks[2] += 400
     return lambda: trial.do(do="tick", node=2, now=trial.clocks[2])
 
 
@@ -155,7 +168,7 @@ def start(trial, user):
     return lambda: trial.start(2)
 
 
-STEPS = {"accept": accept, "promise": promise, "decide": decide, "own-decide": own_decide, "grant": grant, "lapse": lapse, "start": start}
+STEPS = {"accept": accept, "promise": promise, "decide": decide, "have": have, "own-decide": own_decide, "grant": grant, "lapse": lapse, "start": start}
 
 
 def main(program, folder):
