@@ -130,17 +130,31 @@ def have(trial, user):
     return lambda: trial.do(do="deliver", message=number)
 
 
-def own_decide(trial, user):
-    """The vote that settles the put of node 2 arrives: it decides, applies and answers."""
-    trial.put(2, user)
+def at_decision(trial):
+    """Delivers until the next delivery lets node 2 decide, and gives that delivery."""
     for _ in range(60):
-        waiting = trial.waiting()
         before = trial.replayed()
         trial.drain(1)
         if "\ndecide 2 " in trial.replayed()[len(before):]:
             trial.lines.pop()
-            break
-    return lambda: trial.drain(1)
+            return lambda: trial.drain(1)
+    sys.exit(f"no decision came\n{trial.text()[-900:]}")
+
+
+def own_decide(trial, user):
+    """The vote that settles the put of node 2 arrives: it decides, applies and answers."""
+    trial.put(2, user)
+    return at_decision(trial)
+
+
+def fill(trial, user):
+    """A put is accepted at its leader alone; a read of node 2 finds no vote elsewhere, and the vote arrives that settles a no-op."""
+    trial.put(1, user)
+    trial.do(do="drop", message=trial.until("accepted", 1))
+    trial.drain()
+    trial.do(do="read", node=2, mode="current", group=["User", [user]], rows=[])
+    trial.do(do="drop", message=trial.until("prepare", 1))
+    return at_decision(trial)
 
 
 def grant(trial, user):
@@ -168,7 +182,17 @@ def start(trial, user):
     return lambda: trial.start(2)
 
 
-STEPS = {"accept": accept, "promise": promise, "decide": decide, "have": have, "own-decide": own_decide, "grant": grant, "lapse": lapse, "start": start}
+STEPS = {
+    "accept": accept,
+    "promise": promise,
+    "decide": decide,
+    "have": have,
+    "own-decide": own_decide,
+    "fill": fill,
+    "grant": grant,
+    "lapse": lapse,
+    "start": start,
+}
 
 
 def main(program, folder):
