@@ -3,7 +3,9 @@
 
     docs/measure.py PROGRAM steps                one node alone, 10,000 to 1,000,000 deliveries of the messages of puts
     docs/measure.py PROGRAM drawn                lines of `gen --seed 7 --nodes 5`, 10,000 to 1,000,000
-    docs/measure.py PROGRAM puts                 puts to one group of three nodes, each drained, 1,000 to 50,000
+    docs/measure.py PROGRAM puts                 puts to one group of three nodes, each drained, 1,000 to 100,000
+    docs/measure.py PROGRAM open                 puts of eight nodes in blocks of 500 that are open at once, 500 to 20,000
+    docs/measure.py PROGRAM apart                the same puts, each drained before the next, 500 to 20,000
     docs/measure.py PROGRAM queues               messages that one group sends to another, each entered and handled by pumps, 250 to 4,000
     docs/measure.py PROGRAM ticks                as many groups as ticks at one node, 500 to 8,000
 
@@ -42,6 +44,23 @@ def puts(out, count):
         out.write(DRAIN)
 
 
+def in_blocks(out, count, block):
+    """Puts of eight nodes, each to a group of its own in a block, with a drain behind each block. A node has at most 64 operations open, so that all 500 of a block may be."""
+    out.write(HEADER.format(schema=SCHEMA, nodes=", ".join(['"full"'] * 8)))
+    for number in range(count):
+        out.write(put(1 + number % 8, number % 500, number))
+        if number % block == block - 1:
+            out.write('{"do":"drain","most":1000000}\n')
+
+
+def open_at_once(out, count):
+    in_blocks(out, count, 500)
+
+
+def apart(out, count):
+    in_blocks(out, count, 1)
+
+
 BANK = r"CREATE SCHEMA Bank; CREATE TABLE Account { required int64 id; required int64 balance; } PRIMARY KEY(id), ENTITY GROUP ROOT;"
 ONE = "00000000000000010201800000000000000201"
 
@@ -77,7 +96,7 @@ def run(program, name, count):
         if name == "drawn":
             subprocess.run([program, "gen", "--seed", "7", "--count", str(count), "--nodes", "5"], stdout=it, check=True)
         else:
-            {"steps": steps, "puts": puts, "queues": queues, "ticks": ticks}[name](it, count)
+            {"steps": steps, "puts": puts, "open": open_at_once, "apart": apart, "queues": queues, "ticks": ticks}[name](it, count)
         it.flush()
         it.seek(0)
         words = ["/usr/bin/env", "python3", "-c", CHILD, program]
@@ -95,7 +114,9 @@ print(used.ru_utime + used.ru_stime, used.ru_maxrss)
 COUNTS = {
     "steps": (10_000, 100_000, 1_000_000),
     "drawn": (10_000, 100_000, 1_000_000),
-    "puts": (1_000, 10_000, 50_000),
+    "puts": (1_000, 10_000, 50_000, 100_000),
+    "open": (500, 5_000, 20_000),
+    "apart": (500, 5_000, 20_000),
     "queues": (250, 500, 1_000, 2_000, 4_000),
     "ticks": (500, 1_000, 2_000, 4_000, 8_000),
 }

@@ -13,6 +13,7 @@ schema = "CREATE SCHEMA S; CREATE TABLE User { required int64 user_id; required 
 ---
 '''
 CALLS, IMAGES = range(5), range(3)
+APPEND = 4
 
 
 class Trial:
@@ -85,7 +86,9 @@ def each_stop(trial, image, step, node=2):
         event = step(trial, 10 * image + number + 1)
         trial.do(do="fuse", node=node, calls=calls, image=image)
         event()
-        if trial.is_down(node):
+        if trial.is_down(node) != (calls < APPEND):
+            sys.exit(f"a fuse of {calls} calls: down {trial.is_down(node)}\n{trial.text()[-600:]}")
+        if calls < APPEND:
             trial.start(node)
         trial.do(do="fuse", node=node, calls=1000000, image=0)
         trial.drain()
@@ -117,17 +120,41 @@ def decide(trial, user):
     return lambda: trial.do(do="deliver", message=number)
 
 
-def own_decide(trial, user):
-    """The vote that settles the put of node 2 arrives: it decides, applies and answers."""
-    trial.put(2, user)
+def have(trial, user):
+    """Node 2 lost what node 1 told it of a decision, and reads: another node tells it what was decided."""
+    trial.put(1, user)
+    trial.do(do="drop", message=trial.until("decide", 2))
+    trial.drain()
+    trial.do(do="read", node=2, mode="current", group=["User", [user]], rows=[])
+    number = trial.until("have", 2)
+    return lambda: trial.do(do="deliver", message=number)
+
+
+def at_decision(trial):
+    """Delivers until the next delivery lets node 2 decide, and gives that delivery."""
     for _ in range(60):
-        waiting = trial.waiting()
         before = trial.replayed()
         trial.drain(1)
         if "\ndecide 2 " in trial.replayed()[len(before):]:
             trial.lines.pop()
-            break
-    return lambda: trial.drain(1)
+            return lambda: trial.drain(1)
+    sys.exit(f"no decision came\n{trial.text()[-900:]}")
+
+
+def own_decide(trial, user):
+    """The vote that settles the put of node 2 arrives: it decides, applies and answers."""
+    trial.put(2, user)
+    return at_decision(trial)
+
+
+def fill(trial, user):
+    """A put is accepted at its leader alone; a read of node 2 finds no vote elsewhere, and the vote arrives that settles a no-op."""
+    trial.put(1, user)
+    trial.do(do="drop", message=trial.until("accepted", 1))
+    trial.drain()
+    trial.do(do="read", node=2, mode="current", group=["User", [user]], rows=[])
+    trial.do(do="drop", message=trial.until("prepare", 1))
+    return at_decision(trial)
 
 
 def grant(trial, user):
@@ -140,11 +167,11 @@ def grant(trial, user):
 
 
 def lapse(trial, user):
-    """The clock of node 2 passes a lease that its cell granted, whose node is silent."""
+    """The clock of node 2, which ticked in this start, passes a lease that its cell granted, whose node is silent."""
+    trial.tick(2, 60)
     trial.tick(1, 60)
     trial.drain()
-    trial.clocks[2] = trial.clocks.get(2, 0) + 400
-
+    trial.clocks[2] += 400
     return lambda: trial.do(do="tick", node=2, now=trial.clocks[2])
 
 
@@ -155,7 +182,17 @@ def start(trial, user):
     return lambda: trial.start(2)
 
 
-STEPS = {"accept": accept, "promise": promise, "decide": decide, "own-decide": own_decide, "grant": grant, "lapse": lapse, "start": start}
+STEPS = {
+    "accept": accept,
+    "promise": promise,
+    "decide": decide,
+    "have": have,
+    "own-decide": own_decide,
+    "fill": fill,
+    "grant": grant,
+    "lapse": lapse,
+    "start": start,
+}
 
 
 def main(program, folder):

@@ -1,4 +1,4 @@
-"""How fast three nodes on one machine are: puts, local reads and batches, beside the bare disk."""
+"""How fast three nodes on one machine are: puts, local reads, batches, and the longest turn over long logs, beside the bare disk."""
 import os
 import select
 import statistics
@@ -12,6 +12,7 @@ BATCHES = 4_000
 CLIENTS = 64
 TRANSACTIONS = 16
 SECONDS = 15
+FILLING_SECONDS = 120
 
 
 def tell(name, times, each=1):
@@ -87,38 +88,98 @@ def batch_of(user, first):
     return {"do": "batch", "group": ["User", [user]], "txns": txns}
 
 
-def batch_often(cluster):
-    """Many clients, each with a group of its own and one batch on its way; gives how long all took, and how many were committed."""
+def ask_in_parallel(cluster, wish, count, seconds):
+    """Many clients, each with one request on its way, until so many were sent or the time is over; gives how long all took, and the answers."""
     clients = [Client(cluster) for _ in range(CLIENTS)]
     by_socket = {client.socket: index for index, client in enumerate(clients)}
     sent = [0] * CLIENTS
 
     def send(index):
         node = index % len(cluster.ports) + 1
-        _, datagram = clients[index].request(node, batch_of(1_000 + index, sent[index] * TRANSACTIONS))
+        _, datagram = clients[index].request(node, wish(index, sent[index]))
         clients[index].send(node, datagram)
         sent[index] += 1
 
-    committed = 0
+    answers = []
     begun = time.perf_counter()
     for index in range(CLIENTS):
         send(index)
-    while sum(sent) < BATCHES and time.perf_counter() - begun < SECONDS:
+    while sum(sent) < count and time.perf_counter() - begun < seconds:
         for one in select.select(list(by_socket), [], [], 5.0)[0]:
             index = by_socket[one]
             reply = read_reply(clients[index].receive(1.0) or b"")
-            committed += bool(reply) and reply[2].startswith("batch ") and not reply[2].startswith("batch none")
+            answers.append(reply[2] if reply else "")
             send(index)
     took = time.perf_counter() - begun
     for client in clients:
         client.close()
-    return took, committed
+    return took, answers
 
 
-def measure(cluster, client):
-    tell("bare disk, two writes and two syncs", sync_twice(cluster.folder))
+def batch_often(cluster):
+    """Batches of many clients, each with a group of its own; gives how long all took, and how many were committed."""
+    took, answers = ask_in_parallel(cluster, lambda index, number: batch_of(1_000 + index, number * TRANSACTIONS), BATCHES, SECONDS)
+    return took, sum(text.startswith("batch ") and not text.startswith("batch none") for text in answers)
+
+
+def fill(cluster, positions):
+    """Puts of many clients, each into a group of its own, until the logs have so many positions more; gives how many were committed."""
+    seconds = FILLING_SECONDS * cluster.slower
+    _, answers = ask_in_parallel(cluster, lambda index, number: put_note(2_000 + index, number, "a note of some words"), positions, seconds)
+    return sum(text.startswith("committed ") for text in answers)
+
+
+def longest_turn(record):
+    """The longest time in milliseconds from the tick of a turn to that of the next, as the node's record has them. A turn in which nothing comes waits for up to 8."""
+    longest, last = 0, None
+    with record.open("rb") as lines:
+        for line in lines:
+            if line.startswith(b"tick "):
+                now = int(line.split()[2])
+                longest = max(longest, 0 if last is None else now - last)
+                last = now
+    return longest
+
+
+def run_time(process):
+    """How many nanoseconds a process ran on a processor, as Linux tells."""
+    with open(f"/proc/{process.pid}/schedstat") as told:
+        return int(told.read().split()[0])
+
+
+def put_and_watch(cluster, client):
+    """Puts at node 1, and how many nanoseconds it ran during each."""
+    spent = []
+
+    def make(number):
+        token, datagram = client.request(1, put_note(1, number, "a note of some words"))
+
+        def act():
+            before = run_time(cluster.processes[1])
+            expect(client.exchange(1, token, datagram), "committed")
+            spent.append(run_time(cluster.processes[1]) - before)
+
+        return act
+
+    return timed(make, PUTS), spent
+
+
+def tell_longest(cluster, client, positions):
+    """The longest turn of each node while its log grows by so many positions, and the longest of the puts behind them, one of which waits for a compaction."""
+    committed = fill(cluster, positions)
+    times, spent = put_and_watch(cluster, client)
+    turns = ", ".join(str(longest_turn(cluster.record(node))) for node in cluster.numbers())
+    print(f"{committed:,} positions more: longest turns {turns} ms")
+    print(f"{len(times):,} puts behind them: longest {max(times) * 1e3:,.1f} ms; node 1 ran for at most {max(spent) / 1e6:,.1f} ms in one, and {statistics.median(spent) / 1e6:,.2f} ms in most")
+
+
+def measure(cluster, client, positions):
+    bare = sync_twice(cluster.folder)
+    tell("bare disk, two writes and two syncs", bare)
     tell("puts of one client", put_often(client))
     tell("local current reads of one client", read_often(client))
     took, committed = batch_often(cluster)
     print(f"batches of {TRANSACTIONS} at {CLIENTS} clients: {committed * TRANSACTIONS / took:,.0f} transactions a second")
+    print(f"bare disk: longest two writes and two syncs {max(bare) * 1e3:,.1f} ms")
+    tell_longest(cluster, client, positions)
     return 0

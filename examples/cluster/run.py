@@ -2,7 +2,7 @@
 """Three nodes on one machine: puts are acknowledged, one node is killed and starts again, and no acknowledged put is missing.
 
     examples/cluster/run.py [--program PATH]            shows what is asked and answered
-    examples/cluster/run.py [--program PATH] --figures  measures puts, local reads and batches beside the bare disk
+    examples/cluster/run.py [--program PATH] --figures  measures puts, local reads, batches and the longest turn beside the bare disk
 
 The nodes stand in a temporary folder, talk over the loopback, and are ended at the end. ./build makes the program.
 """
@@ -76,15 +76,16 @@ def main():
     parser.add_argument("--folder", type=pathlib.Path, help="where the temporary folder is made")
     parser.add_argument("--slower", type=int, default=1, metavar="N", help="N times as long leases and rounds, for a busy machine")
     parser.add_argument("--figures", action="store_true", help="measure")
+    parser.add_argument("--positions", type=int, default=50_000, metavar="N", help="how many positions the logs get before the longest turn is told")
     given = parser.parse_args()
     program = (given.program or find_program()).resolve()
-    end_within(120 * given.slower)
+    end_within((300 if given.figures else 120) * given.slower)
     with tempfile.TemporaryDirectory(prefix="megastore-", dir=given.folder) as folder:
         with Cluster(folder, program, slower=given.slower) as cluster:
             client = Client(cluster)
             for node in cluster.numbers():
                 client.wait_for(node)
-            return measure(cluster, client) if given.figures else show(cluster, client)
+            return measure(cluster, client, given.positions) if given.figures else show(cluster, client)
 
 
 if __name__ == "__main__":

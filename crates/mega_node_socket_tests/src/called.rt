@@ -2,7 +2,8 @@
 ghost use Rattle.std.specs.Prelude.{◌≤◌};
 
 use mega_base::{Bytes, Copied, NodeId};
-use mega_disk::{MemDisk, Pair};
+use mega_checkpoint::Checkpoint;
+use mega_disk::{MemDisk, Pair, Records};
 use mega_io::{MemSink, MemSource};
 use mega_link::{MemClock, MemLink, Peer};
 use mega_meanings::BuiltIn;
@@ -25,6 +26,14 @@ pub fn empty(alloc: Global) -> Pair<MemDisk> {
     Pair {
         log: MemDisk::new(alloc),
         runs: MemDisk::new(alloc),
+    }
+}
+
+/// The number of records on a log device.
+pub fn records_on(alloc: Global, log: MemDisk) -> Result<u64, Fail> {
+    match Checkpoint::open(alloc, log) {
+        Ok(store) => Ok(store.count()),
+        Err(_) => Err(Fail::from("not opened")),
     }
 }
 

@@ -1,6 +1,6 @@
 //! A node that starts 4,200 times over one pair of devices: its log is compacted, opens again, and counts on.
 
-use crate::called::{call, empty};
+use crate::called::{call, empty, records_on};
 use crate::samples;
 use mega_base::Bytes;
 use mega_checkpoint::Checkpoint;
@@ -51,14 +51,6 @@ fn started_often(
         devices = left;
     }
     Ok((text, devices))
-}
-
-/// The number of records on a log device.
-fn records_on(alloc: Global, log: MemDisk) -> Result<u64, Fail> {
-    match Checkpoint::open(alloc, log) {
-        Ok(store) => Ok(store.count()),
-        Err(_) => Err(Fail::from("not opened")),
-    }
 }
 
 /// In the turn of start 4,096 the records are due and become one; 104 starts follow.

@@ -1,8 +1,10 @@
 //! The records of nodes: worked, of strange datagrams, and over devices that were used before.
 
-use crate::called::{Called, call, datagrams, empty, passed_on};
+use crate::called::{Called, call, datagrams, empty, passed_on, records_on};
 use crate::talk::{Talk, alone};
 use crate::{samples, talk_samples};
+use mega_base::Bytes;
+use mega_disk::{MemDisk, Pair};
 use mega_link::MemClock;
 use std::alloc::Global;
 use std::process::Abort;
@@ -63,54 +65,92 @@ fn a_node_counts_its_starts_on_its_log(rt: HostRuntime) -> Result<(), Fail> {
     Ok(())
 }
 
-/// Asserts that a node of three records this behind its first tick.
-fn check(
-    rt: &impl Abort,
-    alloc: Global,
-    turns: u64,
-    coming: &str,
-    wanted: &str,
-) -> Result<Called, Fail> {
-    let made = call(
+/// Calls node 1 of three over these devices, to which one datagram comes in each turn.
+fn called(alloc: Global, turns: u64, coming: &str, devices: Pair<MemDisk>) -> Result<Called, Fail> {
+    let coming = datagrams(alloc, coming)?;
+    call(
         alloc,
         1,
         turns,
         samples::THREE,
-        datagrams(alloc, coming)?,
+        coming,
         still(alloc),
-        empty(alloc),
-    )?;
-    let mut whole = mega_base::Bytes::from_slice(alloc, samples::FIRST_TICK.as_bytes())?;
-    whole.extend_from_slice(wanted.as_bytes())?;
-    assert_eq!(rt; made.text.as_slice(), whole.as_slice());
-    assert_eq!(rt; made.status, 0);
-    Ok(made)
+        devices,
+    )
 }
 
+/// Asserts that a call ended well, sent so much, and recorded these texts one behind the other.
+fn check(
+    rt: &impl Abort,
+    alloc: Global,
+    made: &Called,
+    sent: usize,
+    front: &str,
+    rest: &[u8],
+) -> Result<(), Fail> {
+    let mut whole = Bytes::from_slice(alloc, front.as_bytes())?;
+    whole.extend_from_slice(rest)?;
+    assert_eq!(rt; made.text.as_slice(), whole.as_slice());
+    assert_eq!(rt; made.status, 0);
+    assert_eq!(rt; made.link.sent().len(), sent);
+    Ok(())
+}
+
+/// What a node records of datagrams that change nothing, one a turn.
+fn got(alloc: Global, coming: &str) -> Result<Bytes, Fail> {
+    let mut text = Bytes::new(alloc);
+    for line in coming.lines() {
+        if !text.as_slice().is_empty() {
+            text.extend_from_slice(b"tick 1 0\n")?;
+        }
+        let (title, rest) = match line.strip_prefix('c') {
+            Some(rest) => ("got client ", rest),
+            None => ("got ", line),
+        };
+        text.extend_from_slice(title.as_bytes())?;
+        text.extend_from_slice(rest.as_bytes())?;
+        text.extend_from_slice(b"\n")?;
+    }
+    Ok(text)
+}
+
+/// In its start 1 node 1 began an operation and asked for its locks; in start 2 neither an answer to that operation nor a grant of that epoch is for it.
 #[test]
 fn strange_datagrams_change_nothing(rt: HostRuntime) -> Result<(), Fail> {
-    let made = check(
+    let alloc = rt.alloc();
+    let first = called(alloc, 1, samples::PUT_ASKED, empty(alloc))?;
+    assert_eq!(rt; first.link.sent().len(), 6);
+    let devices = first.devices.ok_or("no devices")?;
+    let made = called(alloc, 16, samples::STRANGE, devices)?;
+    let wanted = got(alloc, samples::STRANGE)?;
+    check(
         &rt,
-        rt.alloc(),
-        6,
-        samples::STRANGE,
-        samples::STRANGE_RECORD,
+        alloc,
+        &made,
+        3,
+        samples::SECOND_START,
+        wanted.as_slice(),
     )?;
-    assert_eq!(rt; made.link.sent().len(), 3);
+    let devices = made.devices.ok_or("no devices")?;
+    assert_eq!(rt; records_on(alloc, devices.log)?, 2);
     Ok(())
+}
+
+/// The messages that strange ones are made from are served: the `where` is answered.
+#[test]
+fn a_whole_where_is_answered(rt: HostRuntime) -> Result<(), Fail> {
+    let alloc = rt.alloc();
+    let made = called(alloc, 1, samples::WHERE, empty(alloc))?;
+    let wanted = samples::WHERE_RECORD.as_bytes();
+    check(&rt, alloc, &made, 4, samples::FIRST_TICK, wanted)
 }
 
 #[test]
 fn a_client_that_asks_for_nothing_is_told_why_not(rt: HostRuntime) -> Result<(), Fail> {
-    let made = check(
-        &rt,
-        rt.alloc(),
-        1,
-        samples::NOTHING_ASKED,
-        samples::NOTHING_ASKED_RECORD,
-    )?;
-    assert_eq!(rt; made.link.sent().len(), 4);
-    Ok(())
+    let alloc = rt.alloc();
+    let made = called(alloc, 1, samples::NOTHING_ASKED, empty(alloc))?;
+    let wanted = samples::NOTHING_ASKED_RECORD.as_bytes();
+    check(&rt, alloc, &made, 4, samples::FIRST_TICK, wanted)
 }
 
 #[test]
