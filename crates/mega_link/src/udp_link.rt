@@ -6,9 +6,9 @@ use crate::peer::{Failed, Peer};
 use indexmap::IndexSet;
 use mega_base::{NoMemory, NodeId, Text};
 use std::alloc::Global;
-use std::io;
 use std::net::{Ipv4Addr, Net, SocketAddr, ToSocketAddrs, UdpSocket};
 use std::time::{Clock as SystemClock, Duration, Instant};
+use std::{io, thread};
 
 /// How many milliseconds a receive waits. The system rounds them up to its own ticks, and they stay below
 /// 10 then.
@@ -62,7 +62,7 @@ fn is_over<R: SystemClock>(system: &R, begun: Instant) -> bool {
     }
 }
 
-/// What comes within a short time to a socket that does not block.
+/// What comes within a short time to a socket that does not block. Between two polls others may have the processor.
 fn poll<R: SystemClock>(
     system: &R,
     socket: &UdpSocket,
@@ -78,6 +78,7 @@ fn poll<R: SystemClock>(
         if is_over(system, begun) {
             return None;
         }
+        thread::yield_now();
     }
     None
 }

@@ -1,5 +1,5 @@
 -- The replies to clients, by the items that a step shows.
-use Rattle.std.specs.Prelude.{ℕ, List, [], find, map, Option, take}
+use Rattle.std.specs.Prelude.{ℕ, List, [], find, Option, take}
 use Rattle.mega_base.specs.declared.names.OpId.{OpId}
 use Rattle.mega_schema.specs.declared.schema.Schema.{Schema}
 use Rattle.mega_wire.specs.declared.message.Body.TheVariants.{Reply as Replies}
