@@ -1,9 +1,11 @@
 #!/usr/bin/env python3
-"""Prints, for each crate of crates.txt, the crates whose code it calls, and those that only its contracts and proofs cite.
+"""Writes docs/GRAPH.md: for each crate of crates.txt the crates whose code it calls, apart from those that only its contracts
+and proofs cite.
 
 Usage, at the top of the repository: docs/crate_graph.py
 """
 import re
+from functools import cache
 from pathlib import Path
 
 TOP = Path(__file__).resolve().parent.parent
@@ -37,15 +39,42 @@ def uses(crate, known):
     return called, cited - called
 
 
+def longest_chain(order, below):
+    """The longest list of crates each of which uses the one before it."""
+
+    @cache
+    def chain(crate):
+        return max((chain(name) for name in sorted(below[crate], key=order.index)), key=len, default=()) + (crate,)
+
+    return max((chain(crate) for crate in order), key=len)
+
+
+def shown(names):
+    return ", ".join(name.removeprefix("mega_") for name in names)
+
+
 def main():
     order = crates()
-    rank = {name: place for place, name in enumerate(order)}
-    print("| crate | its code calls | only contracts and proofs cite |")
-    print("|---|---|---|")
+    used = {crate: uses(crate, set(order)) for crate in order}
+    by_code = longest_chain(order, {crate: called for crate, (called, _) in used.items()})
+    by_all = longest_chain(order, {crate: called | cited for crate, (called, cited) in used.items()})
+    lines = [
+        "# Graph",
+        "",
+        "Which crates the code of each crate calls, apart from those that only its contracts, definitions and proofs cite. Written by",
+        "`docs/crate_graph.py` out of the sources, the lowest crates first; names stand without `mega_`.",
+        "",
+        f"The longest chain by code has {len(by_code)} crates: {shown(by_code)}.",
+        "",
+        f"With what proofs cite it has {len(by_all)}: {shown(by_all)}.",
+        "",
+        "| crate | its code calls | only contracts and proofs cite |",
+        "|---|---|---|",
+    ]
     for crate in order:
-        called, cited = uses(crate, rank)
-        shown = [", ".join(name.removeprefix("mega_") for name in sorted(names, key=rank.get)) for names in (called, cited)]
-        print(f"| `{crate}` | {shown[0]} | {shown[1]} |")
+        called, cited = (shown(sorted(names, key=order.index)) for names in used[crate])
+        lines.append(f"| `{crate.removeprefix('mega_')}` | {called} | {cited} |")
+    (TOP / "docs/GRAPH.md").write_text("\n".join(lines) + "\n")
 
 
 if __name__ == "__main__":
