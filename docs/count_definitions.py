@@ -3,106 +3,135 @@
 
     docs/count_definitions.py mega_promises.Runs.IsRun mega_promises.Promises.IsSerial ..
 
-A name is CRATE.MODULE.NAME. Each declaration that is reached by names counts once, with its signature. The fields of a record and the local names of a
-`where` block are no names of their own: they are read through what declares them.
+A name is CRATE.MODULE.NAME. Each declaration that is reached counts once, with its signature and all of its clauses. It reaches what its words and
+its operators name in its module or in an import, through what libraries pass on (`Lib.antt`); a `do` reaches `>>=`. What std and the types of the
+sources declare is not counted. Parameters, fields of a record and local names of a `where` block are no names of their own: they are read through
+what declares them.
 """
 import os
 import re
 import sys
 
 CRATES = os.path.join(os.path.dirname(os.path.abspath(__file__)), "..", "crates")
-HEAD = re.compile(r"^(?:unfoldable |abbrev )?(?:pub )?(?:(?:record|data) )?([^\s(:]+)(?= |$)")
-# what a crate passes on of one below it
-PASSED_ON = re.compile(r"^\w+\.of_(\w+)")
-WORD = re.compile(r"[\w◌≡-]+(?:\.[\w-]+)*")
+HEAD = re.compile(r"(?:unfoldable |abbrev )?(?:pub )?(?:(?:record|data) )?([^\s(:]+)(?= |$)")
+IMPORT = re.compile(r"(?:pub )?use Rattle\.(\w+)\.specs\.([\w.]+?)(?:\.\{(.*)\})?(?: as (\w+))?$")
+PASSED_ON = re.compile(r"(?:unfoldable )?pub use Rattle\.(\w+)\.specs(?:\.([\w.]+))?(?: as (\w+))?$")
+FIXITY = re.compile(r"infix[lr]? \d+ (◌.+◌)$")
+WORD = re.compile(r"[\w◌≡'-]+(?:\.[\w'-]+)*")
+SIGN = re.compile(r"[^\w\s()\[\]{},.'\"]+")
+BINDER = re.compile(r"[({] ?([\w' -]+?) : |λ ([\w' -]+?)\. ")
 
 
-BINDER = re.compile(r"[({] ?([\w' -]+?) : ")
-LAMBDA = re.compile(r"λ ([\w' -]+?)\. ")
+def path_of(crate, module):
+    return os.path.join(CRATES, crate, "specs", *module.split(".")) + ".antt"
 
 
-def bound_in(name, lines):
-    """The names that a declaration binds itself: parameters, variables of patterns and of λ, fields, local functions."""
-    bound = set()
-    for text in lines:
-        for names in BINDER.findall(text) + LAMBDA.findall(text):
-            bound.update(names.split())
-        field = re.match(r"(?:pub )?([\w-]+) : ", text)
-        if field and field.group(1) != name:
-            bound.add(field.group(1))
-        left, equals, _ = text.partition(" = ")
-        if equals and not left.startswith(("let ", "record")):
-            words = re.findall(r"[\w'-]+(?:\.[\w-]+)*", left)
-            bound.update(word for word in words[1:] if word[0].islower())
-            bound.update(word for word in words[:1] if word != name and word[0].islower())
-        bound.update(re.findall(r"let (\w+) = ", text))
-    return bound - {name}
+def passed_on(crate):
+    """What the library of a crate passes on: a name, and the crate and the module that it stands for."""
+    found = {}
+    if os.path.exists(path_of(crate, "Lib")):
+        for line in open(path_of(crate, "Lib"), encoding="utf-8"):
+            match = PASSED_ON.match(line.strip())
+            if match:
+                below, module, name = match.groups()
+                found[name or module.split(".")[-1]] = (below, module or "")
+    return found
 
 
-def path_of(module):
-    crate, _, rest = module.partition(".")
-    path = os.path.join(CRATES, crate, "specs", *rest.split(".")) + ".antt"
-    return path if os.path.exists(path) else None
+def home_of(crate, module):
+    """The crate and the module in which the definitions of a module stand, or None where they stand in no specs folder."""
+    while module and not os.path.exists(path_of(crate, module)):
+        first, _, rest = module.partition(".")
+        if first not in passed_on(crate):
+            return None
+        crate, above = passed_on(crate)[first]
+        module = ".".join(part for part in (above, rest) if part)
+    return (crate, module) if module else None
 
 
 class Module:
-    def __init__(self, path):
+    def __init__(self, home):
         self.imports, self.declared, self.constructors = {}, {}, {}
         name, is_data = None, False
-        for line in open(path, encoding="utf-8"):
+        for line in open(path_of(*home), encoding="utf-8"):
             line = line.rstrip()
             text = line.strip()
             if not text or text.startswith("--"):
                 continue
-            if line.startswith("use "):
+            if line.startswith(("use ", "pub use ")):
                 self.imported(line)
                 continue
-            if not line.startswith(" "):
-                head = HEAD.match(line)
-                name = head.group(1) if head else name
-                self.declared.setdefault(name, [])
+            if line[0] not in " })" and not is_clause_of(name, line):
+                name = (FIXITY.match(line) or HEAD.match(line)).group(1)
                 is_data = line.startswith(("data ", "pub data "))
             elif is_data and re.match(r"[\w-]+ :", text):
-                self.constructors.setdefault(text.split(" ")[0], name)
-            self.declared[name].append(text)
+                self.constructors[text.split(" ")[0]] = name
+            self.declared.setdefault(name, []).append(text)
 
     def imported(self, line):
-        match = re.match(r"use Rattle\.(\w+)\.specs\.([\w.]+?)(?:\.\{(.*)\})?(?: as (\w+))?$", line)
-        if not match or match.group(2).startswith("declared"):
-            return
-        module = PASSED_ON.sub(r"mega_\1", f"{match.group(1)}.{match.group(2)}")
-        for item in (match.group(3) or "").split(", "):
+        match = IMPORT.match(line)
+        home = home_of(*match.group(1, 2)) if match else None
+        for item in (match.group(3) or "").split(", ") if home else ():
             name, _, other = item.partition(" as ")
-            self.imports[other or name] = (module, name)
+            self.imports[other or name] = (home, name)
 
 
-def main():
-    modules, seen, left = {}, set(), []
-    for name in sys.argv[1:]:
-        module, _, last = name.rpartition(".")
-        left.append((module, last))
-    lines = 0
+def is_clause_of(name, line):
+    """Whether a line is a clause of the operator that was declared above it."""
+    return name is not None and name[0] == "◌" and f" {name.strip('◌')} " in line.partition(" = ")[0]
+
+
+def bound_in(name, lines):
+    """The names that a declaration binds itself: parameters, variables of patterns, of λ and of `do`, fields, local functions."""
+    fields = {match.group(1) for text in lines for match in [re.match(r"(?:pub )?([\w'-]+) : ", text)] if match}
+    bound = set(fields)
+    for text in lines:
+        for names in BINDER.findall(text):
+            bound.update(" ".join(names).split())
+        left, equals, _ = text.partition(" = ")
+        words = WORD.findall(left)
+        if equals and words and (words[0] in fields | {name} or name[0] == "◌"):
+            bound.update(word for word in words[1:] if word[0].islower())
+        bound.update(re.findall(r"let (\w+) = ", text) + re.findall(r"^(\w+) ← ", text))
+    return bound - {name}
+
+
+def words_of(lines):
+    for text in lines:
+        for word in WORD.findall(text):
+            yield from (word, word.split(".")[0])
+        for sign in SIGN.findall(text):
+            yield f"◌{sign}◌"
+        if text.endswith(" do"):
+            yield "◌>>=◌"
+
+
+def rests_on(names):
+    """The declarations that the names rest on, each with its lines."""
+    modules, found, left = {}, {}, []
+    for name in names:
+        crate, _, rest = name.partition(".")
+        module, _, last = rest.rpartition(".")
+        home = home_of(crate, module)
+        if home is None:
+            sys.exit(f"{name}: there is no such module")
+        left.append((home, last))
     while left:
-        module, name = left.pop()
-        path = path_of(module)
-        if path is None:
+        home, name = left.pop()
+        if home not in modules:
+            modules[home] = Module(home)
+        module = modules[home]
+        if name not in module.declared:
+            name = module.constructors.get(name)
+        if name is None or (home, name) in found:
             continue
-        found = modules.setdefault(module, None) or Module(path)
-        modules[module] = found
-        name = name if name in found.declared else found.constructors.get(name)
-        if name is None or (module, name) in seen:
-            continue
-        seen.add((module, name))
-        lines += len(found.declared[name])
-        bound = bound_in(name, found.declared[name])
-        for text in found.declared[name]:
-            for word in WORD.findall(text):
-                for part in {word, word.split(".")[0]} - bound:
-                    if part in found.imports:
-                        left.append(found.imports[part])
-                    elif part in found.declared or part in found.constructors:
-                        left.append((module, part))
-    print(f"{lines} lines, {len(seen)} declarations, {len({module for module, _ in seen})} files")
+        found[home, name] = module.declared[name]
+        words = set(words_of(found[home, name])) - bound_in(name, found[home, name])
+        left += [module.imports.get(word, (home, word)) for word in words]
+    return found
 
 
-main()
+if __name__ == "__main__":
+    found = rests_on(sys.argv[1:])
+    files = {home for home, _ in found}
+    print(f"{sum(map(len, found.values()))} lines, {len(found)} declarations, {len(files)} files")
