@@ -107,7 +107,7 @@ chosen start versions (first ∷ blocks) (suc j) block are there =
       next = rest.next;
     }
 
-ascends_front : (front back : List Version) → ascends (front ++ back) ≡ true → ascends front ≡ true
+pub ascends_front : (front back : List Version) → ascends (front ++ back) ≡ true → ascends front ≡ true
 ascends_front [] back e = refl
 ascends_front (v ∷ front) back e = from v front e
   where
@@ -162,7 +162,7 @@ found_nowhere start versions blocks key p k are asc place none = go versions ref
     go (v ∷ vs) is = ap (found_in key p) is ∙ none_behind key p v vs (sym (ap ascends is) ∙ asc) (sym (ap (λ (l : List Version). is_behind (key, p) (option_map spot_of (slice_get l 0))) is) ∙ first_behind)
 
 -- the bytes of the block stand at its place
-part_range : (file a m z : List ℕ) (start : ℕ) → start + length (a ++ (m ++ z)) ≤ length file → slice_range file start (start + length (a ++ (m ++ z))) ≡ a ++ (m ++ z) → slice_range file (start + length a) (start + length a + length m) ≡ m
+pub part_range : (file a m z : List ℕ) (start : ℕ) → start + length (a ++ (m ++ z)) ≤ length file → slice_range file start (start + length (a ++ (m ++ z))) ≡ a ++ (m ++ z) → slice_range file (start + length a) (start + length a + length m) ≡ m
 part_range file a m z start within is =
     ap (λ (n : ℕ). take n (drop (start + length a) file)) (omega arith)
     ∙ ap (take (length m)) (sym (drop-drop (length a) start file) ∙ ap (drop (length a)) whole ∙ drop_at a (m ++ (z ++ rest)) (length a) refl)

@@ -10,6 +10,7 @@ mod Mixing
 mod Nexts
 mod Order
 mod Outcomes
+mod Ranging
 mod Readable
 mod Showing
 mod Spilled

@@ -11,6 +11,7 @@ pub mod Index
 pub mod Merging
 pub mod Opening
 pub mod Placed
+pub mod Ranges
 pub mod Reads
 pub mod Scanning
 pub mod Sides

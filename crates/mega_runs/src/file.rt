@@ -6,7 +6,7 @@ ghost use Rattle.mega_runs.specs.Fronts.{Standing};
 ghost use Rattle.mega_runs.specs.Placed.{ArePlaced-prop};
 ghost use Rattle.mega_chain.specs.Rest.{IsSettled};
 
-use crate::among::{all_versions, found_in_runs};
+use crate::among::{all_around, all_versions, found_in_runs};
 use crate::append::put_run;
 use crate::body::{Run, Version};
 use crate::coding::write_body;
@@ -47,7 +47,8 @@ impl<D: Disk> RunFile<D> {
     ghost use Rattle.mega_runs.specs.Fronts.{kept, kept_with, HoldsOr};
     ghost use Rattle.mega_runs.specs.Merging.{all_merged};
     ghost use Rattle.mega_runs.specs.Opening.{first_bad};
-    ghost use Rattle.mega_runs.specs.Reads.{held_in, layered, mark_in};
+    ghost use Rattle.mega_runs.specs.Ranges.{AgreeWithin};
+    ghost use Rattle.mega_runs.specs.Reads.{held_in, layered, mark_in, versions_in};
     ghost use Rattle.mega_chain.specs.Rest.{HoldsAs};
     ghost use Rattle.mega_runs.specs.Stores.{count_added, length_with};
 
@@ -132,6 +133,32 @@ impl<D: Disk> RunFile<D> {
         all_versions(alloc, &mut self.disk, self.opened.runs.as_slice())
     }
 
+    /// Versions of the runs as `versions` has them, among which are all of the keys from `from` on and before `to`.
+    pub(crate) fn versions_around(
+        &mut self,
+        alloc: Global,
+        from: &Bytes,
+        to: &Bytes,
+    ) -> Result<Vec<Version>, StoreError>
+        ensures value { D.is_told ≡ true → IfOk result (λ versions. AgreeWithin from.now to.now (versions_in versions.items) (layered (kept D.is_told (D.seen (disk_of self.old)) (opened_of self.old).end))) }
+        ensures in_order { IfOk result (λ versions. ascends versions.items ≡ true) }
+        ensures kept { kept D.is_told (D.seen (disk_of self.new)) (opened_of self.new).end ≡ kept D.is_told (D.seen (disk_of self.old)) (opened_of self.old).end }
+        ensures opened { opened_of self.new ≡ opened_of self.old }
+        ensures spent { is_spent self.new ≡ is_spent self.old }
+        ensures never_bad { D.is_told ≡ true → (n : ℕ) → result ≡ Err (StoreError.BadRecord n) → ⊥ }
+        ensures never_full { (n : ℕ) → result ≡ Err (StoreError.Full n) → ⊥ }
+        ensures within { Within (D.may_leave (disk_of self.old)) (D.may_leave (disk_of self.new)) }
+        ensures any_moment { LeavesOnly D.moment D.left_since (disk_of self.old) (disk_of self.new) (D.may_leave (disk_of self.old)) }
+        ensures cause { result ≡ Err StoreError.DiskFault → Rose (D.faults (disk_of self.old)) (D.faults (disk_of self.new)) }
+        ensures later { D.faults (disk_of self.old) ≤ D.faults (disk_of self.new) }
+        ensures lowers { OnOk result (LowersBy 0 (D.fuse_left (disk_of self.old)) (D.fuse_left (disk_of self.new))) }
+        ensures may_burn { MayBurn (D.fuse_left (disk_of self.old)) (D.fuse_left (disk_of self.new)) }
+        ensures burns { D.fails_by_fuse (disk_of self.old) ≡ true → result ≡ Err StoreError.DiskFault → Burns (D.fuse_left (disk_of self.old)) (D.fuse_left (disk_of self.new)) }
+        ensures by_fuse { D.fails_by_fuse (disk_of self.old) ≡ true → D.fails_by_fuse (disk_of self.new) ≡ true }
+    {
+        all_around(alloc, &mut self.disk, self.opened.runs.as_slice(), from, to)
+    }
+
     /// The rows that a read at a position sees of the keys from `from` on and before `to`, in order of key.
     pub fn scan(
         &mut self,
@@ -155,7 +182,7 @@ impl<D: Disk> RunFile<D> {
         ensures burns { D.fails_by_fuse (disk_of self.old) ≡ true → result ≡ Err StoreError.DiskFault → Burns (D.fuse_left (disk_of self.old)) (D.fuse_left (disk_of self.new)) }
         ensures by_fuse { D.fails_by_fuse (disk_of self.old) ≡ true → D.fails_by_fuse (disk_of self.new) ≡ true }
     {
-        let versions = self.versions(alloc)?;
+        let versions = self.versions_around(alloc, from, to)?;
         match rows_of(alloc, versions.as_slice(), from, to, at) {
             Ok(rows) => Ok(rows),
             Err(NoMemory) => Err(StoreError::NoMemory),

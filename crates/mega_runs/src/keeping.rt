@@ -10,7 +10,8 @@ ghost use Rattle.mega_runs.specs.Files.{disk_of, opened_of};
 ghost use Rattle.mega_runs.specs.Finding.{found_in, row_found};
 ghost use Rattle.mega_runs.specs.Fronts.{kept};
 ghost use Rattle.mega_runs.specs.Merging.{all_merged, merged, with_version};
-ghost use Rattle.mega_runs.specs.Reads.{held_in, layered, mark_in, stored_of};
+ghost use Rattle.mega_runs.specs.Ranges.{AgreeWithin};
+ghost use Rattle.mega_runs.specs.Reads.{held_in, layered, mark_in, stored_of, versions_in};
 ghost use Rattle.mega_runs.specs.Stores.{IsBounded, IsSpillOf, SpilledOr, added_run, base_run, cleaned_of, length_with, mark_of_pair, readable};
 
 use crate::among::later;
@@ -21,7 +22,7 @@ use crate::lookup::{Seen, copy_of};
 use crate::marking::marks_of;
 use crate::merging::{copies, merge, put};
 use crate::scan::rows_of;
-use crate::search::found;
+use crate::search::{between, found};
 use crate::writable::{can_write, is_version};
 use mega_base::{Bytes, Copied, GroupId, Items, NoMemory, Position, Row};
 use mega_disk::{Disk, StoreError};
@@ -165,6 +166,41 @@ fn versions_of<D: Disk>(
     }
 }
 
+/// Versions as `versions_of` has them, among which are all of the keys from `from` on and before `to`.
+fn versions_around<D: Disk>(
+    alloc: Global,
+    recent: &[Version],
+    file: &mut RunFile<D>,
+    from: &Bytes,
+    to: &Bytes,
+) -> Result<Vec<Version>, StoreError>
+    requires { ascends recent.now ≡ true }
+    ensures value { D.is_told ≡ true → IfOk result (λ versions. AgreeWithin from.now to.now (versions_in versions.items) (layered (recent.now ∷ (kept D.is_told (D.seen (disk_of file.old)) (opened_of file.old).end)))) }
+    ensures in_order { IfOk result (λ versions. ascends versions.items ≡ true) }
+    ensures kept { kept D.is_told (D.seen (disk_of file.new)) (opened_of file.new).end ≡ kept D.is_told (D.seen (disk_of file.old)) (opened_of file.old).end }
+    ensures opened { opened_of file.new ≡ opened_of file.old }
+    ensures never_bad { D.is_told ≡ true → (n : ℕ) → result ≡ Err (StoreError.BadRecord n) → ⊥ }
+    ensures never_full { (n : ℕ) → result ≡ Err (StoreError.Full n) → ⊥ }
+    ensures within { Within (D.may_leave (disk_of file.old)) (D.may_leave (disk_of file.new)) }
+    ensures any_moment { LeavesOnly D.moment D.left_since (disk_of file.old) (disk_of file.new) (D.may_leave (disk_of file.old)) }
+    ensures cause { result ≡ Err StoreError.DiskFault → Rose (D.faults (disk_of file.old)) (D.faults (disk_of file.new)) }
+    ensures later { D.faults (disk_of file.old) ≤ D.faults (disk_of file.new) }
+    ensures lowers { OnOk result (LowersBy 0 (D.fuse_left (disk_of file.old)) (D.fuse_left (disk_of file.new))) }
+    ensures may_burn { MayBurn (D.fuse_left (disk_of file.old)) (D.fuse_left (disk_of file.new)) }
+    ensures burns { D.fails_by_fuse (disk_of file.old) ≡ true → result ≡ Err StoreError.DiskFault → Burns (D.fuse_left (disk_of file.old)) (D.fuse_left (disk_of file.new)) }
+    ensures by_fuse { D.fails_by_fuse (disk_of file.old) ≡ true → D.fails_by_fuse (disk_of file.new) ≡ true }
+{
+    let newer = match copies(alloc, between(recent, from, to)) {
+        Ok(newer) => newer,
+        Err(NoMemory) => return Err(StoreError::NoMemory),
+    };
+    let mut all = file.versions_around(alloc, from, to)?;
+    match merge(alloc, newer, &mut all) {
+        Ok(()) => Ok(all),
+        Err(NoMemory) => Err(StoreError::NoMemory),
+    }
+}
+
 /// The rows at a position of the keys from `from` on and before `to`, of the versions in memory and of those of the file.
 pub(crate) fn rows_between<D: Disk>(
     alloc: Global,
@@ -189,7 +225,7 @@ pub(crate) fn rows_between<D: Disk>(
     ensures burns { D.fails_by_fuse (disk_of file.old) ≡ true → result ≡ Err StoreError.DiskFault → Burns (D.fuse_left (disk_of file.old)) (D.fuse_left (disk_of file.new)) }
     ensures by_fuse { D.fails_by_fuse (disk_of file.old) ≡ true → D.fails_by_fuse (disk_of file.new) ≡ true }
 {
-    let versions = versions_of(alloc, recent, file)?;
+    let versions = versions_around(alloc, recent, file, from, to)?;
     match rows_of(alloc, versions.as_slice(), from, to, at) {
         Ok(rows) => Ok(rows),
         Err(NoMemory) => Err(StoreError::NoMemory),

@@ -20,6 +20,7 @@ mod opening;
 mod reading;
 mod scan;
 mod search;
+mod span;
 mod store;
 mod writable;
 

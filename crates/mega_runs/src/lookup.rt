@@ -9,12 +9,15 @@ ghost use Rattle.mega_runs.specs.declared.body.Version.{Version as SomeVersion};
 ghost use Rattle.mega_runs.specs.Bodies.{IsVersion, ascends};
 ghost use Rattle.mega_runs.specs.Finding.{found_in};
 ghost use Rattle.mega_runs.specs.Index.{IsIndexed, HasBlock, has_index, versions_text};
+ghost use Rattle.mega_runs.specs.Ranges.{AgreeWithin, HasSpan};
+ghost use Rattle.mega_runs.specs.Reads.{versions_in};
 
 use crate::body::{Version, VersionList};
 use crate::coding::is_in_order;
 use crate::index::{Block, Indexed};
 use crate::reading::read_bytes;
 use crate::search::{found, place_of};
+use crate::span::{Span, span_within};
 use mega_base::{Bytes, Copied, FieldFault, Items, NoMemory, Position, Row, decode, put_u32};
 use mega_disk::{Disk, DiskError, StoreError};
 use std::alloc::Global;
@@ -117,6 +120,71 @@ pub(crate) fn versions_of_run<D: Disk>(
     match versions_of(alloc, bytes.as_slice(), run.count) {
         Ok(Some(versions)) => Ok(versions),
         Ok(None) => Err(StoreError::BadRecord { number: run.number }),
+        Err(NoMemory) => Err(StoreError::NoMemory),
+    }
+}
+
+/// Versions of the run, among which are all of the keys from `from` on and before `to`, by one read at most.
+pub(crate) fn versions_around<D: Disk>(
+    alloc: Global,
+    disk: &mut D,
+    run: &Indexed,
+    from: &Bytes,
+    to: &Bytes,
+) -> Result<Items<Version>, StoreError>
+    requires indexed { D.is_told ≡ true → (end : ℕ) × has_index (D.seen disk.old) end run.now }
+    ensures value { D.is_told ≡ true → (end : ℕ) (versions : List SomeVersion) → IsIndexed (D.seen disk.old) end versions run.now → IfOk result (λ found. AgreeWithin from.now to.now (versions_in found) (versions_in versions)) }
+    ensures in_order { IfOk result (λ versions. ascends versions ≡ true) }
+    ensures never_bad { D.is_told ≡ true → (n : ℕ) → result ≡ Err (StoreError.BadRecord n) → ⊥ }
+    ensures never_full { (n : ℕ) → result ≡ Err (StoreError.Full n) → ⊥ }
+    ensures seen { OnOk result (D.seen disk.new ≡ D.seen disk.old) }
+    ensures within { Within (D.may_leave disk.old) (D.may_leave disk.new) }
+    ensures any_moment { LeavesOnly D.moment D.left_since disk.old disk.new (D.may_leave disk.old) }
+    ensures cause { result ≡ Err StoreError.DiskFault → Rose (D.faults disk.old) (D.faults disk.new) }
+    ensures later { D.faults disk.old ≤ D.faults disk.new }
+    ensures lowers { OnOk result (LowersBy 0 (D.fuse_left disk.old) (D.fuse_left disk.new)) }
+    ensures may_burn { MayBurn (D.fuse_left disk.old) (D.fuse_left disk.new) }
+    ensures burns { D.fails_by_fuse disk.old ≡ true → result ≡ Err StoreError.DiskFault → Burns (D.fuse_left disk.old) (D.fuse_left disk.new) }
+    ensures by_fuse { D.fails_by_fuse disk.old ≡ true → D.fails_by_fuse disk.new ≡ true }
+{
+    match span_within(run, from, to) {
+        Some(span) => {
+            let versions = read_span(alloc, disk, &span, run.number)?;
+            Ok(versions)
+        }
+        None => Ok(Items::new(alloc)),
+    }
+}
+
+/// The versions of a span of the run of this number.
+fn read_span<D: Disk>(
+    alloc: Global,
+    disk: &mut D,
+    span: &Span,
+    number: u64,
+) -> Result<Items<Version>, StoreError>
+    requires has { D.is_told ≡ true → (versions : List SomeVersion) × HasSpan (D.seen disk.old) versions span.now }
+    ensures value { D.is_told ≡ true → (versions : List SomeVersion) → HasSpan (D.seen disk.old) versions span.now → IfOk result (λ found. found ≡ versions) }
+    ensures in_order { IfOk result (λ versions. ascends versions ≡ true) }
+    ensures never_bad { D.is_told ≡ true → (n : ℕ) → result ≡ Err (StoreError.BadRecord n) → ⊥ }
+    ensures never_full { (n : ℕ) → result ≡ Err (StoreError.Full n) → ⊥ }
+    ensures seen { OnOk result (D.seen disk.new ≡ D.seen disk.old) }
+    ensures within { Within (D.may_leave disk.old) (D.may_leave disk.new) }
+    ensures any_moment { LeavesOnly D.moment D.left_since disk.old disk.new (D.may_leave disk.old) }
+    ensures cause { result ≡ Err StoreError.DiskFault → Rose (D.faults disk.old) (D.faults disk.new) }
+    ensures later { D.faults disk.old ≤ D.faults disk.new }
+    ensures lowers { OnOk result (LowersBy 0 (D.fuse_left disk.old) (D.fuse_left disk.new)) }
+    ensures may_burn { MayBurn (D.fuse_left disk.old) (D.fuse_left disk.new) }
+    ensures burns { D.fails_by_fuse disk.old ≡ true → result ≡ Err StoreError.DiskFault → Burns (D.fuse_left disk.old) (D.fuse_left disk.new) }
+    ensures by_fuse { D.fails_by_fuse disk.old ≡ true → D.fails_by_fuse disk.new ≡ true }
+{
+    let bytes = match read_bytes(alloc, disk, span.start, span.size as usize) {
+        Ok(bytes) => bytes,
+        Err(error) => return Err(refusal(error)),
+    };
+    match versions_of(alloc, bytes.as_slice(), span.count) {
+        Ok(Some(versions)) => Ok(versions),
+        Ok(None) => Err(StoreError::BadRecord { number }),
         Err(NoMemory) => Err(StoreError::NoMemory),
     }
 }

@@ -4,6 +4,7 @@ ghost use Rattle.std.specs.Cmp.Lexicographic.{pointwise};
 ghost use Rattle.std.specs.Option.{option_map};
 ghost use Rattle.mega_runs.specs.Bodies.{Spot, ascends, is_before, spot_of};
 ghost use Rattle.mega_runs.specs.Finding.{IsPlace, behind_at, found_in};
+ghost use Rattle.mega_runs.specs.Ranges.{IsBetween};
 
 use crate::body::Version;
 use mega_base::{Bytes, Position};
@@ -41,6 +42,17 @@ pub(crate) fn place_of<T: Placed>(items: &[T], key: &Bytes, at: Position) -> usi
         }
     }
     low
+}
+
+/// Of items in order those among which all with the keys from `from` on and before `to` stand: the last one that begins at or before
+/// `from`, and those behind it up to `to`.
+pub(crate) fn between<'a, T: Placed>(items: &'a [T], from: &Bytes, to: &Bytes) -> &'a [T]
+    ensures { IsBetween T.spot from.now to.now items.now result.now }
+{
+    let first = place_of(items, from, Position(0)).saturating_sub(1);
+    let (_, behind) = items.split_at(first);
+    let (found, _) = behind.split_at(place_of(behind, to, Position(0)));
+    found
 }
 
 /// Whether the item of this place stands behind the key and position; the end of the items does.
