@@ -1,5 +1,6 @@
 //! A file of runs: what openings find after cuts, after changes of its bytes, and what reads cost.
-use mega_base::{Bytes, GroupId, Items, NoMemory, Position};
+use crate::device::{bytes_of, device, group, key};
+use mega_base::{Bytes, Items, Position};
 use mega_disk::{Disk, MemDisk, StoreError};
 use mega_runs::{Mark, Run, RunFile, Version, can_write};
 use std::alloc::Global;
@@ -11,48 +12,22 @@ const FIRST: [u8; 46] = [
     0, 0, 0, 1, 97, 0, 0, 0, 0, 0, 0, 0, 1, 0, 0,
 ];
 
-/// A device that holds these bytes.
-fn device(rt: &impl Abort, alloc: Global, bytes: &[u8]) -> MemDisk {
-    let mut disk = MemDisk::new(alloc);
-    disk.write(0, bytes).expect(rt, "refused");
-    disk.sync().expect(rt, "refused");
-    disk
-}
-
-/// The bytes of a device.
-fn bytes_of(rt: &impl Abort, alloc: Global, disk: &mut MemDisk) -> Vec<u8> {
-    let Ok(size) = disk.len() else {
-        panic!(rt; "no length");
-    };
-    let Ok(mut bytes) = vec![in alloc; 0; size as usize] else {
-        panic!(rt; "no memory");
-    };
-    disk.read(0, bytes.as_mut_slice()).expect(rt, "refused");
-    bytes
-}
-
-/// A key of eight bytes.
-fn key(alloc: Global, number: u64) -> Result<Bytes, NoMemory> {
-    Bytes::from_slice(alloc, &number.to_be_bytes())
-}
-
 /// A run of so many keys from a number on, each without a row at position 1.
-fn run_of(alloc: Global, is_base: bool, from: u32, count: u32) -> Result<Run, NoMemory> {
+fn run_of(rt: &impl Abort, alloc: Global, is_base: bool, from: u32, count: u32) -> Run {
     let mut versions = Items::new(alloc);
     for number in 0..count {
-        let key = key(alloc, u64::from(from) + u64::from(number))?;
         let version = Version {
-            key,
+            key: key(rt, alloc, u64::from(from) + u64::from(number)),
             at: Position(1),
             row: None,
         };
-        versions.push(version)?;
+        versions.push(version).expect(rt, "refused");
     }
-    Ok(Run {
+    Run {
         is_base,
         marks: Items::new(alloc),
         versions,
-    })
+    }
 }
 
 /// Adds a run that can be written.
@@ -73,7 +48,7 @@ fn opened(alloc: Global, disk: MemDisk) -> Result<RunFile<MemDisk>, StoreError> 
 
 /// Whether a version of the key is found.
 fn has(rt: &impl Abort, alloc: Global, file: &mut RunFile<MemDisk>, number: u64) -> bool {
-    let key = key(alloc, number).expect(rt, "refused");
+    let key = key(rt, alloc, number);
     let seen = file.found(alloc, &key, Position(9)).expect(rt, "refused");
     seen.is_some()
 }
@@ -83,11 +58,9 @@ fn the_first_run_has_these_bytes(rt: HostRuntime) {
     let alloc = rt.alloc();
     let mut file = opened(alloc, MemDisk::new(alloc)).expect(&rt, "refused");
     let mut marks = Items::new(alloc);
-    let key = Bytes::from_slice(alloc, b"b").expect(&rt, "refused");
-    let group = GroupId::new(alloc, key).expect(&rt, "refused");
     marks
         .push(Mark {
-            group,
+            group: group(&rt, alloc),
             at: Position(1),
         })
         .expect(&rt, "refused");
@@ -134,18 +107,9 @@ fn a_cut_leaves_the_old_runs_or_the_new_ones(rt: HostRuntime) {
     for calls in 0..5u64 {
         for image in 0..3u8 {
             let mut file = opened(alloc, MemDisk::new(alloc)).expect(&rt, "refused");
-            add(
-                alloc,
-                &mut file,
-                run_of(alloc, false, 0, 20).expect(&rt, "refused"),
-            )
-            .expect(&rt, "refused");
+            add(alloc, &mut file, run_of(&rt, alloc, false, 0, 20)).expect(&rt, "refused");
             file.fuse(calls, image);
-            let answer = add(
-                alloc,
-                &mut file,
-                run_of(alloc, calls == 2, 20, 20).expect(&rt, "refused"),
-            );
+            let answer = add(alloc, &mut file, run_of(&rt, alloc, calls == 2, 20, 20));
             assert_eq!(rt; answer.is_ok(), calls == 4);
             let mut disk = file.close();
             disk.fuse(1000, 0);
@@ -161,18 +125,8 @@ fn a_cut_leaves_the_old_runs_or_the_new_ones(rt: HostRuntime) {
 fn a_base_makes_earlier_runs_void(rt: HostRuntime) {
     let alloc = rt.alloc();
     let mut file = opened(alloc, MemDisk::new(alloc)).expect(&rt, "refused");
-    add(
-        alloc,
-        &mut file,
-        run_of(alloc, false, 0, 40).expect(&rt, "refused"),
-    )
-    .expect(&rt, "refused");
-    add(
-        alloc,
-        &mut file,
-        run_of(alloc, true, 20, 40).expect(&rt, "refused"),
-    )
-    .expect(&rt, "refused");
+    add(alloc, &mut file, run_of(&rt, alloc, false, 0, 40)).expect(&rt, "refused");
+    add(alloc, &mut file, run_of(&rt, alloc, true, 20, 40)).expect(&rt, "refused");
     assert!(rt; !has(&rt, alloc, &mut file, 3));
     assert!(rt; has(&rt, alloc, &mut file, 30));
     let mut file = opened(alloc, file.close()).expect(&rt, "refused");
@@ -185,18 +139,8 @@ fn a_base_makes_earlier_runs_void(rt: HostRuntime) {
 fn a_read_costs_little_more_than_an_opening(rt: HostRuntime) {
     let alloc = rt.alloc();
     let mut file = opened(alloc, MemDisk::new(alloc)).expect(&rt, "refused");
-    add(
-        alloc,
-        &mut file,
-        run_of(alloc, false, 0, 1024).expect(&rt, "refused"),
-    )
-    .expect(&rt, "refused");
-    add(
-        alloc,
-        &mut file,
-        run_of(alloc, false, 1024, 1024).expect(&rt, "refused"),
-    )
-    .expect(&rt, "refused");
+    add(alloc, &mut file, run_of(&rt, alloc, false, 0, 1024)).expect(&rt, "refused");
+    add(alloc, &mut file, run_of(&rt, alloc, false, 1024, 1024)).expect(&rt, "refused");
     let disk = file.close();
     let none = disk.read_bytes();
     let disk = opened(alloc, disk).expect(&rt, "refused").close();
