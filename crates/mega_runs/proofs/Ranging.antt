@@ -1,5 +1,5 @@
 -- The versions of a range of keys, among versions in order and among blocks.
-use Rattle.std.proofs.Common.{◌≡◌, ◌≢◌, ℕ, zero, suc, ◌+◌, ◌-◌, ◌<◌, ◌≤◌, List, [], ◌∷◌, ◌++◌, length, take, drop, Bool, true, false, cond, refl, sym, ◌∙◌, ap, subst, arith, append_assoc, length-append, take-append-drop}
+use Rattle.std.proofs.Common.{◌≡◌, ◌≢◌, ℕ, zero, suc, ◌+◌, ◌<◌, List, [], ◌∷◌, ◌++◌, length, take, drop, Bool, true, false, cond, refl, sym, ◌∙◌, ap, subst, arith, append_assoc, length-append, take-append-drop}
 use Rattle.std.specs.Prelude.{Option, Some, None, option_map, nat_lt, ◌==◌, slice_range, All, IfNone, IfSome}
 use Rattle.std.proofs.lemmas.Bool.Decides.{nat_tests}
 use Rattle.std.proofs.lemmas.List.{nil_from_length, take_at, drop_at}
@@ -17,7 +17,7 @@ use Rattle.mega_runs.specs.declared.index.Block.{Block}
 use Rattle.mega_runs.specs.declared.index.Indexed.{Indexed}
 use Rattle.mega_runs.specs.declared.span.Span.{Span}
 use Rattle.mega_runs.specs.Bodies.{Spot, is_before, spot_of, version_text, IsVersion, ascends, ascends_from}
-use Rattle.mega_runs.specs.Finding.{is_behind, behind_at}
+use Rattle.mega_runs.specs.Finding.{is_behind}
 use Rattle.mega_runs.specs.Index.{versions_text, spot_of_block, IsBlock, AreBlocks, Stands, IsIndexed}
 use Rattle.mega_runs.specs.Merging.{merged}
 use Rattle.mega_runs.specs.Reads.{is_version, versions_in, layered}

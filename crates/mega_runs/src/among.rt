@@ -100,7 +100,7 @@ pub(crate) fn all_versions<D: Disk>(
     Ok(all)
 }
 
-/// The same, but for versions of keys before `from` or from `to` on, of which some may be left out.
+/// Versions of the runs as `all_versions` has them, among which are all of the keys from `from` on and before `to`.
 pub(crate) fn all_around<D: Disk>(
     alloc: Global,
     disk: &mut D,

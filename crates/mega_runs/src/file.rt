@@ -133,7 +133,7 @@ impl<D: Disk> RunFile<D> {
         all_versions(alloc, &mut self.disk, self.opened.runs.as_slice())
     }
 
-    /// The same, but for versions of keys before `from` or from `to` on, of which some may be left out.
+    /// Versions of the runs as `versions` has them, among which are all of the keys from `from` on and before `to`.
     pub(crate) fn versions_around(
         &mut self,
         alloc: Global,

@@ -166,7 +166,7 @@ fn versions_of<D: Disk>(
     }
 }
 
-/// The same, but for versions of keys before `from` or from `to` on, of which some may be left out.
+/// Versions as `versions_of` has them, among which are all of the keys from `from` on and before `to`.
 fn versions_around<D: Disk>(
     alloc: Global,
     recent: &[Version],

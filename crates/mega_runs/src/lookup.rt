@@ -124,7 +124,7 @@ pub(crate) fn versions_of_run<D: Disk>(
     }
 }
 
-/// The versions of the run, but for those of keys before `from` or from `to` on, of which some may be left out.
+/// Versions of the run, among which are all of the keys from `from` on and before `to`, by one read at most.
 pub(crate) fn versions_around<D: Disk>(
     alloc: Global,
     disk: &mut D,

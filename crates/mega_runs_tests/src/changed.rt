@@ -124,26 +124,40 @@ fn change(bytes: &mut Vec<u8>, place: usize, by: u8) {
     }
 }
 
-#[test]
-fn a_file_with_a_changed_byte_opens_as_its_bytes_say(rt: HostRuntime) {
-    let alloc = rt.alloc();
-    let mut bytes = three_runs(&rt, alloc);
-    let mut opened = 0u64;
+/// Changes each byte of these places forty times; how many of the files are refused.
+fn count_refused(rt: &impl Abort, alloc: Global, from: usize, to: usize) -> u64 {
+    let mut bytes = three_runs(rt, alloc);
     let mut refused = 0u64;
-    for place in 0..bytes.len() {
+    for place in from..to {
         for number in 1..=40u8 {
             let by = number.wrapping_mul(37);
             change(&mut bytes, place, by);
-            if check_opening(&rt, alloc, bytes.as_slice()) {
-                opened = opened.wrapping_add(1);
-            } else {
+            if !check_opening(rt, alloc, bytes.as_slice()) {
                 refused = refused.wrapping_add(1);
             }
             change(&mut bytes, place, by);
         }
     }
-    assert!(rt; opened > 4_000, "{opened}");
-    assert!(rt; refused > 1_000, "{refused}");
+    refused
+}
+
+#[test]
+fn a_file_with_a_change_in_its_first_run_opens_as_its_bytes_say(rt: HostRuntime) {
+    let alloc = rt.alloc();
+    assert!(rt; count_refused(&rt, alloc, 0, 100) > 500);
+}
+
+#[test]
+fn a_file_with_a_change_in_its_base_opens_as_its_bytes_say(rt: HostRuntime) {
+    let alloc = rt.alloc();
+    assert!(rt; count_refused(&rt, alloc, 100, 200) > 500);
+}
+
+#[test]
+fn a_file_with_a_change_in_its_last_run_opens_as_its_bytes_say(rt: HostRuntime) {
+    let alloc = rt.alloc();
+    let size = three_runs(&rt, alloc).len();
+    assert!(rt; count_refused(&rt, alloc, 200, size) > 500);
 }
 
 #[test]

@@ -18,11 +18,13 @@ fn opened(rt: &impl Abort, alloc: Global, disk: MemDisk) -> RunFile<MemDisk> {
 /// A run of 1,024 keys, each tenth from a number on, with rows of 11 bytes.
 fn tenths(rt: &impl Abort, alloc: Global, first: u64) -> Run {
     let mut versions = Items::new(alloc);
-    for number in 0..1024u64 {
+    for step in 0..1024u64 {
+        let number = step.wrapping_mul(10).wrapping_add(first);
+        let is_wanted = number >= 5003 && number < 5013;
         let version = Version {
-            key: key(rt, alloc, number.wrapping_mul(10).wrapping_add(first)),
+            key: key(rt, alloc, number),
             at: Position(1),
-            row: row_of(rt, alloc, 7),
+            row: row_of(rt, alloc, if is_wanted { 7 } else { 0 }),
         };
         versions.push(version).expect(rt, "refused");
     }
@@ -74,7 +76,7 @@ fn a_scan_of_ten_rows_reads_two_blocks_of_a_run_at_most(rt: HostRuntime) {
     let twice = file.close().read_bytes();
     let opening = once.saturating_sub(before);
     let scanning = twice.saturating_sub(once).saturating_sub(opening);
-    assert!(rt; opening > 320_000);
-    assert!(rt; scanning >= 5_120, "{scanning}");
-    assert!(rt; scanning <= 10_240, "{scanning}");
+    assert!(rt; opening > 215_000);
+    assert!(rt; scanning >= 3_470, "{scanning}");
+    assert!(rt; scanning <= 6_830, "{scanning}");
 }

@@ -1,4 +1,4 @@
-use Rattle.std.proofs.Common.{◌≡◌, ◌∙◌, sym, ap, take, List, arith}
+use Rattle.std.proofs.Common.{◌∙◌, sym, ap, take, List, arith}
 use Rattle.mega_runs.specs.Finding.{behind_at}
 use Rattle.mega_runs.proofs.search.between.Goals as goal
 

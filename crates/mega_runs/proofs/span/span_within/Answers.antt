@@ -1,4 +1,4 @@
-use Rattle.std.proofs.Common.{◌≡◌, List, subst}
+use Rattle.std.proofs.Common.{List, subst}
 use Rattle.mega_runs.specs.declared.index.Block.{Block}
 use Rattle.mega_runs.specs.Index.{spot_of_block}
 use Rattle.mega_runs.specs.Ranges.{IsBetween}
