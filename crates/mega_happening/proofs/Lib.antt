@@ -1,5 +1,6 @@
 pub mod Caused
 pub mod Declared
+pub mod Formed
 pub mod Holding
 pub mod Joint
 pub mod Plain

@@ -68,7 +68,7 @@ asked c number line (Fuse node calls image device) spelled = tt
 one_formed : (c : Cluster) (number : ℕ) (line : List ℕ) (now : Standing) (one : Happening) → Happens c number line now one → IsFormed one
 one_formed c number line now one happens = record { handlers = subst AreHandlers (sym happens.handled) built_formed; asked = asked c number line one.event happens.spelled }
 
-formed_turned : (c : Cluster) (lines : List (List ℕ)) (events rest : List Happening) → AllHappen c lines events → AreFormed rest → AreFormed (in_turn events rest)
+pub formed_turned : (c : Cluster) (lines : List (List ℕ)) (events rest : List Happening) → AllHappen c lines events → AreFormed rest → AreFormed (in_turn events rest)
 formed_turned c [] [] rest happen formed = formed
 formed_turned c [] (one ∷ events) rest happen formed = absurd happen
 formed_turned c (line ∷ lines) [] rest happen formed = absurd happen

@@ -1,5 +1,5 @@
 -- The run of the events that lines spell: it is a run, it keeps what laws of runs say, and its events are of the format.
-use Rattle.std.proofs.Common.{◌≡◌, ◌≤◌, ◌⊎◌, inl, inr, ℕ, zero, suc, ◌+◌, Option, Some, None, Ok, List, [], ◌∷◌, ◌++◌, length, refl, sym, ◌∙◌, ap, subst, arith}
+use Rattle.std.proofs.Common.{◌≡◌, ℕ, zero, suc, ◌+◌, Option, Some, None, Ok, List, [], ◌∷◌, ◌++◌, length, refl, sym, ◌∙◌, ap, subst}
 use Rattle.std.proofs.lemmas.List.Sums.{fold-append}
 use Rattle.mega_cluster.specs.declared.cluster.Cluster.{Cluster}
 use Rattle.mega_handler.specs.Named.{Meaning, Meanings}
@@ -16,8 +16,10 @@ use Rattle.mega_rules.specs.Steps.{Begin as BeginStep, Take, Tick as TickStep}
 use Rattle.mega_shown_laws.specs.of_promises.Messages.{message_of, next_delivery}
 use Rattle.mega_shown_laws.specs.of_promises.Runs.{Happening, IsRun, Standing, after_event, by_fuse, delivered, goes_on, opening, refusal, unless_refused, up}
 use Rattle.mega_world.specs.declared.world.World.{World}
-use Rattle.mega_world.specs.Formed.{IfNext, IsAsked, IsSound, Owns, OwnsDelivered, OwnsDrained, OwnsStep, OwnsTaken}
+use Rattle.mega_world.specs.Formed.{IfNext, IsAsked, IsFormed, IsSound, Owns, OwnsDelivered, OwnsDrained, OwnsStep, OwnsTaken}
 use Rattle.mega_world.specs.Stands.{IsAt}
+use Rattle.mega_plain_laws.proofs.Forming.{Formed}
+use Rattle.mega_shown_laws.specs.of_format_laws.Histories.{IsCluster}
 use Rattle.mega_shown_laws.specs.of_tape_laws.Indexed.{IsDeclared}
 use Rattle.mega_shown_laws.proofs.of_tape_laws.Agreement.{agreement}
 use Rattle.mega_shown_laws.proofs.of_tape_laws.Answered.{serial}
@@ -46,12 +48,8 @@ use Rattle.mega_happening.proofs.Caused.{run_caused}
 use Rattle.mega_happening.proofs.Holding.{means_values}
 use Rattle.mega_happening.proofs.Joint.{run_joint}
 use Rattle.mega_happening.proofs.Plain.{built_formed, each_plain, told_by}
-use Rattle.mega_happening.proofs.Declared.{declared_of}
-
--- the run over events, the newest first, is that over the events in order
-turned : (c : Cluster) (events rest : List Happening) → goes_on c by_fuse (opening c built_in) (in_turn events rest) ≡ goes_on c by_fuse (stood c events) rest
-turned c [] rest = refl
-turned c (one ∷ events) rest = turned c events (one ∷ rest)
+use Rattle.mega_happening.proofs.Declared.{cells_few, declared_of, is_cluster}
+use Rattle.mega_happening.proofs.Formed.{delivered_formed, formed_now, reached, turned}
 
 is_run : (c : Cluster) (events : List Happening) → IsRun c built_in (in_turn events []) (stood c events).tape
 is_run c events = record { cuts = by_fuse; tape_is = ap (λ (now : Standing). now.tape) (sym (turned c events [])) }
@@ -77,11 +75,6 @@ fits_turned c (line ∷ lines) [] rest happen fits = absurd happen
 fits_turned c (line ∷ lines) (one ∷ events) rest happen fits =
     fits_turned c lines events (one ∷ rest) happen.0 (fits_one c (length lines + 1) line (stood c events) one happen.1, fits)
 
-cells_few : (n : ℕ) → (n ≡ 1) ⊎ (n ≡ 3) ⊎ (n ≡ 5) → n ≤ 5
-cells_few n (inl one) = omega (arith, one)
-cells_few n (inr (inl three)) = omega (arith, three)
-cells_few n (inr (inr five)) = omega (arith, five)
-
 -- local reads, behind each event
 reads_all : (c : Cluster) (events : List Happening) → CanStart c → ReadsAll c (stood c events)
 reads_all c events can =
@@ -106,7 +99,7 @@ replayed c lines events can happen held =
     let tape = (stood c events).tape in
     let writes = run_written c (usage c.schema) built_in (in_turn events []) tape run fits in
     let values = asks_values (meaning_in c.schema) (means_values c.schema) tape in
-    let plain = each_plain c lines events can (record { nodes = can.few; cells = cells_few c.cells can.cells; limit = can.limit }) declared happen fits tape run held in
+    let plain = each_plain c lines events can (is_cluster c can) declared happen fits tape run held in
     record {
       happen = happen;
       run = run;
@@ -142,8 +135,8 @@ asked c number line (Crash node) spelled = tt
 asked c number line (Start node) spelled = tt
 asked c number line (Fuse node calls image device) spelled = tt
 
--- the steps of what comes next act on rows of each group's own
-module _ (c : Cluster) (declared : IsDeclared c.schema) where
+-- the steps of what comes next act on rows of each group's own, in runs of the format
+module _ (c : Cluster) (declared : IsDeclared c.schema) (cluster : IsCluster c) where
   owns_delivered : (done : List Happening) (number : ℕ) (now : Standing) → Fits (usage c.schema) done → goes_on c by_fuse (opening c built_in) done ≡ now → refusal c now (Deliver number) ≡ None → OwnsDelivered c built_in now number
   owns_delivered done number now fits is allowed = by (message_of now.tape number) refl
     where
@@ -161,47 +154,51 @@ module _ (c : Cluster) (declared : IsDeclared c.schema) where
       ∙ ap (λ at. goes_on c by_fuse at (record { handlers = built_in; event = Deliver number } ∷ [])) is
       ∙ ap (unless_refused now (delivered c built_in by_fuse now number)) allowed
 
-  owns_drained : (most : ℕ) (done : List Happening) (now : Standing) → Fits (usage c.schema) done → goes_on c by_fuse (opening c built_in) done ≡ now → OwnsDrained c built_in most now
-  owns_drained zero done now fits is = tt
-  owns_drained (suc most) done now fits is = by (next_delivery (up now) now.tape) refl (owns_drained most)
+  owns_drained : (most : ℕ) (done : List Happening) (now : Standing) → Fits (usage c.schema) done → goes_on c by_fuse (opening c built_in) done ≡ now → Formed c now → OwnsDrained c built_in most now
+  owns_drained zero done now fits is formed = tt
+  owns_drained (suc most) done now fits is formed = by (next_delivery (up now) now.tape) refl (owns_drained most)
     where
       next : ℕ → Happening
       next number = record { handlers = built_in; event = Deliver number }
 
       by : (found : Option ℕ) → next_delivery (up now) now.tape ≡ found
-          → ((more : List Happening) (at : Standing) → Fits (usage c.schema) more → goes_on c by_fuse (opening c built_in) more ≡ at → OwnsDrained c built_in most at)
-          → IfNext (λ number. OwnsDelivered c built_in now number × OwnsDrained c built_in most (delivered c built_in by_fuse now number)) found
+          → ((more : List Happening) (at : Standing) → Fits (usage c.schema) more → goes_on c by_fuse (opening c built_in) more ≡ at → Formed c at → OwnsDrained c built_in most at)
+          → IfNext (λ number. OwnsDelivered c built_in now number × IsFormed (delivered c built_in by_fuse now number) × OwnsDrained c built_in most (delivered c built_in by_fuse now number)) found
       by None none rest = tt
       by (Some number) some rest =
-          let allowed = next_allowed c now number some in (
+          let allowed = next_allowed c now number some in
+          let behind = delivered_formed c now number cluster allowed formed in (
             owns_delivered done number now fits is allowed,
+            formed_now c (delivered c built_in by_fuse now number) behind,
             rest (done ++ next number ∷ []) (delivered c built_in by_fuse now number)
-                (each_append (FitsOne (usage c.schema)) done (next number ∷ []) fits (record { brought = record { moment = []; is = refl }; meant = tt }, tt)) (one_more done number now is allowed),
+                (each_append (FitsOne (usage c.schema)) done (next number ∷ []) fits (record { brought = record { moment = []; is = refl }; meant = tt }, tt)) (one_more done number now is allowed) behind,
           )
 
-  owns : (done : List Happening) (now : Standing) (event : WorldEvent) → Fits (usage c.schema) done → FitsOne (usage c.schema) (record { handlers = built_in; event = event }) → goes_on c by_fuse (opening c built_in) done ≡ now → refusal c now event ≡ None
+  owns : (done : List Happening) (now : Standing) (event : WorldEvent) → Fits (usage c.schema) done → FitsOne (usage c.schema) (record { handlers = built_in; event = event }) → goes_on c by_fuse (opening c built_in) done ≡ now → Formed c now → refusal c now event ≡ None
       → Owns c built_in now event
-  owns done now (Tick node clock) fits first is allowed =
+  owns done now (Tick node clock) fits first is formed allowed =
       subst (λ (at : Standing). OwnsStep c built_in at node.0 (TickStep clock)) is
       (tick_owns c (usage c.schema) declared built_in by_fuse done fits built_in node clock first (subst (λ (at : Standing). refusal c at (Tick node clock) ≡ None) (sym is) allowed))
-  owns done now (Begin node request text) fits first is allowed =
+  owns done now (Begin node request text) fits first is formed allowed =
       subst (λ (at : Standing). OwnsStep c built_in at node.0 (BeginStep request text)) is
       (begin_owns c (usage c.schema) declared built_in by_fuse done fits built_in node request text first (subst (λ (at : Standing). refusal c at (Begin node request text) ≡ None) (sym is) allowed))
-  owns done now (Deliver number) fits first is allowed = owns_delivered done number now fits is allowed
-  owns done now (Drain most) fits first is allowed = owns_drained most done now fits is
-  owns done now (Drop message) fits first is allowed = tt
-  owns done now (Crash node) fits first is allowed = tt
-  owns done now (Start node) fits first is allowed = tt
-  owns done now (Fuse node calls image device) fits first is allowed = tt
+  owns done now (Deliver number) fits first is formed allowed = owns_delivered done number now fits is allowed
+  owns done now (Drain most) fits first is formed allowed = owns_drained most done now fits is formed
+  owns done now (Drop message) fits first is formed allowed = tt
+  owns done now (Crash node) fits first is formed allowed = tt
+  owns done now (Start node) fits first is formed allowed = tt
+  owns done now (Fuse node calls image device) fits first is formed allowed = tt
 
-pub sound : {makes : List ℕ → Option Meaning} (c : Cluster) (lines : List (List ℕ)) (events : List Happening) (number : ℕ) (line : List ℕ) (event : WorldEvent) → CanStart c → AllHappen c lines events → event_of c.schema number line ≡ Ok event
+pub sound : {makes : List ℕ → Option Meaning} (c : Cluster) (lines : List (List ℕ)) (events : List Happening) (number : ℕ) (line : List ℕ) (event : WorldEvent) → CanStart c → AllHappen c lines events → All HoldsItem (stood c events).tape → event_of c.schema number line ≡ Ok event
     → refusal c (stood c events) event ≡ None → Means makes built_in → IsSound makes c built_in (stood c events) event
-sound c lines events number line event can happen spelled allowed means =
+sound c lines events number line event can happen held spelled allowed means =
+    let formed = reached c lines events can happen held in
     let first : FitsOne (usage c.schema) (record { handlers = built_in; event = event }) = record { brought = record { moment = []; is = refl }; meant = meant c number line event spelled } in record {
       means = means;
       handlers = built_formed;
       asked = asked c number line event spelled;
-      own = owns c (declared_of c can) (in_turn events []) (stood c events) event (fits_turned c lines events [] happen tt) first (turned c events []) allowed;
+      formed = formed_now c (stood c events) formed;
+      own = owns c (declared_of c can) (is_cluster c can) (in_turn events []) (stood c events) event (fits_turned c lines events [] happen tt) first (turned c events []) formed allowed;
     }
 
 pub proceeds : (c : Cluster) (number : ℕ) (line : List ℕ) (events : List Happening) (event : WorldEvent) (world : World) (added : List Item) → event_of c.schema number line ≡ Ok event → refusal c (stood c events) event ≡ None

@@ -27,7 +27,7 @@ newest_twice (x ∷ xs) = ap newest (onto_front xs (x ∷ [])) ∙ newest-append
 -- a world that stands with the items of a tape stands with those of the run's
 pub with_others : (c : Cluster) (world : World) (items others : List Item) (now : Standing) → newest others ≡ now.tape → StandsWith c world items now → StandsWith c world others now
 with_others c world items others now is r =
-    record { cluster = r.cluster; served = r.served; nodes = r.nodes; mail = r.mail; tape = is; leases = r.leases; formed = r.formed; within = r.within }
+    record { cluster = r.cluster; served = r.served; nodes = r.nodes; mail = r.mail; tape = is; leases = r.leases }
 
 pub at_is : (c : Cluster) (world : World) (items : List Item) (now : Standing) → StandsWith c world items now → IsAt c world now
 at_is c world items now r = with_others c world items (newest now.tape) now (newest_twice now.tape) r

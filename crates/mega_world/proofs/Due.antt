@@ -1,5 +1,5 @@
--- An event that is due at a world: what its node's step is, whether it may happen there, and how the world is ready to show it.
-use Rattle.std.proofs.Common.{◌≡◌, ℕ, ◌++◌, ◌∷◌, [], List, Option, Some, true, sym, ap, ◌∙◌, subst}
+-- An event that is due at a world: whether it may happen there, and how the world is ready to show it.
+use Rattle.std.proofs.Common.{◌≡◌, ℕ, ◌++◌, ◌∷◌, [], List, Option, Some, sym, ap, ◌∙◌, subst}
 use Rattle.mega_base.specs.declared.names.NodeId.{NodeId}
 use Rattle.mega_base.specs.declared.names.OpId.{OpId}
 use Rattle.mega_cluster.specs.declared.cluster.Cluster.{Cluster}
@@ -7,12 +7,11 @@ use Rattle.mega_places.specs.of_durable.of_core.Stepping.{IsPlacedAt}
 use Rattle.mega_places.specs.of_durable.Standing.{MayHappen}
 use Rattle.mega_places.specs.of_handler.Named.{Meaning, Meanings}
 use Rattle.mega_places.specs.of_meanings.Means.{Means}
-use Rattle.mega_places.specs.of_outcome.declared.request.Request.{Request}
-use Rattle.mega_places.specs.of_promises.of_schedule.declared.world_event.WorldEvent.TheVariants.{Begin as BeginEvent, Deliver, Tick as TickEvent}
+use Rattle.mega_places.specs.of_promises.of_schedule.declared.world_event.WorldEvent.TheVariants.{Deliver}
 use Rattle.mega_places.specs.of_promises.of_transcript.declared.item.Item.{Item}
 use Rattle.mega_places.specs.of_promises.of_transcript.declared.item.Item.TheVariants.{Begin as BeginItem, Tick as TickItem}
 use Rattle.mega_wire.specs.declared.message.Message.{Message}
-use Rattle.mega_places.specs.of_voter.of_rules.Members.{is_node}
+use Rattle.mega_format_laws.specs.Nodes.{IsStep}
 use Rattle.mega_places.specs.of_voter.of_rules.Met.{Begins, Ticks}
 use Rattle.mega_places.specs.of_voter.of_rules.Steps.{Begin, Event, Take, Tick, op_of, step}
 use Rattle.mega_places.specs.of_promises.Items.{number, shown}
@@ -22,54 +21,22 @@ use Rattle.mega_places.specs.declared.mail.Mail.{Mail}
 use Rattle.mega_world.specs.declared.world.World.{World}
 use Rattle.mega_places.specs.Carries.{Carries}
 use Rattle.mega_world.specs.Formed.{IsSound, OwnsStep, OwnsTaken}
-use Rattle.mega_world.specs.Stands.{StandsWith}
 use Rattle.mega_places.proofs.Carrying.{shown_on}
-use Rattle.mega_world.proofs.Forming.{made_formed}
-use Rattle.mega_world.proofs.Happening.{IsFit, IsReady}
+use Rattle.mega_world.proofs.Happening.{IsReady}
 use Rattle.mega_world.proofs.Holding.{journal_items}
 use Rattle.mega_world.proofs.Placing.{placed}
-use Rattle.mega_world.proofs.Within.{made_within}
 
-placed_at : (c : Cluster) (h : Meanings) (now : Standing) (me : ℕ) (event : Event) → IsFit c h now me event → IsPlacedAt (setting c h me) (now.node me) event
-placed_at c h now me (Take message) fit = placed (setting c h me) (now.node me) message fit.formed.notes
-placed_at c h now me (Tick clock) fit = tt
-placed_at c h now me (Begin request text) fit = tt
+placed_at : (c : Cluster) (h : Meanings) (now : Standing) (me : ℕ) (event : Event) → IsStep (step (setting c h me) (now.node me) event) → IsPlacedAt (setting c h me) (now.node me) event
+placed_at c h now me (Take message) formed = placed (setting c h me) (now.node me) message formed.notes
+placed_at c h now me (Tick clock) formed = tt
+placed_at c h now me (Begin request text) formed = tt
 
-pub may_happen : {makes : List ℕ → Option Meaning} (c : Cluster) (h : Meanings) (now : Standing) (me : ℕ) (event : Event) → IsFit c h now me event → OwnsStep c h now me event → Means makes h → MayHappen makes (setting c h me) (now.node me) event
-may_happen c h now me event fit own means = record {
+pub may_happen : {makes : List ℕ → Option Meaning} (c : Cluster) (h : Meanings) (now : Standing) (me : ℕ) (event : Event) → IsStep (step (setting c h me) (now.node me) event) → OwnsStep c h now me event → Means makes h → MayHappen makes (setting c h me) (now.node me) event
+may_happen c h now me event formed own means = record {
   means = means;
   owned = own;
-  placed = placed_at c h now me event fit;
-  formed = journal_items (step (setting c h me) (now.node me) event).node.met fit.formed.node.met;
-}
-
-pub tick_fit : {makes : List ℕ → Option Meaning} (c : Cluster) (h : Meanings) (world : World) (items : List Item) (now : Standing) (node : NodeId) (clock : ℕ) → StandsWith c world items now → IsSound makes c h now (TickEvent node clock) → is_node c node.0 ≡ true → IsFit c h now node.0 (Tick clock)
-tick_fit c h world items now node clock r sound there = record {
-  there = there;
-  asked = sound.asked;
-  taken = tt;
-  formed = made_formed c h now node.0 (Tick clock) r.formed sound.handlers there sound.asked;
-  within = made_within c h now node.0 (Tick clock) r.within there tt;
-}
-
-pub begin_fit : {makes : List ℕ → Option Meaning} (c : Cluster) (h : Meanings) (world : World) (items : List Item) (now : Standing) (node : NodeId) (request : Request) (text : List ℕ) → StandsWith c world items now → IsSound makes c h now (BeginEvent node request text) → is_node c node.0 ≡ true
-    → IsFit c h now node.0 (Begin request text)
-begin_fit c h world items now node request text r sound there = record {
-  there = there;
-  asked = sound.asked;
-  taken = tt;
-  formed = made_formed c h now node.0 (Begin request text) r.formed sound.handlers there sound.asked;
-  within = made_within c h now node.0 (Begin request text) r.within there tt;
-}
-
-pub take_fit : {makes : List ℕ → Option Meaning} (c : Cluster) (h : Meanings) (world : World) (items : List Item) (now : Standing) (n : ℕ) (message : Message) → StandsWith c world items now → IsSound makes c h now (Deliver n) → message_of now.tape n ≡ Some message → is_node c message.to ≡ true
-    → IsFit c h now message.to (Take message)
-take_fit c h world items now n message r sound is there = record {
-  there = there;
-  asked = r.formed.messages n message is;
-  taken = r.within.messages n message is;
-  formed = made_formed c h now message.to (Take message) r.formed sound.handlers there (r.formed.messages n message is);
-  within = made_within c h now message.to (Take message) r.within there (r.within.messages n message is);
+  placed = placed_at c h now me event formed;
+  formed = journal_items (step (setting c h me) (now.node me) event).node.met formed.node.met;
 }
 
 pub take_owns : {makes : List ℕ → Option Meaning} (c : Cluster) (h : Meanings) (now : Standing) (n : ℕ) (message : Message) → IsSound makes c h now (Deliver n) → message_of now.tape n ≡ Some message → OwnsStep c h now message.to (Take message)

@@ -16,7 +16,7 @@ use Rattle.mega_places.specs.declared.place.Place.{Place}
 use Rattle.mega_safety.specs.declared.safety.Safety.{Safety}
 use Rattle.mega_world.specs.declared.world.World.{World}
 use Rattle.mega_places.specs.Carries.{Carries}
-use Rattle.mega_world.specs.Formed.{IfNext, IsSound, OwnsDelivered, OwnsDrained}
+use Rattle.mega_world.specs.Formed.{IfNext, IsFormed, IsSound, OwnsDelivered, OwnsDrained}
 use Rattle.mega_places.specs.Kept.{AreNodes}
 use Rattle.mega_safety.specs.Lapses.{KnowsLeases}
 use Rattle.mega_world.specs.Stands.{StandsWith}
@@ -38,8 +38,6 @@ dropped_at c h now number old new items after r cluster places safety carries is
   mail = carries;
   tape = ap newest is ∙ newest-append items (Dropped number) ∙ ap (λ t. Dropped number ∷ t) r.tape;
   leases = subst (λ (s : Safety). KnowsLeases s now.node (Dropped number ∷ now.tape)) (sym safety) (record { lapses = r.leases.lapses; told = r.leases.told });
-  formed = record { cluster = r.formed.cluster; lease = r.formed.lease; nodes = r.formed.nodes; owed = r.formed.owed; messages = r.formed.messages };
-  within = record { cells = r.within.cells; nodes = r.within.nodes; owed = r.within.owed; messages = r.within.messages };
 }
 
 -- a drain that is cut
@@ -51,8 +49,6 @@ cut_at c now world items after r is = record {
   mail = same_on world.mail now.tape (Cut ∷ now.tape) (record { count = refl; message = λ n. refl; took = λ n. refl; drops = λ n. refl }) r.mail;
   tape = ap newest is ∙ newest-append items Cut ∙ ap (λ t. Cut ∷ t) r.tape;
   leases = record { lapses = r.leases.lapses; told = r.leases.told };
-  formed = record { cluster = r.formed.cluster; lease = r.formed.lease; nodes = r.formed.nodes; owed = r.formed.owed; messages = r.formed.messages };
-  within = record { cells = r.within.cells; nodes = r.within.nodes; owed = r.within.owed; messages = r.within.messages };
 }
 
 -- ---- a drain, delivery by delivery
@@ -62,21 +58,24 @@ pub record Reaches (c : Cluster) (h : Meanings) (now : Standing) (most : ℕ) (w
   pub mid : Standing
   pub at : StandsWith c world (earlier ++ here) mid
   pub drains : drained c h by_fuse now most ≡ drained c h by_fuse mid left
+  pub formed : IsFormed mid
   pub owns : OwnsDrained c h left mid
   pub lines : All HasLine first → All HasLine here
 
-pub reaches_first : (c : Cluster) (h : Meanings) (now : Standing) (most left : ℕ) (world : World) (earlier items : List Item) → StandsWith c world (earlier ++ items) now → OwnsDrained c h most now → most ≡ left → Reaches c h now most world earlier items items left
-reaches_first c h now most left world earlier items r owns is = subst (λ n. Reaches c h now most world earlier items items n) is (record {
+pub reaches_first : (c : Cluster) (h : Meanings) (now : Standing) (most left : ℕ) (world : World) (earlier items : List Item) → StandsWith c world (earlier ++ items) now → IsFormed now → OwnsDrained c h most now → most ≡ left → Reaches c h now most world earlier items items left
+reaches_first c h now most left world earlier items r formed owns is = subst (λ n. Reaches c h now most world earlier items items n) is (record {
   mid = now;
   at = r;
   drains = refl;
+  formed = formed;
   owns = owns;
   lines = λ lined. lined;
 })
 
 -- the next delivery acts on rows of each group's own, and behind it the drain goes on so
-owns_next : (c : Cluster) (h : Meanings) (mid : Standing) (less number : ℕ) → OwnsDrained c h (suc less) mid → next_delivery (up mid) mid.tape ≡ Some number → OwnsDelivered c h mid number × OwnsDrained c h less (delivered c h by_fuse mid number)
-owns_next c h mid less number owns is = subst (IfNext (λ n. OwnsDelivered c h mid n × OwnsDrained c h less (delivered c h by_fuse mid n))) is owns
+owns_next : (c : Cluster) (h : Meanings) (mid : Standing) (less number : ℕ) → OwnsDrained c h (suc less) mid → next_delivery (up mid) mid.tape ≡ Some number
+    → OwnsDelivered c h mid number × IsFormed (delivered c h by_fuse mid number) × OwnsDrained c h less (delivered c h by_fuse mid number)
+owns_next c h mid less number owns is = subst (IfNext (λ n. OwnsDelivered c h mid n × IsFormed (delivered c h by_fuse mid n) × OwnsDrained c h less (delivered c h by_fuse mid n))) is owns
 
 pub left_more : (most turn : ℕ) → turn < most → most - turn ≡ suc (most - (turn + 1))
 left_more most turn less = omega (arith, less)
@@ -102,6 +101,7 @@ next_sound {makes} {now_makes} c h now most turn number world earlier first here
   means = means_still makes now_makes h same sound.means;
   handlers = sound.handlers;
   asked = tt;
+  formed = r.formed;
   own = (owns_next c h r.mid (most - (turn + 1)) number (subst (λ (n : ℕ). OwnsDrained c h n r.mid) (left_more most turn less) r.owns) is).0;
 }
 
@@ -111,6 +111,7 @@ reaches_next c h now most turn number world after earlier first here then' r les
   mid = after_event c h by_fuse r.mid (Deliver number);
   at = at;
   drains = r.drains ∙ ap (drained c h by_fuse r.mid) (left_more most turn less) ∙ drains_on c h r.mid number (most - (turn + 1)) is;
-  owns = (owns_next c h r.mid (most - (turn + 1)) number (subst (λ (n : ℕ). OwnsDrained c h n r.mid) (left_more most turn less) r.owns) is).1;
+  formed = (owns_next c h r.mid (most - (turn + 1)) number (subst (λ (n : ℕ). OwnsDrained c h n r.mid) (left_more most turn less) r.owns) is).1;
+  owns = (owns_next c h r.mid (most - (turn + 1)) number (subst (λ (n : ℕ). OwnsDrained c h n r.mid) (left_more most turn less) r.owns) is).2;
   lines = λ has. lined (r.lines has);
 }

@@ -13,8 +13,6 @@ use Rattle.mega_places.specs.of_promises.of_transcript.declared.item.Item.{Item}
 use Rattle.mega_places.specs.of_promises.of_transcript.declared.item.Item.TheVariants.{Crash}
 use Rattle.mega_places.specs.of_promises.of_transcript.Tape.{newest}
 use Rattle.mega_places.proofs.of_transcript.Tapes.{newest-append}
-use Rattle.mega_member_laws.specs.of_format_laws.Nodes.{IsNode}
-use Rattle.mega_member_laws.specs.Nodes.{StaysWithin}
 use Rattle.mega_places.specs.of_voter.of_rules.Clock.{start_of}
 use Rattle.mega_places.specs.of_voter.of_rules.Members.{has_rows}
 use Rattle.mega_places.specs.of_voter.of_rules.Met.{Crashes, Met}
@@ -30,13 +28,11 @@ use Rattle.mega_places.specs.declared.place.Place.{Place}
 use Rattle.mega_places.specs.declared.place.Place.TheVariants.{Down, Up}
 use Rattle.mega_world.specs.declared.world.World.{World}
 use Rattle.mega_places.specs.Carries.{Carries}
-use Rattle.mega_world.specs.Formed.{IsFormed}
 use Rattle.mega_places.specs.Kept.{AreNodes, AreReady, remains_of}
 use Rattle.mega_safety.specs.Lapses.{KnowsLeases}
 use Rattle.mega_places.specs.Members.{IsMember, is_up_at, node_in, records_of, version_of}
 use Rattle.mega_world.specs.Restarting.{StaysDown}
 use Rattle.mega_world.specs.Stands.{StandsWith}
-use Rattle.mega_world.specs.Within.{RunsWithin}
 use Rattle.mega_places.proofs.Carrying.{shown_on}
 use Rattle.mega_world.proofs.Fates.{start_cut}
 use Rattle.mega_places.proofs.Joining.{at_other, nodes_on}
@@ -76,8 +72,6 @@ record CrashedSo (c : Cluster) (new : World) (after : List Item) (later : Standi
   mail : Carries new.mail later.tape
   tape : newest after ≡ later.tape
   leases : KnowsLeases new.safety later.node later.tape
-  formed : IsFormed c later
-  within : RunsWithin c later
 
 crashed_so : (c : Cluster) (now : Standing) (node : NodeId) (old new : World) (items after : List Item) → StandsWith c old items now → new.mail ≡ old.mail → new.safety ≡ old.safety → after ≡ items ++ Crash node ∷ []
     → CrashedSo c new after (crashes now node.0)
@@ -88,32 +82,11 @@ crashed_so c now node old new items after r mail safety is = record {
     lapses = record { each = λ cell other epoch. r.leases.lapses.each cell other epoch ∙ lapsed cell other epoch (node.0 == cell) refl };
     told = r.leases.told;
   });
-  formed = record {
-    cluster = r.formed.cluster;
-    lease = r.formed.lease;
-    nodes = λ me. node_by me (node.0 == me);
-    owed = r.formed.owed;
-    messages = r.formed.messages;
-  };
-  within = record {
-    cells = r.within.cells;
-    nodes = λ me. stays_by me (node.0 == me);
-    owed = r.within.owed;
-    messages = r.within.messages;
-  };
 }
   where
     lapsed : (cell other : ℕ) (epoch : Epoch) (t : Bool) → (node.0 == cell) ≡ t → has_lapsed (now.node cell).met other epoch ≡ has_lapsed (cond t (crashed (now.node node.0)) (now.node cell)).met other epoch
     lapsed cell other epoch true same = let e : node.0 ≡ cell = grind (arith, nat_tests) in ap (λ k. has_lapsed (now.node k).met other epoch) (sym e)
     lapsed cell other epoch false apart = refl
-
-    node_by : (me : ℕ) (t : Bool) → IsNode (cond t (crashed (now.node node.0)) (now.node me))
-    node_by me true = record { met = (tt, (r.formed.nodes node.0).met); open_operations = tt }
-    node_by me false = r.formed.nodes me
-
-    stays_by : (me : ℕ) (t : Bool) → StaysWithin c (cond t (crashed (now.node node.0)) (now.node me))
-    stays_by me true = record { met = (tt, (r.within.nodes node.0).met); open_operations = tt }
-    stays_by me false = r.within.nodes me
 
 pub fallen_at : (c : Cluster) (h : Meanings) (now : Standing) (node : NodeId) (old new : World) (items after : List Item) → StandsWith c old items now
     → AreNodes c new.places.items (crashes now node.0) → new.cluster ≡ old.cluster → new.mail ≡ old.mail → new.safety ≡ old.safety → after ≡ items ++ Crash node ∷ [] → StandsWith c new after (after_event c h by_fuse now (CrashEvent node))
@@ -125,8 +98,6 @@ fallen_at c h now node old new items after r nodes cluster mail safety is =
       mail = so.mail;
       tape = so.tape;
       leases = so.leases;
-      formed = so.formed;
-      within = so.within;
     }
 
 -- a node whose start was cut off is down as before, and shows the crash
@@ -141,8 +112,6 @@ stayed_at c h now node old new items after r stays cluster mail safety is =
       mail = so.mail;
       tape = so.tape;
       leases = record { lapses = so.leases.lapses; told = so.leases.told };
-      formed = record { cluster = so.formed.cluster; lease = so.formed.lease; nodes = so.formed.nodes; owed = so.formed.owed; messages = so.formed.messages };
-      within = record { cells = so.within.cells; nodes = so.within.nodes; owed = so.within.owed; messages = so.within.messages };
     })
 
 -- a node that is up goes down

@@ -63,8 +63,6 @@ fused_at c now me calls image Log old new items r nodes cluster mail safety = re
   mail = subst (λ m. Carries m now.tape) (sym mail) r.mail;
   tape = r.tape;
   leases = subst (λ s. KnowsLeases s now.node now.tape) (sym safety) r.leases;
-  formed = record { cluster = r.formed.cluster; lease = r.formed.lease; nodes = r.formed.nodes; owed = r.formed.owed; messages = r.formed.messages };
-  within = record { cells = r.within.cells; nodes = r.within.nodes; owed = r.within.owed; messages = r.within.messages };
 }
 fused_at c now me calls image Data old new items r nodes cluster mail safety = record {
   cluster = cluster ∙ r.cluster;
@@ -73,8 +71,6 @@ fused_at c now me calls image Data old new items r nodes cluster mail safety = r
   mail = subst (λ m. Carries m now.tape) (sym mail) r.mail;
   tape = r.tape;
   leases = subst (λ s. KnowsLeases s now.node now.tape) (sym safety) r.leases;
-  formed = record { cluster = r.formed.cluster; lease = r.formed.lease; nodes = r.formed.nodes; owed = r.formed.owed; messages = r.formed.messages };
-  within = record { cells = r.within.cells; nodes = r.within.nodes; owed = r.within.owed; messages = r.within.messages };
 }
 
 pub data_nodes : (c : Cluster) (places : List Place) (now : Standing) (me calls image : ℕ) → AreNodes c places now → AreNodes c places (fused now me calls image Data)

@@ -6,6 +6,7 @@ use Rattle.std.proofs.lemmas.List.Elements.{All-append, All-cons, All-nil}
 use Rattle.mega_base.specs.Codec.{IsBetween}
 use Rattle.mega_base.specs.declared.names.Epoch.{Epoch}
 use Rattle.mega_cluster.specs.declared.cluster.Cluster.{Cluster}
+use Rattle.mega_places.specs.of_durable.of_core.Served.{IsServed}
 use Rattle.mega_places.specs.of_handler.Named.{Meanings}
 use Rattle.mega_places.specs.of_leases.Taking.{IsByStranger, IsLate}
 use Rattle.mega_wire.specs.declared.message.Message.{Message}
@@ -21,12 +22,10 @@ use Rattle.mega_places.specs.of_voter.of_rules.Members.{is_node}
 use Rattle.mega_places.specs.of_voter.of_rules.Met.{Begins, Crashes, Met}
 use Rattle.mega_places.specs.of_voter.of_rules.Operations.{Node as RuleNode, Setting}
 use Rattle.mega_places.specs.of_voter.of_rules.Steps.{Begin, Event, Step as RuleStep, Take, Tick, crashed, op_of, onto as met_onto, step}
-use Rattle.mega_member_laws.specs.of_format_laws.Histories.{IsItem, IsMet}
-use Rattle.mega_member_laws.specs.of_format_laws.Nodes.{IsEvent, IsNode, IsStep}
-use Rattle.mega_member_laws.specs.Nodes.{EventWithin, ItemWithin, MetWithin, StaysWithin, StepWithin}
+use Rattle.mega_format_laws.specs.Nodes.{IsStep}
 use Rattle.mega_places.specs.of_promises.Items.{number, numbered, shown}
 use Rattle.mega_places.specs.of_promises.Messages.{is_unsafe, message_of}
-use Rattle.mega_places.specs.of_promises.Runs.{Standing, at_node, by_fuse, has_lapsed, is_kept, left_by, met_in, owes, replies_in, set_at, setting, whole_step, with_items}
+use Rattle.mega_places.specs.of_promises.Runs.{Standing, at_node, by_fuse, has_lapsed, met_in, set_at, setting, whole_step, with_items}
 use Rattle.mega_places.specs.of_durable.of_core.of_stepping.declared.step.Step.{Step}
 use Rattle.mega_places.specs.of_durable.of_core.of_stepping.Notes.{met_of}
 use Rattle.mega_safety.specs.declared.safety.Safety.{Safety}
@@ -44,19 +43,15 @@ use Rattle.mega_places.specs.Stepping.{Comes, Falls, Makes, cut_off}
 use Rattle.mega_places.proofs.Carrying.{shown_on}
 use Rattle.mega_world.proofs.Events.{step_shows}
 use Rattle.mega_world.proofs.Fates.{cut_tape, step_cut, step_whole}
-use Rattle.mega_world.proofs.Forming.{formed_on, is_member}
 use Rattle.mega_safety.proofs.Lapsing.{step_lapsed}
 use Rattle.mega_world.proofs.Lining.{notes_lines, sent_lines}
-use Rattle.mega_world.proofs.Owed.{if_kept, owes_formed, owes_within}
 use Rattle.mega_places.proofs.Plain.{with_append, with_sent}
-use Rattle.mega_world.proofs.Within.{within_on}
 
 -- an event's own items: they are no messages', show nothing of leases, and have lines
 pub record AreOwn (c : Cluster) (own : List Item) : Type 0 where
   pub plain : (node : ℕ → RuleNode) (t : List Item) → with_items c node t own ≡ onto own t
   pub silent : (t : List Item) → sent_count (onto own t) ≡ sent_count t
   pub safe : (t : List Item) → is_unsafe (onto own t) ≡ is_unsafe t
-  pub messages : (t : List Item) (n : ℕ) → message_of (onto own t) n ≡ message_of t n
   pub lines : All HasLine own
 
 pub taken_own : (c : Cluster) (number : ℕ) → AreOwn c (Taken number ∷ [])
@@ -64,7 +59,6 @@ taken_own c number = record {
   plain = λ node t. refl;
   silent = λ t. refl;
   safe = λ t. refl;
-  messages = λ t n. refl;
   lines = All-cons HasLine (Taken number) [] tt (All-nil HasLine);
 }
 
@@ -73,7 +67,6 @@ begun_own c s node me text = record {
   plain = λ node t. refl;
   silent = λ t. refl;
   safe = λ t. refl;
-  messages = λ t n. refl;
   lines = All-cons HasLine (BeginItem (op_of s node.met) text) [] tt (All-nil HasLine);
 }
 
@@ -120,28 +113,18 @@ stepped_is c now me own ruled old mid items here made r is lapses makes ready = 
     by true cell node epoch = lapses node epoch ∙ ap (λ notes. has_lapsed (met_onto notes (now.node me).met) node epoch) (sym makes.notes)
     by false cell node epoch = refl
 
--- an event of a node: its step and its own item are of the format, and stay within the cluster
-pub record IsFit (c : Cluster) (h : Meanings) (now : Standing) (me : ℕ) (event : Event) : Type 0 where
-  pub there : is_node c me ≡ true
-  pub asked : IsEvent event
-  pub taken : EventWithin c event
-  pub formed : IsStep (step (setting c h me) (now.node me) event)
-  pub within : StepWithin c (step (setting c h me) (now.node me) event)
-
 -- a world that showed a step that is whole
 shown_at : (c : Cluster) (h : Meanings) (now : Standing) (me : ℕ) (own : List Item) (event : Event) (old mid new : World) (items here after : List Item) (made : Step)
-    → StandsWith c old items now → AreOwn c own → IsFit c h now me event → Makes c now me (step (setting c h me) (now.node me) event) mid.places.items made → IsReady now own old mid items here
+    → StandsWith c old items now → AreOwn c own → Makes c now me (step (setting c h me) (now.node me) event) mid.places.items made → IsReady now own old mid items here
     → ((was ruled : ℕ → RuleNode) → IsStepped c mid me made.notes was ruled (newest here) → IsShown c mid new me made ruled here after)
     → StandsWith c new after (whole_step c now me own (step (setting c h me) (now.node me) event))
-shown_at c h now me own event old mid new items here after made r is fit makes ready show = record {
+shown_at c h now me own event old mid new items here after made r is makes ready show = record {
   cluster = shows.cluster ∙ ready.cluster ∙ r.cluster;
   served = r.served;
   nodes = subst (λ ps. AreNodes c ps.items (whole_step c now me own ruled)) (sym shows.places) (makes.nodes own);
   mail = subst (Carries new.mail) tape shows.carries;
   tape = tape;
   leases = subst (KnowsLeases new.safety (set_at now.node me ruled.node)) tape shows.leases;
-  formed = formed_on c now me own ruled r.formed fit.formed (is.messages now.tape) (step_shows c now me own ruled is.plain);
-  within = within_on c now me own ruled r.within fit.within (is.messages now.tape) (step_shows c now me own ruled is.plain);
 }
   where
     ruled : RuleStep
@@ -154,25 +137,15 @@ shown_at c h now me own event old mid new items here after made r is fit makes r
     tape = shown_tape c now me own here after made ruled is (here_tape now own items here r.tape ready.added) makes.notes makes.sends shows.tape
 
 -- a step that was cut off
-own_formed : (c : Cluster) (h : Meanings) (me : ℕ) (met : List Met) (event : Event) → IsEvent event → IsItem (met_in (setting c h me) met event)
-own_formed c h me met (Tick clock) asked = asked
-own_formed c h me met (Take message) asked = asked
-own_formed c h me met (Begin request text) asked = tt
-
-own_within : (c : Cluster) (h : Meanings) (me : ℕ) (met : List Met) (event : Event) → EventWithin c event → ItemWithin c (met_in (setting c h me) met event)
-own_within c h me met (Tick clock) taken = tt
-own_within c h me met (Take message) taken = taken
-own_within c h me met (Begin request text) taken = tt
-
 own_lapses : (c : Cluster) (h : Meanings) (me : ℕ) (met : List Met) (event : Event) (node : ℕ) (epoch : Epoch) → has_lapsed (Crashes ∷ met_in (setting c h me) met event ∷ met) node epoch ≡ has_lapsed met node epoch
 own_lapses c h me met (Tick clock) node epoch = refl
 own_lapses c h me met (Take message) node epoch = refl
 own_lapses c h me met (Begin request text) node epoch = refl
 
 crashed_at : (c : Cluster) (h : Meanings) (now : Standing) (me : ℕ) (own : List Item) (event : Event) (old mid new : World) (items here after : List Item)
-    → StandsWith c old items now → AreOwn c own → IsFit c h now me event → Falls c h now me event mid.places.items → IsReady now own old mid items here → ShowsCrash mid new me here after
+    → StandsWith c old items now → AreOwn c own → Falls c h now me event mid.places.items → IsReady now own old mid items here → ShowsCrash mid new me here after
     → StandsWith c new after (cut_off c h now me own event)
-crashed_at c h now me own event old mid new items here after r is fit falls ready shows = record {
+crashed_at c h now me own event old mid new items here after r is falls ready shows = record {
   cluster = ap (λ (w : World). w.cluster) shows.world ∙ ready.cluster ∙ r.cluster;
   served = r.served;
   nodes = subst (λ (w : World). AreNodes c w.places.items (cut_off c h now me own event)) (sym shows.world) (falls.nodes own);
@@ -183,19 +156,6 @@ crashed_at c h now me own event old mid new items here after r is fit falls read
         lapses = record { each = λ cell node epoch. r.leases.lapses.each cell node epoch ∙ lapsed cell node epoch (me == cell) refl };
         told = r.leases.told ∙ sym (is.safe now.tape) ∙ sym (ap is_unsafe tape);
       }));
-  formed = record {
-    cluster = r.formed.cluster;
-    lease = r.formed.lease;
-    nodes = λ other. node_by other (me == other);
-    owed = λ other. owed_by other (me == other);
-    messages = λ n message sent. r.formed.messages n message (sym (is.messages now.tape n) ∙ sym (ap (λ t. message_of t n) tape) ∙ sent);
-  };
-  within = record {
-    cells = r.within.cells;
-    nodes = λ other. stays_by other (me == other);
-    owed = λ other. owing_by other (me == other);
-    messages = λ n message sent. r.within.messages n message (sym (is.messages now.tape n) ∙ sym (ap (λ t. message_of t n) tape) ∙ sent);
-  };
 }
   where
     next : RuleNode
@@ -204,9 +164,6 @@ crashed_at c h now me own event old mid new items here after r is fit falls read
     next_nodes : ℕ → RuleNode
     next_nodes = set_at now.node me next
 
-    owing : List Met
-    owing = owes (step (setting c h me) (now.node me) event) (replies_in c me (now.node me).met event)
-
     tape : (cut_off c h now me own event).tape ≡ Crash (number me) ∷ onto own now.tape
     tape = cut_tape c h now me own event is.plain
 
@@ -214,43 +171,23 @@ crashed_at c h now me own event old mid new items here after r is fit falls read
     lapsed cell other epoch true same = let e : me ≡ cell = grind (arith, nat_tests) in ap (λ k. has_lapsed (now.node k).met other epoch) (sym e) ∙ sym (own_lapses c h me (now.node me).met event other epoch)
     lapsed cell other epoch false apart = refl
 
-    node_by : (other : ℕ) (t : Bool) → IsNode (cond t next (now.node other))
-    node_by other true = record { met = (tt, (own_formed c h me (now.node me).met event fit.asked, (r.formed.nodes me).met)); open_operations = tt }
-    node_by other false = r.formed.nodes other
-
-    owed_by : (other : ℕ) (t : Bool) → IsMet (cond t (cond (is_kept (left_by (now.log_fuse me))) owing []) (now.owed other))
-    owed_by other true =
-        if_kept IsMet (is_kept (left_by (now.log_fuse me))) owing
-        (owes_formed c me (now.node me).met event (step (setting c h me) (now.node me) event) (is_member c me r.formed.cluster fit.there) (r.formed.nodes me).met fit.asked fit.formed) tt
-    owed_by other false = r.formed.owed other
-
-    stays_by : (other : ℕ) (t : Bool) → StaysWithin c (cond t next (now.node other))
-    stays_by other true = record { met = (tt, (own_within c h me (now.node me).met event fit.taken, (r.within.nodes me).met)); open_operations = tt }
-    stays_by other false = r.within.nodes other
-
-    owing_by : (other : ℕ) (t : Bool) → MetWithin c (cond t (cond (is_kept (left_by (now.log_fuse me))) owing []) (now.owed other))
-    owing_by other true =
-        if_kept (MetWithin c) (is_kept (left_by (now.log_fuse me))) owing
-        (owes_within c me (now.node me).met event (step (setting c h me) (now.node me) event) fit.there (r.within.nodes me).met fit.taken fit.within) tt
-    owing_by other false = r.within.owed other
-
 -- ---- so a world stands after an event of a node, whatever its fuse made of the step
 pub came_at : (c : Cluster) (h : Meanings) (now : Standing) (me : ℕ) (own : List Item) (event : Event) (old mid new : World) (items here after : List Item) (made : Stepped)
-    → StandsWith c old items now → AreOwn c own → IsFit c h now me event → Comes c h now me event mid.places.items made → IsReady now own old mid items here → ShowsStep c mid new me made here after
+    → StandsWith c old items now → AreOwn c own → Comes c h now me event mid.places.items made → IsReady now own old mid items here → ShowsStep c mid new me made here after
     → StandsWith c new after (at_node c h now me own event (by_fuse now me))
-came_at c h now me own event old mid new items here after (stepped.Made made) r is fit comes ready shows =
-    subst (StandsWith c new after) (sym (step_whole c h now me own event comes.long)) (shown_at c h now me own event old mid new items here after made r is fit comes ready shows)
-came_at c h now me own event old mid new items here after stepped.Cut r is fit comes ready shows =
-    subst (StandsWith c new after) (sym (step_cut c h now me own event comes.short)) (crashed_at c h now me own event old mid new items here after r is fit comes ready shows)
+came_at c h now me own event old mid new items here after (stepped.Made made) r is comes ready shows =
+    subst (StandsWith c new after) (sym (step_whole c h now me own event comes.long)) (shown_at c h now me own event old mid new items here after made r is comes ready shows)
+came_at c h now me own event old mid new items here after stepped.Cut r is comes ready shows =
+    subst (StandsWith c new after) (sym (step_cut c h now me own event comes.short)) (crashed_at c h now me own event old mid new items here after r is comes ready shows)
 
 -- and what it shows has lines
 pub came_lined : (c : Cluster) (h : Meanings) (now : Standing) (me : ℕ) (own : List Item) (event : Event) (old mid : World) (items here after : List Item) (made : Stepped)
-    → AreOwn c own → IsFit c h now me event → Comes c h now me event mid.places.items made → IsReady now own old mid items here → LinesStep mid me made here after → All HasLine items → All HasLine after
-came_lined c h now me own event old mid items here after (stepped.Made made) is fit comes ready lines lined =
+    → AreOwn c own → IsStep (step (setting c h me) (now.node me) event) → Comes c h now me event mid.places.items made → IsReady now own old mid items here → LinesStep mid me made here after → All HasLine items → All HasLine after
+came_lined c h now me own event old mid items here after (stepped.Made made) is formed comes ready lines lined =
     lines (onto own now.tape) ready.carries (subst (All HasLine) (sym ready.added) (All-append HasLine items own lined is.lines))
-    (subst (λ ns. All HasLine (flat_map (shown me) ns)) (sym comes.notes) (notes_lines me (step (setting c h me) (now.node me) event).notes fit.formed.notes))
-    (subst (λ ms. All HasLine (numbered (sent_count (onto own now.tape) + 1) ms)) (sym comes.sends) (sent_lines (sent_count (onto own now.tape) + 1) (step (setting c h me) (now.node me) event).sends fit.formed.sends))
-came_lined c h now me own event old mid items here after stepped.Cut is fit comes ready lines lined =
+    (subst (λ ns. All HasLine (flat_map (shown me) ns)) (sym comes.notes) (notes_lines me (step (setting c h me) (now.node me) event).notes formed.notes))
+    (subst (λ ms. All HasLine (numbered (sent_count (onto own now.tape) + 1) ms)) (sym comes.sends) (sent_lines (sent_count (onto own now.tape) + 1) (step (setting c h me) (now.node me) event).sends formed.sends))
+came_lined c h now me own event old mid items here after stepped.Cut is formed comes ready lines lined =
     lines (subst (All HasLine) (sym ready.added) (All-append HasLine items own lined is.lines))
 
 -- ---- a delivery
@@ -304,9 +241,9 @@ not_late c (Requested token json) few body_is late = late
 not_late c (Reply token text) few body_is late = late
 
 -- so each message is taken
-pub delivery_built : (c : Cluster) (now : Standing) (number : ℕ) (message : Message) → IsFormed c now → message_of now.tape number ≡ Some message → IsByStranger message.from message.body ⊎ IsLate c message.body → ⊥
-delivery_built c now number message formed is (inl stranger) = let m = formed.messages number message is in no_stranger message.from message.body m.from m.body stranger
-delivery_built c now number message formed is (inr late) = let m = formed.messages number message is in not_late c message.body formed.lease m.body late
+pub delivery_built : (c : Cluster) (now : Standing) (number : ℕ) (message : Message) → IsServed c → IsFormed now → message_of now.tape number ≡ Some message → IsByStranger message.from message.body ⊎ IsLate c message.body → ⊥
+delivery_built c now number message served formed is (inl stranger) = let m = formed.messages number message is in no_stranger message.from message.body m.from m.body stranger
+delivery_built c now number message served formed is (inr late) = let m = formed.messages number message is in not_late c message.body served.lease m.body late
 
 -- ---- where a node is one of the cluster
 pub is_there : (c : Cluster) (world : World) (items : List Item) (now : Standing) (me : ℕ) → StandsWith c world items now → 1 ≤ me → me ≤ length world.places.items → is_node c me ≡ true
@@ -317,6 +254,5 @@ ticked_own c me clock = record {
   plain = λ node t. refl;
   silent = λ t. refl;
   safe = λ t. refl;
-  messages = λ t n. refl;
   lines = All-cons HasLine (TickItem (number me) clock) [] tt (All-nil HasLine);
 }

@@ -12,7 +12,7 @@ use Rattle.mega_places.proofs.of_voter.Told.{sent_fits}
 use Rattle.mega_places.specs.of_voter.of_rules.Clock.{start_of}
 use Rattle.mega_places.specs.of_voter.of_rules.Locks.{last_grant}
 use Rattle.mega_places.specs.of_voter.of_rules.Met.{Met, Starts, Crashes, Ticks, Begins, Takes, Sends, Unsends, Grants, Lapses, Counts, Forgets, Serves, Loses, Validates, Invalidates, Decides, Applies, Answers}
-use Rattle.mega_member_laws.specs.of_format_laws.Histories.{IsItem, IsMet}
+use Rattle.mega_format_laws.specs.Histories.{IsItem, IsMet}
 
 -- ---- what a node met has texts on its log
 listed : (item : Option JournalItem) → All IsKeptItem (option_to_list item) → All IsKeptItem (cons_option item [])

@@ -7,8 +7,8 @@ use Rattle.mega_places.specs.of_promises.of_transcript.declared.item.Item.{Item}
 use Rattle.mega_places.specs.of_promises.of_transcript.declared.item.Item.TheVariants.{Start, Unsent, Tick, Begin, Sent, Grant, Lapse, Counts as CountsItem, Forgets as ForgetsItem, Serving, Lost, Valid, Invalid, Decide, Apply, Answer, Crash}
 use Rattle.mega_places.specs.of_promises.of_transcript.Lines.{HasLine}
 use Rattle.mega_places.specs.of_voter.of_rules.Met.{Met, Starts, Crashes, Ticks, Begins, Takes, Sends, Unsends, Grants, Lapses, Counts, Forgets, Serves, Loses, Validates, Invalidates, Decides, Applies, Answers}
-use Rattle.mega_member_laws.specs.of_format_laws.Histories.{IsItem, IsMet}
-use Rattle.mega_member_laws.specs.of_format_laws.Rounds.{AreMessages}
+use Rattle.mega_format_laws.specs.Histories.{IsItem, IsMet}
+use Rattle.mega_format_laws.specs.Rounds.{AreMessages}
 use Rattle.mega_places.specs.of_promises.Items.{number, numbered, shown}
 
 one_line : (item : Item) → HasLine item → All HasLine (item ∷ [])

@@ -1,5 +1,5 @@
 -- How a cluster stands once its nodes are started.
-use Rattle.std.proofs.Common.{◌≡◌, ◌⊎◌, inl, inr, ℕ, ◌+◌, ◌≤◌, ◌==◌, ◌&&◌, nat_le, cond, Bool, true, false, List, [], ◌∷◌, ◌++◌, flat_map, fold, length, length-append, Option, Some, None, is_some, refl, sym, ap, ◌∙◌, subst, zero, suc, arith}
+use Rattle.std.proofs.Common.{◌≡◌, ℕ, ◌+◌, ◌≤◌, ◌==◌, ◌&&◌, nat_le, cond, Bool, true, false, List, [], ◌∷◌, ◌++◌, flat_map, fold, length, length-append, Option, Some, None, is_some, refl, sym, ap, ◌∙◌, subst, zero, suc, arith}
 use Rattle.std.proofs.lemmas.Bool.Decides.{nat_tests}
 use Rattle.std.proofs.lemmas.Option.{slice_get_within}
 use Rattle.std.specs.BTreeSet.{contains}
@@ -17,20 +17,14 @@ use Rattle.mega_places.specs.of_voter.of_rules.Members.{has_rows}
 use Rattle.mega_places.specs.of_voter.of_rules.Met.{Starts}
 use Rattle.mega_places.specs.of_voter.of_rules.Operations.{Node as RuleNode, Setting}
 use Rattle.mega_places.specs.of_voter.of_rules.Steps.{onto, start, start_items, start_note, start_notes}
-use Rattle.mega_member_laws.specs.of_format_laws.Histories.{IsCluster, IsMet}
-use Rattle.mega_member_laws.specs.of_format_laws.Nodes.{IsNode}
-use Rattle.mega_member_laws.proofs.of_format_laws.Steps.{started}
-use Rattle.mega_member_laws.specs.Nodes.{MetWithin, StaysWithin}
-use Rattle.mega_member_laws.proofs.Steps.{first_started}
 use Rattle.mega_places.specs.of_promises.Items.{number, shown}
-use Rattle.mega_places.specs.of_promises.Messages.{is_unsafe, message_of}
+use Rattle.mega_places.specs.of_promises.Messages.{is_unsafe}
 use Rattle.mega_places.specs.of_promises.Runs.{Whole, Standing, after_append, empty_node, fated_start, has_lapsed, nothing_yet, opening, set_at, setting, whole_start, with_items}
 use Rattle.mega_places.specs.declared.mail.Mail.{Mail}
 use Rattle.mega_safety.specs.declared.safety.Lapse.{Lapse}
 use Rattle.mega_safety.specs.declared.safety.Safety.{Safety}
 use Rattle.mega_places.specs.Carries.{Carries}
 use Rattle.mega_places.proofs.Carrying.{shown_on}
-use Rattle.mega_world.specs.Formed.{IsFormed}
 use Rattle.mega_safety.specs.Lapses.{KnowsLeases, lapse, lapse_cmp}
 use Rattle.mega_places.specs.declared.place.Place.{Place}
 use Rattle.mega_places.specs.declared.place.Place.TheVariants.{Up, Down}
@@ -39,7 +33,6 @@ use Rattle.mega_places.specs.Kept.{AreNodes, IsKept}
 use Rattle.mega_places.specs.LogFuses.{IsFused}
 use Rattle.mega_places.specs.Members.{IsMember, is_up_at, member_in, member_of, records_of}
 use Rattle.mega_world.specs.Opening.{AreStarted, IsFirst, IsStarted, first_starts}
-use Rattle.mega_world.specs.Within.{RunsWithin}
 use Rattle.mega_places.proofs.Joining.{member_is}
 
 -- ---- the first start of a node
@@ -162,20 +155,11 @@ starts_carried : (mail : Mail) (k : ℕ) → Carries mail [] → Carries mail (f
 starts_carried mail zero r = r
 starts_carried mail (suc k) r = shown_on mail (suc k) (Starts 1) (first_starts k) (starts_carried mail k r)
 
-starts_sent : (k n : ℕ) → message_of (first_starts k) n ≡ None
-starts_sent zero n = refl
-starts_sent (suc k) n = starts_sent k n
-
 pub opening_mail : (c : Cluster) (h : Meanings) (mail : Mail) → Carries mail [] → Carries mail (opening c h).tape
 opening_mail c h mail nothing = subst (Carries mail) (sym (opening_opened c h).tape_is) (starts_carried mail (length c.nodes) nothing)
 
 pub opening_tape : (c : Cluster) (h : Meanings) (items : List Item) → newest items ≡ first_starts (length c.nodes) → newest items ≡ (opening c h).tape
 opening_tape c h items is = is ∙ sym (opening_opened c h).tape_is
-
-pub cells_few : (cells : ℕ) → (cells ≡ 1) ⊎ ((cells ≡ 3) ⊎ (cells ≡ 5)) → cells ≤ 5
-cells_few cells (inl one) = omega (arith, one)
-cells_few cells (inr (inl three)) = omega (arith, three)
-cells_few cells (inr (inr five)) = omega (arith, five)
 
 -- no epoch lapsed yet, and leases are safe
 first_lapsed : (s : Setting) (node : ℕ) (epoch : Epoch) → has_lapsed (start s 1 [] []).met node epoch ≡ false
@@ -200,37 +184,6 @@ opening_leases c h safety none told = record {
     by : (t : Bool) (cell node : ℕ) (epoch : Epoch) → has_lapsed (cond t (start (setting c h cell) 1 [] []) empty_node).met node epoch ≡ false
     by true cell node epoch = first_lapsed (setting c h cell) node epoch
     by false cell node epoch = refl
-
-pub opening_formed : (c : Cluster) (h : Meanings) → IsCluster c → c.lease ≤ 1000000000 → IsFormed c (opening c h)
-opening_formed c h formed lease = record {
-  cluster = formed;
-  lease = lease;
-  nodes = λ me. subst IsNode (sym (o.node_is me)) (by (is_among (length c.nodes) me) me);
-  owed = λ me. subst IsMet (sym (o.unowed me)) tt;
-  messages = λ n message is. let none = ap (λ t. message_of t n) o.tape_is ∙ starts_sent (length c.nodes) n in let no = sym none ∙ is in cc;
-}
-  where
-    o : Opened c h (length c.nodes) (opening c h)
-    o = opening_opened c h
-
-    by : (t : Bool) (me : ℕ) → IsNode (cond t (start (setting c h me) 1 [] []) empty_node)
-    by true me = started (setting c h me) 1 [] [] (omega arith, omega arith) tt tt
-    by false me = record { met = tt; open_operations = tt }
-
-pub opening_within : (c : Cluster) (h : Meanings) → c.cells ≤ length c.nodes → RunsWithin c (opening c h)
-opening_within c h few = record {
-  cells = few;
-  nodes = λ me. subst (StaysWithin c) (sym (o.node_is me)) (by (is_among (length c.nodes) me) me);
-  owed = λ me. subst (MetWithin c) (sym (o.unowed me)) tt;
-  messages = λ n message is. let none = ap (λ t. message_of t n) o.tape_is ∙ starts_sent (length c.nodes) n in let no = sym none ∙ is in cc;
-}
-  where
-    o : Opened c h (length c.nodes) (opening c h)
-    o = opening_opened c h
-
-    by : (t : Bool) (me : ℕ) → StaysWithin c (cond t (start (setting c h me) 1 [] []) empty_node)
-    by true me = first_started (setting c h me) 1
-    by false me = record { met = tt; open_operations = tt }
 
 -- a list has nothing behind its end
 slice_get_none : {X : Type 0} (xs : List X) (i : ℕ) → slice_get xs i ≡ None → length xs ≤ i

@@ -1,7 +1,6 @@
 -- A world one of whose nodes started again stands as the run does afterwards.
 use Rattle.std.proofs.Common.{◌≡◌, ℕ, ◌+◌, ◌==◌, ◌++◌, ◌∷◌, [], Bool, true, false, cond, List, flat_map, nat_lt, refl, sym, ap, ◌∙◌, subst, append_assoc}
 use Rattle.std.specs.List.{All}
-use Rattle.mega_base.specs.Names.{IsU32}
 use Rattle.mega_base.specs.declared.names.GroupId.{GroupId}
 use Rattle.mega_base.specs.declared.names.Epoch.{Epoch}
 use Rattle.mega_base.specs.declared.names.NodeId.{NodeId}
@@ -12,11 +11,7 @@ use Rattle.mega_places.specs.of_promises.of_transcript.declared.item.Item.{Item}
 use Rattle.mega_places.specs.of_promises.of_transcript.declared.item.Item.TheVariants.{Start}
 use Rattle.mega_places.specs.of_promises.of_transcript.Lines.{HasLine}
 use Rattle.mega_places.specs.of_promises.of_transcript.Tape.{newest}
-use Rattle.mega_member_laws.specs.of_format_laws.Histories.{IsMet}
-use Rattle.mega_member_laws.specs.of_format_laws.Nodes.{IsNode}
-use Rattle.mega_member_laws.proofs.of_format_laws.Steps.{started as started_formed}
-use Rattle.mega_member_laws.specs.Nodes.{MetWithin, StaysWithin}
-use Rattle.mega_member_laws.proofs.Steps.{started as started_within}
+use Rattle.mega_format_laws.specs.Histories.{IsMet}
 use Rattle.mega_places.specs.of_voter.of_rules.Logs.{groups_of, prefix_of}
 use Rattle.mega_places.specs.of_voter.of_rules.Members.{has_rows}
 use Rattle.mega_places.specs.of_voter.of_rules.Met.{Applies, Met, Starts}
@@ -30,6 +25,7 @@ use Rattle.mega_world.specs.declared.world.World.{World}
 use Rattle.mega_places.specs.Carries.{Carries}
 use Rattle.mega_places.specs.Kept.{AreNodes, owed_of}
 use Rattle.mega_safety.specs.Lapses.{KnowsLeases}
+use Rattle.mega_world.specs.Formed.{IsFormed}
 use Rattle.mega_world.specs.Owing.{IsOwing, ShowsStart}
 use Rattle.mega_world.specs.Restarting.{Opens, started}
 use Rattle.mega_world.specs.Shown.{notes_shown}
@@ -71,37 +67,21 @@ start_tape c h now me places items after opening tape opens shows =
     node : ℕ → Node
     node = (started c h now me).node
 
-pub reopened_at : (c : Cluster) (h : Meanings) (now : Standing) (node : NodeId) (old mid new : World) (items after : List Item) (opening : Shown) → StandsWith c old items now → Opens c now node.0 mid.places.items opening → IsU32 opening.start
+pub reopened_at : (c : Cluster) (h : Meanings) (now : Standing) (node : NodeId) (old mid new : World) (items after : List Item) (opening : Shown) → StandsWith c old items now → Opens c now node.0 mid.places.items opening
     → mid.cluster ≡ old.cluster → mid.mail ≡ old.mail → mid.safety ≡ old.safety
     → (IsOwing c mid node.0 (owed_of opening.owed) now.node (started c h now node.0).node (newest items) → ShowsStart c mid new node.0 opening (started c h now node.0).node (newest items) (newest after))
     → StandsWith c new after (after_event c h by_fuse now (StartEvent node))
-reopened_at c h now node old mid new items after opening r opens small cluster mail safety show = subst (StandsWith c new after) (sym (start_whole c h now me opens.long)) (record {
+reopened_at c h now node old mid new items after opening r opens cluster mail safety show = subst (StandsWith c new after) (sym (start_whole c h now me opens.long)) (record {
   cluster = shows.cluster ∙ cluster ∙ r.cluster;
   served = r.served;
   nodes = subst (λ places. AreNodes c places.items (started c h now me)) (sym shows.places) (opens.nodes h);
   mail = subst (λ m. Carries m (started c h now me).tape) (sym (shows.mail ∙ mail)) (same_on old.mail now.tape (started c h now me).tape (notes_same c (started c h now me).node me items_of now.tape) r.mail);
   tape = tape;
   leases = subst (KnowsLeases new.safety (started c h now me).node) tape shows.leases;
-  formed = record {
-    cluster = r.formed.cluster;
-    lease = r.formed.lease;
-    nodes = λ other. node_by other (me == other);
-    owed = λ other. owed_by other (me == other);
-    messages = λ n message sent. r.formed.messages n message (sym ((notes_same c (started c h now me).node me items_of now.tape).message n) ∙ sent);
-  };
-  within = record {
-    cells = r.within.cells;
-    nodes = λ other. stays_by other (me == other);
-    owed = λ other. owing_by other (me == other);
-    messages = λ n message sent. r.within.messages n message (sym ((notes_same c (started c h now me).node me items_of now.tape).message n) ∙ sent);
-  };
 })
   where
     me : ℕ
     me = node.0
-
-    first : Node
-    first = start (setting c h me) (now.starts me + 1) (now.owed me) (now.node me).met
 
     items_of : List Met
     items_of = start_items (setting c h me) (now.starts me + 1) (now.owed me) (now.node me).met
@@ -112,27 +92,11 @@ reopened_at c h now node old mid new items after opening r opens small cluster m
     tape : newest after ≡ (started c h now me).tape
     tape = start_tape c h now me mid.places.items items after opening r.tape opens shows.tape
 
-    node_by : (other : ℕ) (t : Bool) → IsNode (cond t first (now.node other))
-    node_by other true = started_formed (setting c h me) (now.starts me + 1) (now.owed me) (now.node me).met (subst IsU32 opens.number small) (r.formed.owed me) (r.formed.nodes me).met
-    node_by other false = r.formed.nodes other
-
-    owed_by : (other : ℕ) (t : Bool) → IsMet (cond t [] (now.owed other))
-    owed_by other true = tt
-    owed_by other false = r.formed.owed other
-
-    stays_by : (other : ℕ) (t : Bool) → StaysWithin c (cond t first (now.node other))
-    stays_by other true = started_within (setting c h me) (now.starts me + 1) (now.owed me) (now.node me).met (r.within.owed me) (r.within.nodes me).met
-    stays_by other false = r.within.nodes other
-
-    owing_by : (other : ℕ) (t : Bool) → MetWithin c (cond t [] (now.owed other))
-    owing_by other true = tt
-    owing_by other false = r.within.owed other
-
 -- what it shows has lines
-pub reopened_lined : (c : Cluster) (now : Standing) (me : ℕ) (old mid : World) (all items after : List Item) (opening : Shown) → StandsWith c old all now → Opens c now me mid.places.items opening
+pub reopened_lined : (c : Cluster) (now : Standing) (me : ℕ) (mid : World) (items after : List Item) (opening : Shown) → IsFormed now → Opens c now me mid.places.items opening
     → (All HasLine items → All HasLine (flat_map (shown me) (owed_of opening.owed)) → All HasLine (notes_shown me opening.notes) → All HasLine after) → All HasLine items → All HasLine after
-reopened_lined c now me old mid all items after opening r opens lines lined =
-    lines lined (subst (λ owed. All HasLine (flat_map (shown me) owed)) (sym opens.owed) (notes_lines me (now.owed me) (r.formed.owed me)))
+reopened_lined c now me mid items after opening formed opens lines lined =
+    lines lined (subst (λ owed. All HasLine (flat_map (shown me) owed)) (sym opens.owed) (notes_lines me (now.owed me) (formed.owed me)))
     (subst (λ notes. All HasLine (flat_map (shown me) notes)) (sym (opens.notes [])) (notes_lines me (start_notes (setting c [] me) (onto (now.owed me) (Starts (now.starts me + 1) ∷ (now.node me).met))) (start_formed (setting c [] me) (onto (now.owed me) (Starts (now.starts me + 1) ∷ (now.node me).met)))))
   where
     applied_formed : (known : List Met) (groups : List GroupId) → IsMet (flat_map (start_note known) groups)

@@ -6,5 +6,4 @@ pub mod Showing
 pub mod Shown
 pub mod Stands
 pub mod Last
-pub mod Within
 pub use Rattle.mega_places.specs.of_durable.of_core as of_core

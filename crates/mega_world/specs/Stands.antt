@@ -10,10 +10,9 @@ use Rattle.mega_places.specs.of_durable.of_core.Served.{IsServed}
 use Rattle.mega_places.specs.of_promises.Runs.{Standing, refusal}
 use Rattle.mega_world.specs.declared.world.World.{World}
 use Rattle.mega_places.specs.Carries.{Carries}
-use Rattle.mega_world.specs.Formed.{IsFormed, IsSound}
+use Rattle.mega_world.specs.Formed.{IsSound}
 use Rattle.mega_places.specs.Kept.{AreNodes}
 use Rattle.mega_safety.specs.Lapses.{KnowsLeases}
-use Rattle.mega_world.specs.Within.{RunsWithin}
 
 -- the nodes, up or down, with all that they keep, what is carried between them, and what tells whether leases are safe are those of the run,
 -- and these are all items of its tape, of which the world keeps none
@@ -24,8 +23,6 @@ pub record StandsWith (c : Cluster) (world : World) (items : List Item) (now : S
   pub mail : Carries world.mail now.tape
   pub tape : newest items ≡ now.tape
   pub leases : KnowsLeases world.safety now.node now.tape
-  pub formed : IsFormed c now
-  pub within : RunsWithin c now
 
 -- the world stands as the run does, whatever became of its tape
 abbrev pub IsAt : Cluster → World → Standing → Type 0

@@ -1,5 +1,5 @@
 //! A node of the world starts again, or its log's fuse cuts the start off.
-ghost use Rattle.std.specs.Prelude.{◌≡◌, ◌≢◌, ◌≤◌, ◌-◌, ℕ, List, length, set, IfNone, IfOk, IfSome, OnOk, Err, Option, Some, None, true, false, ◌++◌};
+ghost use Rattle.std.specs.Prelude.{◌≡◌, ◌≢◌, ◌≤◌, ◌-◌, ℕ, List, length, set, IfNone, IfOk, OnOk, Err, Option, Some, None, true, false, ◌++◌};
 ghost use Rattle.std.specs.Prelude.{All};
 ghost use Rattle.mega_cluster.specs.declared.cluster.Cluster.{Cluster as ClusterValue};
 ghost use Rattle.mega_places.specs.of_durable.of_core.Served.{IsServed};
@@ -10,12 +10,12 @@ ghost use Rattle.mega_places.specs.of_promises.of_transcript.declared.item.Item.
 ghost use Rattle.mega_places.specs.of_promises.of_transcript.Lines.{HasLine};
 ghost use Rattle.mega_places.specs.of_promises.Runs.{Standing, after_event, by_fuse, refusal};
 ghost use Rattle.mega_places.specs.declared.fault.WorldFault.TheVariants.{Limit, Refused};
-ghost use Rattle.mega_base.specs.Names.{IsU32};
 ghost use Rattle.mega_places.specs.declared.place.Place.{Place as PlaceValue};
 ghost use Rattle.mega_places.specs.Kept.{AreNodes, IsFallen};
 ghost use Rattle.mega_places.specs.Members.{AreMembers, is_up_at};
 ghost use Rattle.mega_world.specs.Restarting.{AreStartable, OpensOr, Reopens};
 ghost use Rattle.mega_places.specs.Starting.{AtEachFallen, IsStartable};
+ghost use Rattle.mega_world.specs.Formed.{IsFormed};
 ghost use Rattle.mega_world.specs.Stands.{StandsWith, IsDue, MayCome};
 ghost use Rattle.mega_world.specs.Last.{IsPastLast};
 
@@ -69,7 +69,6 @@ fn restarted(
     requires known { IsStartable cluster me fallen }
     ensures reopens { IfOk result (λ shown. (now : Standing) (was : List PlaceValue) → AreNodes cluster was now → me ≤ length was → ((place : PlaceValue) → set places.old.items (me - 1) place ≡ set was (me - 1) place) →
         IsFallen cluster me fallen (now.starts me) (now.owed me) (now.node me).met (now.log_fuse me) → OpensOr cluster now me places.new.items shown) }
-    ensures small { IfOk result (λ shown. IfSome shown (λ one. IsU32 one.start)) }
     ensures limit { result ≡ Err Limit → AtEachFallen cluster me fallen (λ starts owed met fuse. starts ≡ 4294967295) }
     ensures served { (why : ℕ) → result ≢ Err (Refused why) }
 {
@@ -107,7 +106,6 @@ fn start_at(
     requires member { is_node cluster me ≡ true }
     requires known { AreStartable cluster places.old.items }
     ensures reopens { IfOk result (λ shown. Reopens cluster me places.old.items places.new.items shown) }
-    ensures small { IfOk result (λ shown. IfSome shown (λ one. IsU32 one.start)) }
     ensures limit { result ≡ Err Limit → (now : Standing) → AreNodes cluster places.old.items now → now.starts me ≡ 4294967295 }
     ensures served { (why : ℕ) → result ≢ Err (Refused why) }
 {
@@ -131,7 +129,7 @@ impl World {
         requires known { (makes : List ℕ → Option Meaning) × MayCome makes self.old tape.old.items (event.Start node) }
         ensures state { OnOk result ((c : ClusterValue) (h : Meanings) (earlier : List OnTape) (now : Standing) → StandsWith c self.old (earlier ++ tape.old.items) now →
             StandsWith c self.new (earlier ++ tape.new.items) (after_event c h by_fuse now (event.Start node))) }
-        ensures lines { OnOk result ((c : ClusterValue) (earlier : List OnTape) (now : Standing) → StandsWith c self.old (earlier ++ tape.old.items) now → All HasLine tape.old.items → All HasLine tape.new.items) }
+        ensures lines { OnOk result ((c : ClusterValue) (earlier : List OnTape) (now : Standing) → StandsWith c self.old (earlier ++ tape.old.items) now → IsFormed now → All HasLine tape.old.items → All HasLine tape.new.items) }
         ensures happens { OnOk result ((c : ClusterValue) (items : List OnTape) (now : Standing) → StandsWith c self.old items now → refusal c now (event.Start node) ≡ None) }
         ensures refused { (why : ℕ) → result ≡ Err (Refused why) → (c : ClusterValue) (items : List OnTape) (now : Standing) → StandsWith c self.old items now → refusal c now (event.Start node) ≡ Some why }
         ensures world { (why : ℕ) → result ≡ Err (Refused why) → self.new ≡ self.old }
@@ -151,7 +149,7 @@ impl World {
         requires known { (makes : List ℕ → Option Meaning) × IsDue makes self.old tape.old.items (event.Start node) }
         ensures state { OnOk result ((c : ClusterValue) (h : Meanings) (earlier : List OnTape) (now : Standing) → StandsWith c self.old (earlier ++ tape.old.items) now →
             StandsWith c self.new (earlier ++ tape.new.items) (after_event c h by_fuse now (event.Start node))) }
-        ensures lines { OnOk result ((c : ClusterValue) (earlier : List OnTape) (now : Standing) → StandsWith c self.old (earlier ++ tape.old.items) now → All HasLine tape.old.items → All HasLine tape.new.items) }
+        ensures lines { OnOk result ((c : ClusterValue) (earlier : List OnTape) (now : Standing) → StandsWith c self.old (earlier ++ tape.old.items) now → IsFormed now → All HasLine tape.old.items → All HasLine tape.new.items) }
         ensures served { (why : ℕ) → result ≢ Err (Refused why) }
         ensures limit { result ≡ Err Limit → (c : ClusterValue) (items : List OnTape) (now : Standing) → StandsWith c self.old items now → now.starts node.0 ≡ 4294967295 }
     {

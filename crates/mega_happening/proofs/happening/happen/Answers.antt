@@ -17,7 +17,7 @@ returns-in-Ok-clause-state g c done events after =
     let number = c.args.number in
     let line = c.args.line.now in
     let allowed = c.in-Ok.ensures.happens cluster (stood cluster events) after.here in
-    let right = sound cluster done events number line c.args.event after.starts after.happen c.requires.spelled allowed c.requires.meant in
+    let right = sound cluster done events number line c.args.event after.starts after.happen after.held c.requires.spelled allowed c.requires.meant in
     proceeds cluster number line events c.args.event c.apply.new.self c.in-Ok.added.items c.requires.spelled allowed (c.in-Ok.ensures.state cluster built_in (stood cluster events) after.here right)
     (c.in-Ok.ensures.tape cluster built_in (stood cluster events) after.here right) (subst (All HoldsItem) c.as_slice.ensures c.hold.ensures)
 
@@ -28,7 +28,7 @@ hold-requires g c =
     let events = c.requires.standing.1 in
     let after = c.requires.standing.2 in
     let allowed = c.in-Ok.ensures.happens cluster (stood cluster events) after.here in
-    let right = sound cluster done events c.args.number c.args.line.now c.args.event after.starts after.happen c.requires.spelled allowed c.requires.meant in
+    let right = sound cluster done events c.args.number c.args.line.now c.args.event after.starts after.happen after.held c.requires.spelled allowed c.requires.meant in
     subst (All HasLine) (sym c.as_slice.ensures) (c.in-Ok.ensures.lines cluster built_in (stood cluster events) after.here right)
 
 pub returns-in-Ok-clause-lines : goal.returns-in-Ok-clause-lines
@@ -38,7 +38,7 @@ returns-in-Ok-clause-lines g c =
     let events = c.requires.standing.1 in
     let after = c.requires.standing.2 in
     let allowed = c.in-Ok.ensures.happens cluster (stood cluster events) after.here in
-    c.in-Ok.ensures.lines cluster built_in (stood cluster events) after.here (sound cluster done events c.args.number c.args.line.now c.args.event after.starts after.happen c.requires.spelled allowed c.requires.meant)
+    c.in-Ok.ensures.lines cluster built_in (stood cluster events) after.here (sound cluster done events c.args.number c.args.line.now c.args.event after.starts after.happen after.held c.requires.spelled allowed c.requires.meant)
 
 pub returns-in-Err-Refused-clause-refused : goal.returns-in-Err-Refused-clause-refused
 returns-in-Err-Refused-clause-refused g c at why is done events after =
@@ -68,7 +68,7 @@ apply-requires g c =
         earlier = newest (stood cluster events).tape;
         now = stood cluster events;
         at = subst (λ (items : List Item). StandsWith cluster c.args.world.now items (stood cluster events)) (sym (append-nil (newest (stood cluster events).tape))) after.here;
-        sound = λ allowed. sound cluster done events c.args.number c.args.line.now c.args.event after.starts after.happen c.requires.spelled allowed c.requires.meant;
+        sound = λ allowed. sound cluster done events c.args.number c.args.line.now c.args.event after.starts after.happen after.held c.requires.spelled allowed c.requires.meant;
       };
     }
 

@@ -6,7 +6,8 @@ use Rattle.mega_places.specs.of_promises.Items.{shown}
 use Rattle.mega_places.specs.of_promises.Runs.{setting}
 use Rattle.mega_world.proofs.Asked.{asked_built}
 use Rattle.mega_world.proofs.Behind.{behind}
-use Rattle.mega_world.proofs.Due.{begin_fit, begin_ready, may_happen}
+use Rattle.mega_world.proofs.Due.{begin_ready, may_happen}
+use Rattle.mega_world.proofs.Forming.{made_formed}
 use Rattle.mega_world.proofs.Happening.{begun_own, came_at, came_lined, is_there}
 use Rattle.mega_world.proofs.world.World.begins.Goals as goal
 
@@ -15,12 +16,12 @@ begin_at-requires-clause-known g c =
     let k = c.requires.known in
     let node = c.args.node in
     let there = is_there k.cluster c.args.self.now (k.earlier ++ c.args.tape.now.items) k.now node.0 k.at c.requires.least c.requires.most in
-    let fit = begin_fit k.cluster k.handlers c.args.self.now (k.earlier ++ c.args.tape.now.items) k.now node c.args.request c.args.text k.at k.sound there in record {
+    let formed = made_formed k.cluster k.handlers k.now node.0 (Begin c.args.request c.args.text) k.at.served k.sound.formed k.sound.handlers there k.sound.asked in record {
       cluster = k.cluster;
       handlers = k.handlers;
       now = k.now;
       nodes = k.at.nodes;
-      may = may_happen k.cluster k.handlers k.now node.0 (Begin c.args.request c.args.text) fit k.sound.own k.sound.means;
+      may = may_happen k.cluster k.handlers k.now node.0 (Begin c.args.request c.args.text) formed k.sound.own k.sound.means;
       near = asked_built c.args.request k.sound.asked;
     }
 
@@ -31,11 +32,11 @@ returns-clause-state g c cluster h earlier now r sound =
     let node = c.args.node in
     let text = c.args.text in
     let there = is_there cluster old items now node.0 r c.requires.least c.requires.most in
-    let fit = begin_fit cluster h old items now node c.args.request text r sound there in
-    let comes = c.in-Ok.ensures.made cluster h now r.nodes (may_happen cluster h now node.0 (Begin c.args.request text) fit sound.own sound.means) in
+    let formed = made_formed cluster h now node.0 (Begin c.args.request text) r.served sound.formed sound.handlers there sound.asked in
+    let comes = c.in-Ok.ensures.made cluster h now r.nodes (may_happen cluster h now node.0 (Begin c.args.request text) formed sound.own sound.means) in
     let mid = record old { places = c.begin_at.new.places } in
     came_at cluster h now node.0 (shown node.0 (Begins (op_of (setting cluster h node.0) (now.node node.0).met) text)) (Begin c.args.request text) old mid c.show_step.new.self items (earlier ++ c.push.new.self) (earlier ++ c.show_step.new.tape.items) c.in-Ok.begun.1 r
-    (begun_own cluster (setting cluster h node.0) (now.node node.0) node.0 text) fit comes
+    (begun_own cluster (setting cluster h node.0) (now.node node.0) node.0 text) comes
     (begin_ready cluster h now node text c.in-Ok.begun.0 old mid items (earlier ++ c.push.new.self) r.mail (c.in-Ok.ensures.id cluster h now r.nodes)
     (behind earlier c.args.tape.now.items (BeginItem c.in-Ok.begun.0 text ∷ []) c.push.new.self c.in_ok-push.ensures.ok) refl refl refl) (c.in_ok-show_step.ensures.shown cluster earlier)
 
@@ -46,9 +47,9 @@ returns-clause-lines g c cluster h earlier now r sound =
     let node = c.args.node in
     let text = c.args.text in
     let there = is_there cluster old (earlier ++ items) now node.0 r c.requires.least c.requires.most in
-    let fit = begin_fit cluster h old (earlier ++ items) now node c.args.request text r sound there in
-    let comes = c.in-Ok.ensures.made cluster h now r.nodes (may_happen cluster h now node.0 (Begin c.args.request text) fit sound.own sound.means) in
+    let formed = made_formed cluster h now node.0 (Begin c.args.request text) r.served sound.formed sound.handlers there sound.asked in
+    let comes = c.in-Ok.ensures.made cluster h now r.nodes (may_happen cluster h now node.0 (Begin c.args.request text) formed sound.own sound.means) in
     let mid = record old { places = c.begin_at.new.places } in
     came_lined cluster h now node.0 (shown node.0 (Begins (op_of (setting cluster h node.0) (now.node node.0).met) text)) (Begin c.args.request text) old mid items c.push.new.self c.show_step.new.tape.items c.in-Ok.begun.1
-    (begun_own cluster (setting cluster h node.0) (now.node node.0) node.0 text) fit comes
+    (begun_own cluster (setting cluster h node.0) (now.node node.0) node.0 text) formed comes
     (begin_ready cluster h now node text c.in-Ok.begun.0 old mid items c.push.new.self r.mail (c.in-Ok.ensures.id cluster h now r.nodes) c.in_ok-push.ensures.ok refl refl refl) c.in_ok-show_step.ensures.lines

@@ -35,5 +35,8 @@ returns-in-Drain-clause-state g c = rw c.in-Drain.is c.drain.ensures.state
 pub returns-in-Tick-clause-state : goal.returns-in-Tick-clause-state
 returns-in-Tick-clause-state g c = rw c.in-Tick.is c.tick.ensures.state
 
+pub returns-in-Start-clause-lines : goal.returns-in-Start-clause-lines
+returns-in-Start-clause-lines g c = rw c.in-Start.is (on_ok_weaker c.start.result (λ lines cluster h earlier now r sound lined. lines cluster earlier now r sound.formed lined) c.start.ensures.lines)
+
 pub returns-in-Start-clause-state : goal.returns-in-Start-clause-state
 returns-in-Start-clause-state g c = rw c.in-Start.is (on_ok_weaker c.start.result (λ state cluster h earlier now r sound. state cluster h earlier now r) c.start.ensures.state)

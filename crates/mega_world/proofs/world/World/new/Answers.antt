@@ -1,6 +1,6 @@
 use Rattle.mega_places.specs.of_promises.Runs.{opening}
 use Rattle.mega_world.proofs.Behind.{at_is}
-use Rattle.mega_world.proofs.Opened.{cells_few, opening_formed, opening_leases, opening_mail, opening_nodes, opening_tape, opening_within}
+use Rattle.mega_world.proofs.Opened.{opening_leases, opening_mail, opening_nodes, opening_tape}
 use Rattle.mega_world.proofs.world.World.new.Goals as goal
 
 pub returns-clause-state : goal.returns-clause-state
@@ -13,8 +13,6 @@ returns-clause-state c h =
       mail = opening_mail cluster h c.new.result c.new.ensures;
       tape = opening_tape cluster h c.start_all.new.tape.items c.in-Ok.ensures.tape;
       leases = opening_leases cluster h c.new-2.result c.new-2.ensures.lapses c.new-2.ensures.told;
-      formed = opening_formed cluster h (record { nodes = c.requires.served.few; cells = cells_few cluster.cells c.requires.served.cells; limit = c.requires.served.limit }) c.requires.served.lease;
-      within = opening_within cluster h c.requires.served.housed;
     })
 
 pub returns-clause-tape : goal.returns-clause-tape

@@ -31,17 +31,17 @@ returns-in_ok-show_start-in-Ok-Some-clause-state c cluster h earlier now r =
     let same : c.in_ok-cluster.cluster ≡ cluster = c.in_ok-cluster.ensures ∙ r.cluster in
     let nodes = subst (λ (k : Cluster). AreNodes k old.places.items now) (sym same) r.nodes in
     let opens = subst (λ (k : Cluster). Opens k now c.args.node.0 mid.places.items c.in-Ok-Some.shown) same (rw c.in-Ok-Some.field-0-is at (c.in-Ok-Some.ensures.reopens now nodes)) in
-    reopened_at cluster h now c.args.node old mid c.show_start.new.self (earlier ++ c.args.tape.now.items) (earlier ++ c.show_start.new.tape.items) c.in-Ok-Some.shown r opens (rw c.in-Ok-Some.field-0-is at c.in-Ok-Some.ensures.small) refl refl refl
+    reopened_at cluster h now c.args.node old mid c.show_start.new.self (earlier ++ c.args.tape.now.items) (earlier ++ c.show_start.new.tape.items) c.in-Ok-Some.shown r opens refl refl refl
     (c.in_ok-show_start-in-Ok-Some.ensures.shown cluster now.node (started cluster h now c.args.node.0).node earlier)
 
 pub returns-in_ok-show_start-in-Ok-Some-clause-lines : goal.returns-in_ok-show_start-in-Ok-Some-clause-lines
-returns-in_ok-show_start-in-Ok-Some-clause-lines c cluster earlier now r =
+returns-in_ok-show_start-in-Ok-Some-clause-lines c cluster earlier now r formed =
     let old = c.args.self.now in
     let mid : World = record old { places = c.start_at.new.places } in
     let same : c.in_ok-cluster.cluster ≡ cluster = c.in_ok-cluster.ensures ∙ r.cluster in
     let nodes = subst (λ (k : Cluster). AreNodes k old.places.items now) (sym same) r.nodes in
     let opens = subst (λ (k : Cluster). Opens k now c.args.node.0 mid.places.items c.in-Ok-Some.shown) same (rw c.in-Ok-Some.field-0-is at (c.in-Ok-Some.ensures.reopens now nodes)) in
-    reopened_lined cluster now c.args.node.0 old mid (earlier ++ c.args.tape.now.items) c.args.tape.now.items c.show_start.new.tape.items c.in-Ok-Some.shown r opens c.in_ok-show_start-in-Ok-Some.ensures.lines
+    reopened_lined cluster now c.args.node.0 mid c.args.tape.now.items c.show_start.new.tape.items c.in-Ok-Some.shown formed opens c.in_ok-show_start-in-Ok-Some.ensures.lines
 
 pub returns-in_ok-push-in-Ok-None-clause-state : goal.returns-in_ok-push-in-Ok-None-clause-state
 returns-in_ok-push-in-Ok-None-clause-state c cluster h earlier now r =
