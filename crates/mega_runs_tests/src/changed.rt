@@ -2,7 +2,7 @@
 use crate::asserted::same;
 use crate::device::{bytes_of, device, group, key};
 use crate::plain::{Held, Spelled, held_in};
-use mega_base::{Bytes, Cell, Items, Position, Row, Text, Value, put_option};
+use mega_base::{Cell, Cursor, Items, Position, Row, Text, Value, take_option};
 use mega_disk::{MemDisk, StoreError};
 use mega_runs::{Mark, Run, RunFile, Version, can_write};
 use std::alloc::Global;
@@ -77,13 +77,17 @@ fn three_runs(rt: &impl Abort, alloc: Global) -> Vec<u8> {
     }
 }
 
+/// The row, or none, that these bytes spell.
+fn read_row(rt: &impl Abort, alloc: Global, bytes: &[u8]) -> Option<Row> {
+    let mut cursor = Cursor::new(bytes);
+    take_option(alloc, &mut cursor).expect(rt, "refused")
+}
+
 /// Whether the version is one of those that are spelled.
 fn is_among(rt: &impl Abort, alloc: Global, version: &Version, all: &[Spelled]) -> bool {
-    let mut row = Bytes::new(alloc);
-    put_option(&version.row, &mut row).expect(rt, "refused");
     for spelled in all {
         if spelled.key == version.key && spelled.at == version.at.0 {
-            return spelled.row == row;
+            return read_row(rt, alloc, spelled.row.as_slice()) == version.row;
         }
     }
     false
