@@ -13,7 +13,6 @@ pub mod Holding
 pub mod Lining
 pub mod Noted
 pub mod Opened
-pub mod Owed
 pub mod Placing
 pub mod Reopened
 pub mod Showed
