@@ -16,4 +16,3 @@ pub mod Opened
 pub mod Placing
 pub mod Reopened
 pub mod Showed
-pub mod Within
