@@ -6,6 +6,7 @@ use Rattle.toml.specs.Data.{Data, string, integer, array, Items, no_items, item,
 use Rattle.toml.specs.Parse.{parse_document}
 use Rattle.mega_base.specs.declared.values.NodeKind.{NodeKind}
 use Rattle.mega_base.specs.declared.values.NodeKind.TheVariants.{Full, Witness, Read}
+pub use Rattle.mega_base.specs.Reading.{◌>>=◌}
 use Rattle.mega_schema.specs.declared.schema.Schema.{Schema}
 use Rattle.mega_schema.specs.declared.fault.SchemaFault.{SchemaFault}
 use Rattle.mega_schema.specs.Names.{same}
@@ -119,11 +120,6 @@ Refuses (Rule r) answer = answer ≡ Err r
 abbrev pub GivesBy : {X A : Type 0} → (X → A) → Result X HeaderFault → Result A ℕ → Type 0
 GivesBy view (Ok x) answer = answer ≡ Ok (view x)
 GivesBy view (Err fault) answer = Refuses fault answer
-
-infixl 10 ◌>>=◌
-abbrev pub ◌>>=◌ : {A B : Type 0} → Result A ℕ → (A → Result B ℕ) → Result B ℕ
-(Ok x) >>= f = f x
-(Err e) >>= f = Err e
 
 -- what has to be there, or the rule is broken
 abbrev pub needed : {A : Type 0} → ℕ → Option A → Result A ℕ

@@ -1,5 +1,5 @@
 -- What the handlers that the store brings make of a message.
-use Rattle.std.specs.Prelude.{ℕ, ◌==◌, nat_lt, if◌then◌else◌, ℤ, ◌+ℤ◌, pos, negsuc, ◌^◌, Bool, List, [], ◌∷◌, take, drop, length, slice_index, Option, Some, None, Result, Ok, Err}
+use Rattle.std.specs.Prelude.{ℕ, ◌==◌, nat_lt, if◌then◌else◌, ℤ, ◌+ℤ◌, ◌^◌, List, [], ◌∷◌, take, drop, length, slice_index, Option, Some, None, Result, Ok, Err}
 use Rattle.std.specs.Int.{w64, from_be_bytes, cast_signed}
 use Rattle.mega_base.specs.Reading.{whole_of}
 use Rattle.mega_base.specs.declared.values.Value.{Value}
@@ -7,6 +7,7 @@ use Rattle.mega_base.specs.declared.values.Value.TheVariants.{Int32, Int64, Bool
 use Rattle.mega_base.specs.declared.values.Row.{Row}
 use Rattle.mega_base.specs.declared.names.OpId.{OpId}
 use Rattle.mega_base.specs.declared.names.GroupId.{GroupId}
+pub use Rattle.mega_base.specs.Values.{is_in_range}
 use Rattle.mega_entry.specs.declared.content.Write.{Write}
 use Rattle.mega_entry.specs.declared.content.Send.{Send}
 use Rattle.mega_entry.specs.declared.content.Name.{Name}
@@ -25,11 +26,6 @@ Effect = List Write × List Send
 abbrev pub int64_of : List Value → Option ℤ
 int64_of (Int64 z ∷ []) = Some z
 int64_of _ = None
-
--- the number is in the range of half numbers to either side
-abbrev pub is_in_range : ℕ → ℤ → Bool
-is_in_range half (pos n) = nat_lt n half
-is_in_range half (negsuc n) = nat_lt n half
 
 -- the sum, where it is an int64
 abbrev pub sum_of : ℤ → Option ℤ → Option ℤ

@@ -1,10 +1,11 @@
 -- Which rows fit the schema: exactly those that a put does not refuse as bad.
-use Rattle.std.specs.Prelude.{ℕ, ◌+◌, ◌-◌, ◌==◌, ◌&&◌, if◌then◌else◌, Bool, true, false, List, [], ◌∷◌, ◌++◌, length, map, filter, fold, take, find, flat_map, nat_lt, nat_le, slice_get, Option, Some, None, is_ok, is_none, Result, Ok, Err}
+use Rattle.std.specs.Prelude.{ℕ, ◌+◌, ◌==◌, ◌&&◌, if◌then◌else◌, Bool, true, false, List, [], ◌∷◌, ◌++◌, length, map, filter, fold, take, find, flat_map, nat_lt, nat_le, Option, Some, None, is_ok, is_none, Result, Ok, Err}
 use Rattle.std.specs.Option.{option_or}
 use Rattle.std.specs.List.{list_all}
 use Rattle.mega_base.specs.declared.values.Value.{Value}
 use Rattle.mega_base.specs.declared.values.Cell.{Cell}
 use Rattle.mega_base.specs.declared.values.Row.{Row}
+pub use Rattle.mega_base.specs.ListWords.{numbered}
 use Rattle.mega_schema.specs.of_syntax.declared.need.Need.{Need}
 use Rattle.mega_schema.specs.of_syntax.declared.need.Need.TheVariants.{Required, Optional, Repeated}
 use Rattle.mega_schema.specs.declared.schema.Property.{Property}
@@ -18,10 +19,6 @@ use Rattle.mega_keys.specs.Fit.{has_kind}
 use Rattle.mega_keys.specs.Answers.{row_key_of, group_key_of}
 use Rattle.mega_row_writes.specs.Rows.{same_key}
 use Rattle.mega_index.specs.Cells.{values_of, key_values}
-
--- the item with this number, from 1
-abbrev pub numbered : {A : Type 0} → List A → ℕ → Option A
-numbered items n = if n == 0 then None else slice_get items (n - 1)
 
 -- a property may have that many values where it has some: one, or any number where it is repeated
 abbrev pub is_count : Need → ℕ → Bool

@@ -9,6 +9,7 @@ use Rattle.mega_base.specs.declared.values.Value.TheVariants.{Int32, Int64, Bool
 use Rattle.mega_base.specs.declared.values.Kind.{Kind}
 use Rattle.mega_base.specs.declared.values.Kind.TheVariants as kinds
 use Rattle.mega_base.specs.declared.values.Shape.{Shape}
+pub use Rattle.mega_base.specs.Reading.{◌>>=◌}
 use Rattle.mega_keys.specs.declared.fault.KeyFault.{KeyFault}
 use Rattle.mega_keys.specs.declared.fault.KeyFault.TheVariants.{NotKey}
 use Rattle.mega_keys.specs.declared.read.Stop.{Stop}
@@ -18,11 +19,6 @@ use Rattle.mega_keys.specs.Spelling.{escape, scattered}
 -- a value and the bytes after it, or how many bytes are left at the fault
 abbrev pub Read : Type 0 → Type 0
 Read A = Result (A × List ℕ) ℕ
-
-infixl 10 ◌>>=◌
-abbrev pub ◌>>=◌ : {A B : Type 0} → Result A ℕ → (A → Result B ℕ) → Result B ℕ
-(Ok x) >>= f = f x
-(Err e) >>= f = Err e
 
 -- a reader that stopped so stopped where reading does
 abbrev pub Fails : {A : Type 0} → Stop → Result A ℕ → Type 0

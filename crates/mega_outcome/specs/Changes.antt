@@ -1,10 +1,11 @@
 -- What the writes of a transaction come to.
-use Rattle.std.specs.Prelude.{ℕ, ◌+◌, ◌^◌, ◌&&◌, not, ℤ, pos, negsuc, ◌+ℤ◌, nat_lt, if◌then◌else◌, Bool, true, false, List, [], ◌∷◌, ◌++◌, is_some, Option, Some, None, Result, Ok, Err}
+use Rattle.std.specs.Prelude.{ℕ, ◌+◌, ◌^◌, ◌&&◌, not, ℤ, ◌+ℤ◌, if◌then◌else◌, Bool, true, false, List, [], ◌∷◌, ◌++◌, is_some, Option, Some, None, Result, Ok, Err}
 use Rattle.mega_base.specs.declared.values.Value.{Value}
 use Rattle.mega_base.specs.declared.values.Value.TheVariants.{Int32, Int64}
 use Rattle.mega_base.specs.declared.values.Kind.{Kind}
 use Rattle.mega_base.specs.declared.values.Kind.TheVariants as kinds
 use Rattle.mega_base.specs.declared.values.Row.{Row}
+pub use Rattle.mega_base.specs.Values.{is_in_range}
 use Rattle.mega_index.specs.of_entry.declared.content.Write.{Write}
 use Rattle.mega_index.specs.of_syntax.declared.need.Need.{Need}
 use Rattle.mega_index.specs.of_syntax.declared.need.Need.TheVariants.{Required, Optional}
@@ -50,11 +51,6 @@ abbrev pub number_of : Kind → List Value → Option ℤ
 number_of kinds.Int32 (Int32 z ∷ []) = Some z
 number_of kinds.Int64 (Int64 z ∷ []) = Some z
 number_of _ _ = None
-
--- the number is in the range of half numbers to either side
-abbrev pub is_in_range : ℕ → ℤ → Bool
-is_in_range half (pos n) = nat_lt n half
-is_in_range half (negsuc n) = nat_lt n half
 
 -- the number as a value of the kind, where it is in the kind's range
 abbrev pub number_value : Kind → ℤ → Option Value

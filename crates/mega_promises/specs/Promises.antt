@@ -1,10 +1,13 @@
 -- What is promised of every run: one decided log a group, transactions as of one thread, and messages at most once.
 use Rattle.std.specs.Prelude.{◌≡◌, ◌≢◌, ℕ, zero, suc, ◌+◌, ◌-◌, ◌<◌, ◌≤◌, ◌==◌, ◌&&◌, ◌⊎◌, Contains, Bool, true, false, not, if◌then◌else◌, List, [], ◌∷◌, ◌++◌, take, length, map, find, flat_map, slice_get, IsSome, Option, Some, None, Result, Ok, Err}
 use Rattle.std.specs.List.{list_any}
+pub use Rattle.std.specs.Option.{option_or as or_else}
 use Rattle.mega_base.specs.declared.names.GroupId.{GroupId}
 use Rattle.mega_base.specs.declared.names.OpId.{OpId}
 use Rattle.mega_base.specs.declared.names.NodeId.{NodeId}
 use Rattle.mega_base.specs.declared.names.Position.{Position}
+pub use Rattle.mega_base.specs.ListWords.{then_more}
+pub use Rattle.mega_base.specs.ListWords.{Stands}
 use Rattle.mega_cluster.specs.declared.cluster.Cluster.{Cluster}
 use Rattle.mega_schema.specs.declared.schema.Schema.{Schema}
 use Rattle.mega_entry.specs.declared.content.Content.{Content}
@@ -37,30 +40,17 @@ use Rattle.mega_rules.specs.Queues.{Log as GroupLog, Posted, entered_in, handled
 use Rattle.mega_rules.specs.Acting.{table_rows}
 use Rattle.mega_rules.specs.Steps.{is_current}
 
--- an item stands on the tape
-abbrev pub Stands : Item → List Item → Type 0
-Stands item [] = ⊥
-Stands item (other ∷ before) = (other ≡ item) ⊎ Stands item before
-
 -- it stood before another one that stands
 abbrev pub StoodBefore : Item → Item → List Item → Type 0
 StoodBefore first item [] = ⊥
 StoodBefore first item (other ∷ before) = ((other ≡ item) × Stands first before) ⊎ StoodBefore first item before
 
 -- the log of a group: the entries of the first decides of positions 1, 2 and so on, up to the first position that has none
-abbrev pub or_else : Option Content → Option Content → Option Content
-or_else None other = other
-or_else (Some entry) other = Some entry
-
 abbrev pub first_decided : List Item → GroupId → ℕ → Option Content
 first_decided [] group n = None
 first_decided (Decide node g position entry ∷ before) group n =
     or_else (first_decided before group n) (if same_group g group && position.0 == n then Some entry else None)
 first_decided (_ ∷ before) group n = first_decided before group n
-
-abbrev pub then_more : Option Content → List Content → List Content
-then_more None more = []
-then_more (Some entry) more = entry ∷ more
 
 abbrev pub log_from : List Item → GroupId → ℕ → ℕ → List Content
 log_from tape group zero n = []

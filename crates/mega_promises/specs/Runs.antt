@@ -3,6 +3,7 @@ use Rattle.std.specs.Prelude.{◌≡◌, ℕ, zero, suc, ◌+◌, ◌*◌, ◌/�
 use Rattle.std.specs.List.{list_any}
 use Rattle.mega_base.specs.declared.names.Epoch.{Epoch}
 use Rattle.mega_base.specs.declared.names.GroupId.{GroupId}
+pub use Rattle.mega_base.specs.ListWords.{is_empty}
 use Rattle.mega_cluster.specs.declared.cluster.Cluster.{Cluster}
 use Rattle.mega_disk.specs.declared.pair.Device.{Device}
 use Rattle.mega_disk.specs.declared.pair.Device.TheVariants.{Log, Data}
@@ -336,11 +337,6 @@ after_event c h cuts now (StartEvent node) = fated_start c h now node.0 (fate_by
 after_event c h cuts now (FuseEvent node calls image device) = fused now node.0 calls image device
 after_event c h cuts now (BeginEvent node request text) =
     at_node c h now node.0 (shown node.0 (Begins (op_of (setting c h node.0) (now.node node.0).met) text)) (Begin request text) (cuts now node.0)
-
--- a list of no bytes
-abbrev pub is_empty : List ℕ → Bool
-is_empty [] = true
-is_empty (byte ∷ bytes) = false
 
 abbrev pub names_no_group : Option GroupId → Bool
 names_no_group None = false

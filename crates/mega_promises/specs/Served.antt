@@ -7,13 +7,13 @@ use Rattle.mega_schema.specs.declared.schema.Schema.{Schema}
 use Rattle.mega_handler.specs.Named.{Meanings}
 use Rattle.mega_wire.specs.declared.message.Message.{Message}
 use Rattle.mega_wire.specs.declared.message.Body.{Body}
-use Rattle.mega_wire.specs.declared.message.Body.TheVariants.{Accepted, Promise, Request as Requests}
+use Rattle.mega_wire.specs.declared.message.Body.TheVariants.{Request as Requests}
 use Rattle.mega_wire.specs.Messages.{message_at}
 use Rattle.mega_base.specs.Reading.{whole_of}
 use Rattle.mega_outcome.specs.declared.answer.Answer.{Answer}
 use Rattle.mega_outcome.specs.declared.request.Request.{Request}
 use Rattle.mega_wal.specs.declared.item.JournalItem.{JournalItem}
-use Rattle.mega_wal.specs.declared.item.JournalItem.TheVariants.{Start as Started, Promise as Promises, Accept as Accepts, Decide as Decided, Grant as Granted, Lapse as Lapsed}
+use Rattle.mega_wal.specs.declared.item.JournalItem.TheVariants.{Start as Started}
 use Rattle.mega_wal.specs.Same.{same_op}
 use Rattle.mega_wal.specs.declared.kept.Kept.{Kept}
 use Rattle.mega_wal.specs.Compaction.{compacted}
@@ -22,10 +22,11 @@ use Rattle.mega_wal.specs.Kept.{Represents}
 use Rattle.mega_transcript.specs.declared.item.Item.{Item}
 use Rattle.mega_transcript.specs.Answers.{answer_words}
 pub use Rattle.mega_transcript.specs.Recorded.{Got, Line, Noted, OfClient, OfNode, Peer, Put, joined, put_in, put_out, reply_line}
-use Rattle.mega_rules.specs.Met.{Met, Answers, Begins, Decides, Grants, Lapses, Ticks}
+use Rattle.mega_rules.specs.Met.{Met, Answers, Begins, Ticks}
 use Rattle.mega_rules.specs.Operations.{Node, Operation}
 use Rattle.mega_rules.specs.Steps.{Event, Begin, Step, Take, Tick, op_of, start, start_items, step}
-use Rattle.mega_promises.specs.Items.{number, shown}
+pub use Rattle.mega_rules.specs.Kept.{kept_of_body, kept_of_note}
+use Rattle.mega_promises.specs.Items.{shown}
 use Rattle.mega_promises.specs.NodeRuns.{met_of}
 use Rattle.mega_promises.specs.Runs.{names_nothing, setting}
 
@@ -54,17 +55,6 @@ pub record Served : Type 0 where
   pub waiting : List Waiting
 
 -- what a step appends to the journal: its grants, its lapses and its decision, and then its promise or vote
-abbrev pub kept_of_body : Body → Option JournalItem
-kept_of_body (Promise op group n ballot vote) = Some (Promises group n ballot)
-kept_of_body (Accepted op group n ballot entry) = Some (Accepts group n ballot entry)
-kept_of_body _ = None
-
-abbrev pub kept_of_note : Met → Option JournalItem
-kept_of_note (Decides group n entry) = Some (Decided group (record { 0 = n }) entry)
-kept_of_note (Grants node epoch) = Some (Granted (number node) epoch)
-kept_of_note (Lapses node epoch) = Some (Lapsed (number node) epoch)
-kept_of_note _ = None
-
 abbrev pub kept_of : Step → List JournalItem
 kept_of made = filter_map kept_of_note made.notes ++ filter_map (λ (m : Message). kept_of_body m.body) made.sends
 

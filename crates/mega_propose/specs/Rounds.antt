@@ -5,6 +5,7 @@ use Rattle.std.specs.List.{list_all, list_any, range_with_len}
 use Rattle.mega_base.specs.declared.names.OpId.{OpId}
 use Rattle.mega_base.specs.declared.names.GroupId.{GroupId}
 use Rattle.mega_base.specs.declared.names.Position.{Position}
+pub use Rattle.mega_base.specs.Names.{greatest_u32 as last_round}
 use Rattle.mega_ballot.specs.declared.ballot.Ballot.{Ballot}
 use Rattle.mega_ballot.specs.Order.{zero_ballot}
 use Rattle.mega_entry.specs.declared.content.Content.{Content}
@@ -13,6 +14,7 @@ use Rattle.mega_wire.specs.declared.message.Body.{Body}
 use Rattle.mega_wire.specs.declared.message.Body.TheVariants.{Accept, Accepted, Refused, Prepare, Promise, Invalidate, Invalidated, Dead, Unheld}
 use Rattle.mega_wal.specs.Same.{same_entry, same_group, same_op}
 use Rattle.mega_wal.specs.Acceptor.{is_ballot_below}
+pub use Rattle.mega_wal.specs.Acceptor.{is_same_ballot as same_ballot}
 use Rattle.mega_propose.specs.Members.{has, is_majority, joined, others, with_node, without}
 use Rattle.mega_propose.specs.declared.round.Site.{Site}
 use Rattle.mega_propose.specs.declared.round.Report.{Report}
@@ -49,9 +51,6 @@ abbrev pub stays : Proposal → Move
 stays p = move p p.round []
 
 -- a new ballot, one round above all that were seen; after the last round there is none
-abbrev pub last_round : ℕ
-last_round = 4294967295
-
 abbrev pub next_ballot : Site → Proposal → Ballot
 next_ballot s p = record { round = p.seen + 1; op = s.op }
 
@@ -127,9 +126,6 @@ proposes s p ballot reports sent now =
     else move p (Preparing ballot reports sent) []
 
 -- what an answer leads to
-
-abbrev pub same_ballot : Ballot → Ballot → Bool
-same_ballot a b = a.round == b.round && same_op a.op b.op
 
 -- the entry is the one that was sent at the present ballot
 abbrev pub is_sent : Ballot → Content → Ballot → Content → Bool

@@ -69,12 +69,13 @@ abbrev pub site : Reader → List ℕ → ℕ → Site
 site who asked position =
     record { op = who.op; group = who.group; position = position; voters = who.voters; full = who.full; cells = who.cells; asked = asked }
 
+-- the round of a no-op goes on
+abbrev pub filled : Reading → ℕ → ℕ → RoundMove → Move
+filled r through position t = move r (Catching through (Some (Filling position t.proposal))) t.sends
+
 -- a no-op is proposed at a position
 abbrev pub fills : Reader → Reading → ℕ → ℕ → ℕ → Move
-fills who r through position now = by (completes (site who r.asked position) (no_op who) now)
-  where
-    by : RoundMove → Move
-    by t = move r (Catching through (Some (Filling position t.proposal))) t.sends
+fills who r through position now = filled r through position (completes (site who r.asked position) (no_op who) now)
 
 -- the voters that can be asked for an entry
 abbrev pub helpers : Reader → List ℕ
@@ -94,10 +95,6 @@ denied who r from through position denials sent now =
     if list_all (λ voter. has voter (with_node from denials)) (helpers who)
     then fills who r through position now
     else move r (Catching through (Some (Fetching position (with_node from denials) sent))) []
-
--- the round of a no-op goes on
-abbrev pub filled : Reading → ℕ → ℕ → RoundMove → Move
-filled r through position t = move r (Catching through (Some (Filling position t.proposal))) t.sends
 
 -- what a read does that takes a message from a node
 abbrev pub hears : Reader → Reading → ℕ → ℕ → Body → Move

@@ -4,6 +4,7 @@ use Rattle.mega_base.specs.declared.names.GroupId.{GroupId}
 use Rattle.mega_base.specs.declared.names.OpId.{OpId}
 use Rattle.mega_base.specs.declared.values.NodeKind.{NodeKind}
 use Rattle.mega_base.specs.declared.values.NodeKind.TheVariants.{Full, Witness, Read as ReadOnly}
+pub use Rattle.mega_base.specs.ListWords.{onto}
 use Rattle.mega_cluster.specs.declared.cluster.Cluster.{Cluster}
 use Rattle.mega_entry.specs.declared.content.Content.{Content}
 use Rattle.mega_read.specs.of_wire.declared.message.Message.{Message}
@@ -49,11 +50,6 @@ pub record Step : Type 0 where
   pub notes : List Met
   pub sends : List Message
   pub node : Node
-
--- the items onto what a node met, the oldest first
-abbrev pub onto : List Met → List Met → List Met
-onto [] met = met
-onto (one ∷ more) met = onto more (one ∷ met)
 
 -- what a message tells the cell and the coordinator of its receiver
 

@@ -3,6 +3,7 @@ use Rattle.std.specs.Prelude.{ℕ, ◌+◌, Bool, true, false, not, ◌&&◌, �
 use Rattle.std.specs.List.{list_any}
 use Rattle.mega_base.specs.declared.values.Kind.{Kind}
 use Rattle.mega_base.specs.declared.values.Kind.TheVariants.{Int32, Int64, Bool as Truth, Str, Raw}
+pub use Rattle.mega_base.specs.ListWords.{is_empty as are_empty}
 use Rattle.mega_schema.specs.declared.schema.Property.{Property}
 use Rattle.mega_schema.specs.declared.schema.Table.{Table}
 use Rattle.mega_schema.specs.declared.schema.Schema.{Schema}
@@ -32,10 +33,6 @@ is_table s n = list_any (λ t. same t.name n) s.tables
 abbrev pub is_some_and : {A : Type 0} → (A → Bool) → Option A → Bool
 is_some_and test None = false
 is_some_and test (Some x) = test x
-
-abbrev pub are_empty : {A : Type 0} → List A → Bool
-are_empty [] = true
-are_empty (x ∷ xs) = false
 
 -- the property of this name is there, and is optional or repeated
 abbrev pub is_loose : List PropertyWords → List ℕ → Bool

@@ -14,6 +14,7 @@ use Rattle.mega_syntax.specs.declared.words.Statement.TheVariants.{Table, Index,
 use Rattle.mega_syntax.specs.declared.words.Placed.{Placed}
 use Rattle.mega_syntax.specs.declared.words.SchemaWords.{SchemaWords}
 use Rattle.mega_syntax.specs.Names.{is_name, same}
+pub use Rattle.mega_base.specs.Reading.{◌>>=◌}
 
 abbrev pub Texts : Type 0
 Texts = List (List ℕ)
@@ -21,11 +22,6 @@ Texts = List (List ℕ)
 -- what was read and the tokens behind it, or how many tokens are left at the fault
 abbrev pub Read : Type 0 → Type 0
 Read A = Result (A × Texts) ℕ
-
-infixl 10 ◌>>=◌
-abbrev pub ◌>>=◌ : {A B : Type 0} → Result A ℕ → (A → Result B ℕ) → Result B ℕ
-(Ok x) >>= f = f x
-(Err e) >>= f = Err e
 
 -- this word or mark
 unfoldable pub word_at : List ℕ → Texts → Read (Unit {0})

@@ -2,11 +2,7 @@
 use Rattle.std.specs.Prelude.{◌≡◌, ℕ, ◌+◌, ◌==◌, ◌||◌, ◌&&◌, nat_le, not, Bool, false, List, [], ◌∷◌, ◌⊎◌}
 use Rattle.mega_transcript.specs.declared.item.Item.{Item}
 use Rattle.mega_transcript.specs.declared.item.Item.TheVariants.{Start, Unsent, Taken, Dropped, Sent, Crash, Cut, Unsafe}
-
--- these items, oldest first, come onto the tape
-abbrev pub onto : List Item → List Item → List Item
-onto [] tape = tape
-onto (item ∷ items) tape = onto items (item ∷ tape)
+pub use Rattle.mega_base.specs.ListWords.{onto}
 
 -- the items of a stored tape, which has its oldest item first
 abbrev pub newest : List Item → List Item
