@@ -19,10 +19,10 @@ abbrev pub then_more : {A : Type 0} → Option A → List A → List A
 then_more None more = []
 then_more (Some item) more = item ∷ more
 
--- the items that were read, or none
-abbrev pub read_items : {A E : Type 0} → Result (List A) E → List A
-read_items (Ok items) = items
-read_items (Err fault) = []
+-- the items that were given, or none
+abbrev pub items_or_none : {A E : Type 0} → Result (List A) E → List A
+items_or_none (Ok items) = items
+items_or_none (Err fault) = []
 
 -- an item stands in a list
 abbrev pub Stands : {A : Type 0} → A → List A → Type 0
