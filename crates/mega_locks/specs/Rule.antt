@@ -30,8 +30,7 @@ answer (Ended g) e = if is_above e g then Granted else Over g
 abbrev pub after_answer : Asked → Lock → Epoch → Option Term → Lock
 after_answer Granted lock e renewed = Held e renewed
 after_answer Renewed lock e renewed = Held e renewed
-after_answer (Taken g) lock e renewed = lock
-after_answer (Over g) lock e renewed = lock
+after_answer _ lock e renewed = lock
 
 abbrev pub asked : Lock → Epoch → Option Term → Lock
 asked lock e renewed = after_answer (answer lock e) lock e renewed
