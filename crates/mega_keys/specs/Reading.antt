@@ -70,11 +70,10 @@ with_front front (Err n) = Err n
 
 -- bytes up to their end, each escape undone
 unfoldable pub unescaped : List ℕ → Read (List ℕ)
-unescaped [] = Err 0
-unescaped (zero ∷ []) = Err 0
 unescaped (zero ∷ c ∷ rest) =
     if c == 255 then with_front (0 ∷ []) (unescaped rest) else (if c == 1 then Ok ([], rest) else Err (suc (length rest)))
 unescaped (suc b ∷ rest) = with_front (suc b ∷ []) (unescaped rest)
+unescaped _ = Err 0
 
 -- one byte of them, or their end
 unfoldable pub unit_at : List ℕ → Read (Option ℕ)
@@ -119,9 +118,8 @@ byte_at b (c ∷ rest) = if c == b then Ok rest else Err (suc (length rest))
 
 -- the two bytes that scatter, which are told to be right once the root key values are read
 unfoldable pub marks_at : List ℕ → Read (List ℕ)
-marks_at [] = Err 0
-marks_at (a ∷ []) = Err 0
 marks_at (a ∷ b ∷ rest) = Ok (a ∷ b ∷ [], rest)
+marks_at _ = Err 0
 
 -- n bytes are left from the two on
 unfoldable pub agree : List ℕ → List ℕ → ℕ → Result (Unit {0}) ℕ

@@ -33,11 +33,9 @@ spell (Raw bytes) = escaped bytes
 
 -- the bytes of a value that scatter its group: text and bytes stand as they are
 abbrev pub plain : Value → List ℕ
-plain (Int32 z) = spell (Int32 z)
-plain (Int64 z) = spell (Int64 z)
-plain (Truth b) = spell (Truth b)
 plain (Str text) = text
 plain (Raw bytes) = bytes
+plain value = spell value
 
 abbrev pub spell_all : List Value → List ℕ
 spell_all values = flat_map spell values
