@@ -60,13 +60,8 @@ comma_at [] ts = Ok (tt, ts)
 comma_at (n ∷ ns) ts = word_at (codes ",") ts
 
 unfoldable pub name_step : List (List ℕ) → Texts → Read (Option (List ℕ))
-name_step done ts = if is_next (codes ")") ts then Ok (None, drop 1 ts) else named
-  where
-    named : Read (Option (List ℕ))
-    named = do
-      comma ← comma_at done ts
-      name ← name_at comma.1
-      Ok (Some name.0, name.1)
+name_step done ts =
+    if is_next (codes ")") ts then Ok (None, drop 1 ts) else (comma_at done ts >>= λ comma. name_at comma.1 >>= λ name. Ok (Some name.0, name.1))
 
 unfoldable pub names_at : Texts → Read (List (List ℕ))
 names_at ts = do
@@ -145,12 +140,8 @@ clause_at done ts =
     else Err (length ts)))
 
 unfoldable pub clause_step : List Clause → Texts → Read (Option Clause)
-clause_step done ts = if is_next (codes ";") ts then Ok (None, drop 1 ts) else behind
-  where
-    behind : Read (Option Clause)
-    behind = do
-      comma ← word_at (codes ",") ts
-      some_of (clause_at done comma.1)
+clause_step done ts =
+    if is_next (codes ";") ts then Ok (None, drop 1 ts) else (word_at (codes ",") ts >>= λ comma. some_of (clause_at done comma.1))
 
 unfoldable pub table_at : Texts → Read TableWords
 table_at ts = do
