@@ -10,7 +10,7 @@ use Rattle.mega_schema.specs.declared.schema.Property.{Property}
 use Rattle.mega_schema.specs.declared.schema.Table.{Table}
 use Rattle.mega_syntax.specs.declared.words.PropertyWords.{PropertyWords}
 use Rattle.mega_syntax.specs.declared.words.Clause.{Clause}
-use Rattle.mega_syntax.specs.declared.words.Clause.TheVariants.{Root, Scatter, Inside, Group}
+use Rattle.mega_syntax.specs.declared.words.Clause.TheVariants.{Inside, Group}
 use Rattle.mega_syntax.specs.Names.{same}
 
 -- the kind that a type's word names
@@ -81,14 +81,10 @@ is_root_table t = elim t.group [ [] ↦ true | ◌∷◌ n ns ↦ false ]
 abbrev pub group_of : List Clause → Option (List (List ℕ) × List ℕ)
 group_of [] = None
 group_of (Group ns n ∷ cs) = Some (ns, n)
-group_of (Root ∷ cs) = group_of cs
-group_of (Scatter ∷ cs) = group_of cs
-group_of (Inside n ∷ cs) = group_of cs
+group_of (_ ∷ cs) = group_of cs
 
 -- the table that the rows stand in
 abbrev pub inside_of : List Clause → Option (List ℕ)
 inside_of [] = None
 inside_of (Inside n ∷ cs) = Some n
-inside_of (Group ns n ∷ cs) = inside_of cs
-inside_of (Root ∷ cs) = inside_of cs
-inside_of (Scatter ∷ cs) = inside_of cs
+inside_of (_ ∷ cs) = inside_of cs
