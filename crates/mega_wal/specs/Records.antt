@@ -1,7 +1,7 @@
 -- The history that a list of records tells.
 use Rattle.std.specs.Prelude.{ℕ, ◌+◌, Bool, if◌then◌else◌, List, [], ◌∷◌, ◌++◌, reverse, Option, Some, None, is_ok}
 use Rattle.mega_base.specs.Reading.{whole_of}
-pub use Rattle.mega_base.specs.ListWords.{read_items}
+pub use Rattle.mega_base.specs.ListWords.{items_or_none as read_items}
 use Rattle.mega_wal.specs.declared.item.JournalItem.{JournalItem}
 use Rattle.mega_wal.specs.Items.{record_at, record_text}
 
