@@ -64,9 +64,8 @@ or_overflow i (Some v) = Ok v
 
 -- the sum of the number that the property has and another; is_long tells that an index key of the row is too long
 abbrev pub sum_of : ℕ → Kind → Option ℤ → Bool → ℤ → Result Value Turn
-sum_of i kind None is_long by = Err (BadRow i)
-sum_of i kind (Some z) true by = Err (BadRow i)
 sum_of i kind (Some z) false by = or_overflow i (number_value kind (z +ℤ by))
+sum_of i kind _ _ by = Err (BadRow i)
 
 -- an addition to a property of the row that stands there
 abbrev pub add_to : Schema → ℕ → ℕ → Table → List ℕ → ℕ → Kind → Option Row → ℤ → Result (List Write) Turn
