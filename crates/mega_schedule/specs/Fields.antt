@@ -98,10 +98,8 @@ hex_check d = hex_among (as_str d)
 
 -- the items of a list of two
 abbrev pub pair_of : Items → Option (Data × Data)
-pair_of no_items = None
-pair_of (item first no_items) = None
 pair_of (item first (item second no_items)) = Some (first, second)
-pair_of (item first (item second (item d ds))) = None
+pair_of _ = None
 
 abbrev pub pair_check : Option (Data × Data) → Verdict
 pair_check None = WrongKind

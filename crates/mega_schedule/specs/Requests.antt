@@ -16,7 +16,7 @@ use Rattle.mega_outcome.specs.declared.request.FindRequest.{FindRequest}
 use Rattle.mega_outcome.specs.declared.request.Request.{Request}
 use Rattle.mega_outcome.specs.declared.request.Request.TheVariants.{Batch, PumpEnter, PumpHandle}
 use Rattle.mega_schedule.specs.declared.form.Pump.{Pump}
-use Rattle.mega_schedule.specs.declared.form.Pump.TheVariants.{Enter, Handle}
+use Rattle.mega_schedule.specs.declared.form.Pump.TheVariants.{Handle}
 use Rattle.mega_schedule.specs.Forms.{mode_named, pump_named}
 use Rattle.mega_schedule.specs.Values.{text_in, list_in, values_at, number_of_place, properties_of, group_of}
 use Rattle.mega_schedule.specs.Rows.{each_in, read_of, transaction_of}
@@ -72,8 +72,7 @@ find_request schema d = record {
 
 abbrev pub pump_request : Option Pump → Request
 pump_request (Some Handle) = PumpHandle
-pump_request (Some Enter) = PumpEnter
-pump_request None = PumpEnter
+pump_request _ = PumpEnter
 
 abbrev pub pump_of : Data → Request
 pump_of d = pump_request (option_and_then pump_named (option_and_then as_str (get (codes "what") d)))

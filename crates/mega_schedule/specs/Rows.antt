@@ -47,11 +47,7 @@ property_in schema table o = property_number (properties_of (named_in schema tab
 
 -- one value, or the values of a list
 abbrev pub cell_values : Option Kind → Data → List Value
-cell_values kind d = listed kind d (as_array d)
-  where
-    listed : Option Kind → Data → Option Items → List Value
-    listed kind d None = value_of kind d ∷ []
-    listed kind d (Some ds) = each_in (value_of kind) ds
+cell_values kind d = elim (as_array d) [ None ↦ value_of kind d ∷ [] | Some ds ↦ each_in (value_of kind) ds ]
 
 -- the values that a check compares
 abbrev pub is_values : Schema → Data → List Value

@@ -10,7 +10,7 @@ use Rattle.mega_base.specs.declared.values.Kind.TheVariants as kinds
 use Rattle.mega_base.specs.declared.values.Value.{Value}
 use Rattle.mega_base.specs.declared.values.Value.TheVariants.{Int32, Int64, Bool as Truth, Str, Raw}
 use Rattle.mega_base.specs.Values.{is_in_range}
-pub use Rattle.mega_base.specs.ListWords.{read_items as decoded}
+pub use Rattle.mega_base.specs.ListWords.{items_or_none as decoded}
 use Rattle.mega_schema.specs.declared.schema.Property.{Property}
 use Rattle.mega_schema.specs.declared.schema.Table.{Table}
 use Rattle.mega_schema.specs.declared.schema.Schema.{Schema}
