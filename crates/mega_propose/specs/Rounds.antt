@@ -133,81 +133,44 @@ is_sent ballot entry b e = same_ballot ballot b && same_entry entry e
 
 -- a voter accepted: the leader while it is asked, then the others
 abbrev pub accepted : Site → Proposal → ℕ → ℕ → Ballot → Content → Move
-accepted s p from now b e = by p.round
-  where
-    by : Round → Move
-    by (Asking leader sent) =
-        if from == leader && is_sent zero_ballot p.own b e
-        then move p (accepts s zero_ballot p.own (if has leader s.voters then leader ∷ [] else []) now) (map (accept_to s zero_ballot p.own) (others leader s.voters))
-        else stays p
-    by (Accepting ballot entry voted sent) =
-        if is_sent ballot entry b e && has from s.voters
-        then move p (accepts s ballot entry (with_node from voted) sent) []
-        else stays p
-    by (Covering ballot entry cover sent) =
-        if is_sent ballot entry b e && has from s.voters
-        then move p (covers s ballot entry (with_accepted cover from) sent) []
-        else stays p
-    by (Preparing ballot reports sent) = stays p
-    by (Settled entry told) = stays p
-    by Waiting = stays p
+accepted s p from now b e = elim p.round [
+    Asking leader sent ↦
+      if from == leader && is_sent zero_ballot p.own b e
+      then move p (accepts s zero_ballot p.own (if has leader s.voters then leader ∷ [] else []) now) (map (accept_to s zero_ballot p.own) (others leader s.voters))
+      else stays p
+  | Accepting ballot entry voted sent ↦
+      if is_sent ballot entry b e && has from s.voters then move p (accepts s ballot entry (with_node from voted) sent) [] else stays p
+  | Covering ballot entry cover sent ↦
+      if is_sent ballot entry b e && has from s.voters then move p (covers s ballot entry (with_accepted cover from) sent) [] else stays p
+  | _ ↦ stays p ]
 
 -- the leader refused: the operation prepares. Elsewhere a refusal is only remembered
 abbrev pub refused : Site → Proposal → ℕ → Move
-refused s p now = by p.round
-  where
-    by : Round → Move
-    by (Asking leader sent) = prepares s p now
-    by (Preparing ballot reports sent) = stays p
-    by (Accepting ballot entry voted sent) = stays p
-    by (Covering ballot entry cover sent) = stays p
-    by (Settled entry told) = stays p
-    by Waiting = stays p
+refused s p now = elim p.round [ Asking leader sent ↦ prepares s p now | _ ↦ stays p ]
 
 -- a voter promised: its first promise of the ballot counts
 abbrev pub promised : Site → Proposal → ℕ → ℕ → Ballot → Option (Ballot × Content) → Move
-promised s p from now b vote = by p.round
-  where
-    by : Round → Move
-    by (Preparing ballot reports sent) =
-        if same_ballot ballot b && has from s.voters && not (list_any (λ (report : Report). report.voter == from) reports)
-        then proposes s p ballot (reports ++ record { voter = from; vote = vote } ∷ []) sent now
-        else stays p
-    by (Asking leader sent) = stays p
-    by (Accepting ballot entry voted sent) = stays p
-    by (Covering ballot entry cover sent) = stays p
-    by (Settled entry told) = stays p
-    by Waiting = stays p
+promised s p from now b vote = elim p.round [
+    Preparing ballot reports sent ↦
+      if same_ballot ballot b && has from s.voters && not (list_any (λ (report : Report). report.voter == from) reports)
+      then proposes s p ballot (reports ++ record { voter = from; vote = vote } ∷ []) sent now
+      else stays p
+  | _ ↦ stays p ]
 
 -- a coordinator is invalidated
 abbrev pub invalidated : Site → Proposal → ℕ → Move
-invalidated s p from = by p.round
-  where
-    by : Round → Move
-    by (Covering ballot entry cover sent) =
-        if has from cover.told
-        then move p (covers s ballot entry (with_invalidated cover from) sent) []
-        else stays p
-    by (Asking leader sent) = stays p
-    by (Preparing ballot reports sent) = stays p
-    by (Accepting ballot entry voted sent) = stays p
-    by (Settled entry told) = stays p
-    by Waiting = stays p
+invalidated s p from = elim p.round [
+    Covering ballot entry cover sent ↦ if has from cover.told then move p (covers s ballot entry (with_invalidated cover from) sent) [] else stays p
+  | _ ↦ stays p ]
 
 -- a cell holds nothing for a node
 abbrev pub unheld : Site → Proposal → ℕ → ℕ → Move
-unheld s p cell node = by p.round
-  where
-    by : Round → Move
-    by (Covering ballot entry cover sent) =
-        if nat_le cell s.cells && has node cover.told
-        then move p (covers s ballot entry (with_cell cover (record { cell = cell; node = node })) sent) []
-        else stays p
-    by (Asking leader sent) = stays p
-    by (Preparing ballot reports sent) = stays p
-    by (Accepting ballot entry voted sent) = stays p
-    by (Settled entry told) = stays p
-    by Waiting = stays p
+unheld s p cell node = elim p.round [
+    Covering ballot entry cover sent ↦
+      if nat_le cell s.cells && has node cover.told
+      then move p (covers s ballot entry (with_cell cover (record { cell = cell; node = node })) sent) []
+      else stays p
+  | _ ↦ stays p ]
 
 -- the rounds that a message for this place shows are seen
 abbrev pub vote_round : Option (Ballot × Content) → ℕ
@@ -252,15 +215,12 @@ tells s p ballot entry cover now =
     (presses s (uncovered s cover))
 
 abbrev pub due : Site → Proposal → ℕ → ℕ → Move
-due s p retry now = by p.round
-  where
-    by : Round → Move
-    by (Asking leader sent) = if is_due sent retry now then prepares s p now else stays p
-    by (Preparing ballot reports sent) = if is_due sent retry now then prepares s p now else stays p
-    by (Accepting ballot entry voted sent) = if is_due sent retry now then prepares s p now else stays p
-    by (Covering ballot entry cover sent) = if is_due sent retry now then tells s p ballot entry cover now else stays p
-    by (Settled entry told) = stays p
-    by Waiting = stays p
+due s p retry now = elim p.round [
+    Asking leader sent ↦ if is_due sent retry now then prepares s p now else stays p
+  | Preparing ballot reports sent ↦ if is_due sent retry now then prepares s p now else stays p
+  | Accepting ballot entry voted sent ↦ if is_due sent retry now then prepares s p now else stays p
+  | Covering ballot entry cover sent ↦ if is_due sent retry now then tells s p ballot entry cover now else stays p
+  | _ ↦ stays p ]
 
 -- a round begins: with the leader at ballot zero, or, to complete a position, with prepares
 abbrev pub asks : Site → ℕ → Content → ℕ → Move
@@ -271,24 +231,8 @@ completes s own now = prepares s (record { own = own; seen = 0; round = Waiting 
 
 -- the entry that this round settled
 abbrev pub settled : Proposal → Option Content
-settled p = by p.round
-  where
-    by : Round → Option Content
-    by (Settled entry told) = Some entry
-    by (Asking leader sent) = None
-    by (Preparing ballot reports sent) = None
-    by (Accepting ballot entry voted sent) = None
-    by (Covering ballot entry cover sent) = None
-    by Waiting = None
+settled p = elim p.round [ Settled entry told ↦ Some entry | _ ↦ None ]
 
 -- the nodes about which this round asked the cells
 abbrev pub told_in : Proposal → List ℕ
-told_in p = by p.round
-  where
-    by : Round → List ℕ
-    by (Covering ballot entry cover sent) = cover.told
-    by (Asking leader sent) = []
-    by (Preparing ballot reports sent) = []
-    by (Accepting ballot entry voted sent) = []
-    by (Settled entry told) = told
-    by Waiting = []
+told_in p = elim p.round [ Covering ballot entry cover sent ↦ cover.told | Settled entry told ↦ told | _ ↦ [] ]
