@@ -83,11 +83,9 @@ helpers who = others who.op.node.0 who.voters
 
 -- an entry is fetched from all other voters; where there is none, a no-op is proposed at once
 abbrev pub fetches : Reader → Reading → ℕ → ℕ → ℕ → Move
-fetches who r through position now = by (helpers who)
-  where
-    by : List ℕ → Move
-    by [] = fills who r through position now
-    by (voter ∷ voters) = move r (Catching through (Some (Fetching position [] now))) (map (fetch_to who position) (voter ∷ voters))
+fetches who r through position now = elim (helpers who) [
+    [] ↦ fills who r through position now
+  | voter ∷ voters ↦ move r (Catching through (Some (Fetching position [] now))) (map (fetch_to who position) (voter ∷ voters)) ]
 
 -- a voter has not decided the position: once all others said so, a no-op is proposed
 abbrev pub denied : Reader → Reading → ℕ → ℕ → ℕ → List ℕ → ℕ → ℕ → Move
@@ -103,25 +101,21 @@ hears who r from now body = by r.stage body
     by : Stage → Body → Move
     by (Polling heard best sent) (Top op group top) =
         if same_op who.op op && same_group who.group group then topped who r from top.0 heard best sent else stays r
-    by (Polling heard best sent) other = stays r
-    by (Catching through None) other = stays r
     by (Catching through (Some (Fetching position denials sent))) (HaveNot op group n) =
         if same_op who.op op && same_group who.group group && n.0 == position && has from (helpers who)
         then denied who r from through position denials sent now
         else stays r
-    by (Catching through (Some (Fetching position denials sent))) other = stays r
     by (Catching through (Some (Filling position proposal))) other = filled r through position (takes (site who r.asked position) proposal from now other)
+    by _ _ = stays r
 
 -- what is due at a tick: a poll asks those again that have not answered, a fetch gives way to a no-op, and its round goes on
 abbrev pub falls_due : Reader → Reading → ℕ → ℕ → Move
-falls_due who r retry now = by r.stage
-  where
-    by : Stage → Move
-    by (Polling heard best sent) =
-        if is_due sent retry now then move r (Polling heard best now) (map (where_to who) (without heard who.voters)) else stays r
-    by (Catching through None) = stays r
-    by (Catching through (Some (Fetching position denials sent))) = if is_due sent retry now then fills who r through position now else stays r
-    by (Catching through (Some (Filling position proposal))) = filled r through position (due (site who r.asked position) proposal retry now)
+falls_due who r retry now = elim r.stage [
+    Polling heard best sent ↦
+      if is_due sent retry now then move r (Polling heard best now) (map (where_to who) (without heard who.voters)) else stays r
+  | Catching through None ↦ stays r
+  | Catching through (Some (Fetching position denials sent)) ↦ if is_due sent retry now then fills who r through position now else stays r
+  | Catching through (Some (Filling position proposal)) ↦ filled r through position (due (site who r.asked position) proposal retry now) ]
 
 -- the entry that the read's round settled, and where
 abbrev pub settled_there : ℕ → Option Content → Option (ℕ × Content)
@@ -129,34 +123,19 @@ settled_there position None = None
 settled_there position (Some entry) = Some (position, entry)
 
 abbrev pub read_settled : Reading → Option (ℕ × Content)
-read_settled r = by r.stage
-  where
-    by : Stage → Option (ℕ × Content)
-    by (Catching through (Some (Filling position proposal))) = settled_there position (settled proposal)
-    by (Catching through (Some (Fetching position denials sent))) = None
-    by (Catching through None) = None
-    by (Polling heard best sent) = None
+read_settled r = elim r.stage [ Catching through (Some (Filling position proposal)) ↦ settled_there position (settled proposal) | _ ↦ None ]
 
 -- the position through which the read reads, once it has it
 abbrev pub through_of : Reading → Option ℕ
-through_of r = by r.stage
-  where
-    by : Stage → Option ℕ
-    by (Polling heard best sent) = None
-    by (Catching through search) = Some through
+through_of r = elim r.stage [ Polling heard best sent ↦ None | Catching through search ↦ Some through ]
 
 -- the nodes about which a read asked the cells, with those of its present round
 abbrev pub search_told : Option Search → List ℕ
-search_told None = []
-search_told (Some (Fetching position denials sent)) = []
 search_told (Some (Filling position proposal)) = told_in proposal
+search_told _ = []
 
 abbrev pub asked_by : Reading → List ℕ
-asked_by r = by r.stage
-  where
-    by : Stage → List ℕ
-    by (Polling heard best sent) = r.asked
-    by (Catching through search) = joined r.asked (search_told search)
+asked_by r = elim r.stage [ Polling heard best sent ↦ r.asked | Catching through search ↦ joined r.asked (search_told search) ]
 
 -- the position that a search completes
 abbrev pub searched : Option Search → Option ℕ
@@ -170,11 +149,9 @@ is_position n (Some position) = position == n
 
 -- a read turns to the least position that its node has not decided, where it does not complete that one already
 abbrev pub seeks : Reader → Reading → ℕ → ℕ → Move
-seeks who r least now = by r.stage
-  where
-    by : Stage → Move
-    by (Polling heard best sent) = stays r
-    by (Catching through search) =
-        if is_position least (searched search)
-        then stays r
-        else fetches who (record { noted = r.noted; asked = asked_by r; stage = r.stage }) through least now
+seeks who r least now = elim r.stage [
+    Polling heard best sent ↦ stays r
+  | Catching through search ↦
+      if is_position least (searched search)
+      then stays r
+      else fetches who (record { noted = r.noted; asked = asked_by r; stage = r.stage }) through least now ]
