@@ -21,7 +21,7 @@ use Rattle.mega_ballot.specs.Order.{zero_ballot}
 use Rattle.mega_wire.specs.declared.message.Body.{Body}
 use Rattle.mega_wire.specs.declared.message.Body.TheVariants.{Accept, Where}
 use Rattle.mega_outcome.specs.declared.answer.Answer.{Answer}
-use Rattle.mega_outcome.specs.declared.answer.Answer.TheVariants.{Committed, Conflict, Turned, Unknown, TimedOut, Read as ReadAnswer, Found as FoundAnswer, Refreshed, LogFull, Busy, Worn, NotHere, NothingToDo, NoHandler, Batched, AllTurned}
+use Rattle.mega_outcome.specs.declared.answer.Answer.TheVariants.{Committed, Conflict, Turned, Unknown, Read as ReadAnswer, Found as FoundAnswer, Refreshed, Batched, AllTurned}
 use Rattle.mega_outcome.specs.declared.answer.Shown.{Shown}
 use Rattle.mega_outcome.specs.declared.answer.Done.{Done}
 use Rattle.mega_outcome.specs.declared.answer.Mark.{Mark}
@@ -76,11 +76,8 @@ asked_for meaning (_ ∷ before) op = asked_for meaning before op
 
 -- the entry is what the request comes to over the entries below it
 abbrev pub comes_to : Schema → OpId → Request → List Content → Option Content
-comes_to schema op (Txn transaction) below = by (outcome schema transaction (after below no_rows))
-  where
-    by : Result Done Turn → Option Content
-    by (Ok done) = Some (entry_of_done op done)
-    by (Err turn) = None
+comes_to schema op (Txn transaction) below =
+    elim (outcome schema transaction (after below no_rows)) [ Ok done ↦ Some (entry_of_done op done) | Err turn ↦ None ]
 comes_to schema op (BatchRequest group transactions) below = Some (entry_of_batch op (batch_outcome schema group transactions (after below no_rows)))
 comes_to schema op _ below = None
 
@@ -98,22 +95,13 @@ is_write _ = false
 
 -- an operation that was answered so is committed nowhere
 abbrev pub is_negative : Answer → Bool
-is_negative (Conflict position other) = true
-is_negative (Turned turn) = true
-is_negative TimedOut = true
-is_negative (LogFull position) = true
-is_negative (Busy count) = true
-is_negative Worn = true
-is_negative (NotHere kind) = true
-is_negative (NothingToDo marks) = true
-is_negative (NoHandler queue) = true
-is_negative (AllTurned results) = true
 is_negative (Committed position replies) = false
-is_negative Unknown = false
+is_negative (Batched position results) = false
 is_negative (ReadAnswer position rows) = false
 is_negative (FoundAnswer marks rows) = false
 is_negative (Refreshed marks) = false
-is_negative (Batched position results) = false
+is_negative Unknown = false
+is_negative _ = true
 
 -- the rows were read and written as one thread's in the order of the log
 pub record IsSerial (schema : Schema) (meaning : List ℕ → Option Request) (tape : List Item) : Type 0 where

@@ -12,7 +12,7 @@ use Rattle.mega_wire.specs.declared.message.Message.{Message}
 use Rattle.mega_wire.specs.declared.message.Body.{Body}
 use Rattle.mega_wire.specs.declared.message.Body.TheVariants.{Accepted, Promise}
 use Rattle.mega_outcome.specs.declared.request.Request.{Request}
-use Rattle.mega_outcome.specs.declared.request.Request.TheVariants.{Txn, Batch, Read, Find, PumpEnter, PumpHandle, Refresh}
+use Rattle.mega_outcome.specs.declared.request.Request.TheVariants.{Txn, Batch, Read, Find}
 use Rattle.mega_coordinator.specs.Lease.{counted_by}
 use Rattle.mega_coordinator.specs.History.{epoch_after, lease_of}
 use Rattle.mega_coordinator.specs.Groups.{is_same}
@@ -198,9 +198,8 @@ records_left now me Compacted = set_at now.records me 0
 records_left now me Recorded = records_after now me true
 
 abbrev pub is_kept : Left → Bool
-is_kept AsItWas = false
-is_kept Compacted = false
 is_kept Recorded = true
+is_kept _ = false
 
 -- a step is whole: the event's own item, its notes, and what it sends with the next numbers
 abbrev pub whole_step : Cluster → Standing → ℕ → List Item → Step → Standing
@@ -231,8 +230,7 @@ fated c now me own met made replies (CutByData left) = cut_step c now me own met
 -- the reply of a step: to the message that it takes
 abbrev pub replies_in : Cluster → ℕ → List Met → Event → List Message
 replies_in c me met (Take message) = reply_to c me met message
-replies_in c me met (Tick now) = []
-replies_in c me met (Begin request text) = []
+replies_in c me met _ = []
 
 abbrev pub met_in : Setting → List Met → Event → Met
 met_in s met (Tick now) = Ticks now
@@ -353,9 +351,7 @@ names_nothing (Txn transaction) = is_empty (transaction.group).key
 names_nothing (Batch group transactions) = is_empty group.key
 names_nothing (Read request) = is_empty (request.group).key
 names_nothing (Find request) = request.index == 0 || names_no_group request.group
-names_nothing PumpEnter = false
-names_nothing PumpHandle = false
-names_nothing Refresh = false
+names_nothing _ = false
 
 abbrev pub receiver_down : Standing → Option Message → Bool
 receiver_down now None = false

@@ -6,7 +6,6 @@ use Rattle.mega_cluster.specs.declared.cluster.Cluster.{Cluster}
 use Rattle.mega_schema.specs.declared.schema.Schema.{Schema}
 use Rattle.mega_handler.specs.Named.{Meanings}
 use Rattle.mega_wire.specs.declared.message.Message.{Message}
-use Rattle.mega_wire.specs.declared.message.Body.{Body}
 use Rattle.mega_wire.specs.declared.message.Body.TheVariants.{Request as Requests}
 use Rattle.mega_wire.specs.Messages.{message_at}
 use Rattle.mega_base.specs.Reading.{whole_of}
@@ -112,11 +111,9 @@ wished c me handlers now got client token (Asks request text) =
 
 abbrev pub takes_message : Cluster → ℕ → (List ℕ → Wish) → Meanings → Served → List Line → Peer → Message → Served
 takes_message c me wish handlers now got (OfNode node) m = recorded c me now got now.waiting (step (setting c handlers me) now.node (Take m))
-takes_message c me wish handlers now got (OfClient client) m = by m.body
-  where
-    by : Body → Served
-    by (Requests token json) = wished c me handlers now got client token (wish json)
-    by _ = with_lines now got
+takes_message c me wish handlers now got (OfClient client) m = elim m.body [
+    Requests token json ↦ wished c me handlers now got client token (wish json)
+  | _ ↦ with_lines now got ]
 
 abbrev pub given : Cluster → ℕ → (List ℕ → Wish) → Meanings → Served → List Line → Peer → Result Message ℕ → Served
 given c me wish handlers now got from (Err at) = with_lines now got
