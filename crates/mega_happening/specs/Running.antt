@@ -52,9 +52,8 @@ pub record Happens (c : Cluster) (number : ℕ) (line : List ℕ) (now : Standin
 -- so does each of these lines
 abbrev pub AllHappen : Cluster → List (List ℕ) → List Happening → Type 0
 AllHappen c [] [] = Unit {0}
-AllHappen c [] (one ∷ earlier) = ⊥
-AllHappen c (line ∷ lines) [] = ⊥
 AllHappen c (line ∷ lines) (one ∷ earlier) = AllHappen c lines earlier × Happens c (length lines + 1) line (stood c earlier) one
+AllHappen c _ _ = ⊥
 
 -- each answer has its cause on the tape before it, under the handlers that the store brings
 abbrev pub HaveCauses : Cluster → List Item → Type 0
