@@ -76,7 +76,7 @@ abbrev pub tick_ends : ℕ → Lease → ℕ → Bool
 tick_ends cells lease now = if lease.serves then not (is_majority cells (map (left now) lease.until)) else list_any (is_due now) lease.until
 
 abbrev pub after_tick : ℕ → Lease → ℕ → Lease
-after_tick cells lease now = if tick_ends cells lease now then next_lease lease else record { count = lease.count; serves = lease.serves; until = map (left now) lease.until }
+after_tick cells lease now = if tick_ends cells lease now then next_lease lease else record lease { until = map (left now) lease.until }
 
 -- a serving epoch that a tick ends is lost
 abbrev pub lost_at : ℕ → ℕ → Lease → ℕ → Option Epoch
