@@ -74,7 +74,7 @@ no_batch = record { results = []; writes = []; sends = []; cuts = [] }
 
 -- the next transaction is left out with its refusal
 abbrev pub left_out : Batch → Turn → Batch
-left_out b turn = record { results = b.results ++ Err turn ∷ []; writes = b.writes; sends = b.sends; cuts = b.cuts }
+left_out b turn = record b { results = b.results ++ Err turn ∷ [] }
 
 -- the next transaction is taken
 abbrev pub taken : Batch → Done → Batch
@@ -107,7 +107,7 @@ with_all s group txns rows = fold (with_next s group rows) no_batch txns
 abbrev pub batch_outcome : Schema → GroupId → List Transaction → Rows → Batch
 batch_outcome s group txns rows =
     let all = with_all s group.key txns rows in
-    record { results = all.results; writes = all.writes; sends = all.sends; cuts = entry_cuts all.cuts }
+    record all { cuts = entry_cuts all.cuts }
 
 -- the entry of an operation that does this
 abbrev pub entry_of_done : OpId → Done → Content
