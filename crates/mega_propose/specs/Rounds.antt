@@ -45,7 +45,7 @@ dead_to s node cell = message s cell (Dead s.op cell (record { 0 = node }))
 -- a round as it goes on
 
 abbrev pub move : Proposal → Round → List Message → Move
-move p round sends = record { proposal = record { own = p.own; seen = p.seen; round = round }; sends = sends }
+move p round sends = record { proposal = record p { round = round }; sends = sends }
 
 abbrev pub stays : Proposal → Move
 stays p = move p p.round []
@@ -83,16 +83,16 @@ abbrev pub with_free : Free → List Free → List Free
 with_free free frees = if list_any (is_same_free free) frees then frees else frees ++ free ∷ []
 
 abbrev pub with_accepted : Cover → ℕ → Cover
-with_accepted cover node = record { accepted = with_node node cover.accepted; invalidated = cover.invalidated; free = cover.free; told = cover.told }
+with_accepted cover node = record cover { accepted = with_node node cover.accepted }
 
 abbrev pub with_invalidated : Cover → ℕ → Cover
-with_invalidated cover node = record { accepted = cover.accepted; invalidated = with_node node cover.invalidated; free = cover.free; told = cover.told }
+with_invalidated cover node = record cover { invalidated = with_node node cover.invalidated }
 
 abbrev pub with_cell : Cover → Free → Cover
-with_cell cover free = record { accepted = cover.accepted; invalidated = cover.invalidated; free = with_free free cover.free; told = cover.told }
+with_cell cover free = record cover { free = with_free free cover.free }
 
 abbrev pub with_told : Cover → List ℕ → Cover
-with_told cover nodes = record { accepted = cover.accepted; invalidated = cover.invalidated; free = cover.free; told = joined cover.told nodes }
+with_told cover nodes = record cover { told = joined cover.told nodes }
 
 -- a full node is covered: it accepted at this ballot, it is invalidated, or a majority of the cells holds nothing for it. The last two
 -- count only as answers to what was sent while covering this position
@@ -178,7 +178,7 @@ vote_round None = 0
 vote_round (Some vote) = (vote.0).round
 
 abbrev pub sees : Proposal → ℕ → Proposal
-sees p round = record { own = p.own; seen = max p.seen round; round = p.round }
+sees p round = record p { seen = max p.seen round }
 
 -- a message is for this place
 abbrev pub is_here : Site → OpId → GroupId → Position → Bool
