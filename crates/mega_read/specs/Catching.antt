@@ -30,7 +30,7 @@ first_reading now = record { noted = None; asked = []; stage = Polling [] 0 now 
 -- a read as it goes on
 
 abbrev pub move : Reading → Stage → List Message → Move
-move r stage sends = record { reading = record { noted = r.noted; asked = r.asked; stage = stage }; sends = sends }
+move r stage sends = record { reading = record r { stage = stage }; sends = sends }
 
 abbrev pub stays : Reading → Move
 stays r = move r r.stage []
@@ -154,4 +154,4 @@ seeks who r least now = elim r.stage [
   | Catching through search ↦
       if is_position least (searched search)
       then stays r
-      else fetches who (record { noted = r.noted; asked = asked_by r; stage = r.stage }) through least now ]
+      else fetches who (record r { asked = asked_by r }) through least now ]
