@@ -52,16 +52,16 @@ use Rattle.mega_base.specs.declared.values.Row.{Row}
 -- what happens to an operation
 
 abbrev pub keeps : Now → Operation → Now
-keeps now o = record { met = now.met; stored = now.stored; kept = now.kept ++ o ∷ []; valid = now.valid; answers = now.answers; sends = now.sends }
+keeps now o = record now { kept = now.kept ++ o ∷ [] }
 
 abbrev pub ends : Now → OpId → Answer → Now
-ends now op answer = record { met = now.met; stored = now.stored; kept = now.kept; valid = now.valid; answers = now.answers ++ Answers op answer ∷ []; sends = now.sends }
+ends now op answer = record now { answers = now.answers ++ Answers op answer ∷ [] }
 
 abbrev pub sends_more : Now → List Message → Now
-sends_more now sends = record { met = now.met; stored = now.stored; kept = now.kept; valid = now.valid; answers = now.answers; sends = now.sends ++ sends }
+sends_more now sends = record now { sends = now.sends ++ sends }
 
 abbrev pub in_phase : Operation → Phase → Operation
-in_phase o phase = record { id = o.id; request = o.request; began = o.began; visited = o.visited; message = o.message; phase = phase }
+in_phase o phase = record o { phase = phase }
 
 -- the logs of a node as far as they are applied, in order of group, and the positions of those that are not empty
 abbrev pub applied_in : Now → GroupId → Log
@@ -127,7 +127,7 @@ stored_with stored group count other = if same_group group other then count else
 abbrev pub validated_by : Now → GroupId → ℕ → Option NotValid → Now
 validated_by now group p (Some refusal) = now
 validated_by now group p None =
-    record { met = Validates group p ∷ now.met; stored = now.stored; kept = now.kept; valid = now.valid ++ Validates group p ∷ []; answers = now.answers; sends = now.sends }
+    record now { met = Validates group p ∷ now.met; valid = now.valid ++ Validates group p ∷ [] }
 
 abbrev pub validates : Setting → Now → GroupId → ℕ → Option Epoch → Now
 validates s now group p None = now
@@ -135,7 +135,7 @@ validates s now group p (Some noted) = validated_by now group p (refused_at s.cl
 
 abbrev pub completes_read : Setting → Now → GroupId → Reading → ℕ → Now
 completes_read s now group r p =
-    validates s (record { met = now.met; stored = stored_with now.stored group (after_read p (log_of now.met group) (now.stored group)); kept = now.kept; valid = now.valid; answers = now.answers; sends = now.sends })
+    validates s (record now { stored = stored_with now.stored group (after_read p (log_of now.met group) (now.stored group)) })
     group p r.noted
 
 -- a transaction's outcome on the rows through which it read (CIDR 2011, transactions)
@@ -190,7 +190,7 @@ read_begun s now o group asked =
 
 abbrev pub visiting : Operation → GroupId → Option Enter → ReadMove → Operation
 visiting o group message t =
-    record { id = o.id; request = o.request; began = o.began; visited = o.visited ++ group ∷ []; message = message; phase = Reads group t.reading }
+    record o { visited = o.visited ++ group ∷ []; message = message; phase = Reads group t.reading }
 
 abbrev pub reads_group : Setting → (Now → Operation → Now) → Now → Operation → GroupId → Option Enter → ReadMove → Now
 reads_group s again now o group message t = again (sends_more now t.sends) (visiting o group message t)

@@ -327,7 +327,7 @@ unless_refused s now o (Some answer) = ends now o.id answer
 
 -- the operations that are open already stay as they are
 abbrev pub at_open : Now → List Operation → Now
-at_open now open_ones = record { met = now.met; stored = now.stored; kept = open_ones; valid = now.valid; answers = now.answers; sends = now.sends }
+at_open now open_ones = record now { kept = open_ones }
 
 abbrev pub op_of : Setting → List Met → OpId
 op_of s met = record { node = record { 0 = s.me }; start = start_of met; number = next_number met }
@@ -369,4 +369,4 @@ start s number owed met = record {
 
 -- a crash ends every operation
 abbrev pub crashed : Node → Node
-crashed node = record { met = Crashes ∷ node.met; open_operations = []; stored = node.stored }
+crashed node = record node { met = Crashes ∷ node.met; open_operations = [] }
