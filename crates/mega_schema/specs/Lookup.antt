@@ -11,16 +11,12 @@ use Rattle.mega_schema.specs.declared.schema.Table.{Table}
 use Rattle.mega_syntax.specs.declared.words.PropertyWords.{PropertyWords}
 use Rattle.mega_syntax.specs.declared.words.Clause.{Clause}
 use Rattle.mega_syntax.specs.declared.words.Clause.TheVariants.{Inside, Group}
-use Rattle.mega_syntax.specs.Names.{same}
+use Rattle.mega_syntax.specs.Names.{same, named}
 
 -- the kind that a type's word names
 abbrev pub kind_of : List ℕ → Option Kind
-kind_of word =
-    if same word (codes "int32") then Some Int32
-    else (if same word (codes "int64") then Some Int64
-    else (if same word (codes "bool") then Some Truth
-    else (if same word (codes "string") then Some Str
-    else (if same word (codes "bytes") then Some Raw else None))))
+kind_of word = named word (
+    (codes "int32", Int32) ∷ (codes "int64", Int64) ∷ (codes "bool", Truth) ∷ (codes "string", Str) ∷ (codes "bytes", Raw) ∷ [])
 
 abbrev pub is_required : Need → Bool
 is_required Required = true
