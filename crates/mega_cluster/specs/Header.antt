@@ -9,7 +9,7 @@ use Rattle.mega_base.specs.declared.values.NodeKind.TheVariants.{Full, Witness, 
 pub use Rattle.mega_base.specs.Reading.{◌>>=◌}
 use Rattle.mega_schema.specs.declared.schema.Schema.{Schema}
 use Rattle.mega_schema.specs.declared.fault.SchemaFault.{SchemaFault}
-use Rattle.mega_schema.specs.Names.{same}
+use Rattle.mega_schema.specs.Names.{same, named}
 use Rattle.mega_schema.specs.Verdict.{parse_of}
 use Rattle.mega_cluster.specs.declared.cluster.Cluster.{Cluster}
 use Rattle.mega_cluster.specs.declared.fault.HeaderFault.{HeaderFault}
@@ -30,9 +30,7 @@ has_unknown_key (member k d ms) = not (is_known k) || has_unknown_key ms
 
 -- the kind of node that a word names
 abbrev pub kind_of : List ℕ → Option NodeKind
-kind_of word =
-    if same word (codes "full") then Some Full
-    else (if same word (codes "witness") then Some Witness else (if same word (codes "read") then Some Read else None))
+kind_of word = named word ((codes "full", Full) ∷ (codes "witness", Witness) ∷ (codes "read", Read) ∷ [])
 
 abbrev pub kind_of_data : Data → Option NodeKind
 kind_of_data (string word) = kind_of word
