@@ -217,3 +217,7 @@ entry_field_at p = nested_at 65536 entry_at p
 
 abbrev pub decide_fields : Place → Read (GroupId × (Position × Content))
 decide_fields = pair_at group_at (pair_at log_position_at entry_field_at)
+
+-- an operation's entry that holds nothing
+abbrev pub entry_by : OpId → Content
+entry_by op = record { id = Some op; leader = op.node; writes = []; sends = []; enters = []; handles = []; cuts = [] }
