@@ -5,7 +5,7 @@ use Rattle.mega_row_writes.specs.of_entry.declared.content.Send.{Send}
 use Rattle.mega_row_writes.specs.of_entry.declared.content.Enter.{Enter}
 use Rattle.mega_row_writes.specs.of_entry.declared.content.Cut.{Cut}
 use Rattle.mega_row_writes.specs.of_entry.declared.content.Content.{Content}
-use Rattle.mega_row_writes.specs.of_entry.Entries.{entry_text}
+use Rattle.mega_row_writes.specs.of_entry.Entries.{entry_text, entry_by}
 use Rattle.mega_schema.specs.declared.schema.Table.{Table}
 use Rattle.mega_schema.specs.declared.schema.Schema.{Schema}
 use Rattle.mega_schema.specs.Shaping.{shape_of}
@@ -20,15 +20,8 @@ most_bytes = 32768
 
 -- an operation's entry that holds these and nothing else; its length is the same for every operation, leader and position
 abbrev pub entry_of : List Write → List Send → List Enter → List Cut → Content
-entry_of writes sends enters cuts = record {
-  id = Some (record { node = record { 0 = 1 }; start = 1; number = 1 });
-  leader = record { 0 = 1 };
-  writes = writes;
-  sends = sends;
-  enters = enters;
-  handles = [];
-  cuts = cuts;
-}
+entry_of writes sends enters cuts =
+    record (entry_by (record { node = record { 0 = 1 }; start = 1; number = 1 })) { writes = writes; sends = sends; enters = enters; cuts = cuts }
 
 -- the message as it is entered, sent from this group
 abbrev pub entered : List ℕ → Send → Enter
