@@ -12,7 +12,7 @@ use Rattle.mega_entry.specs.declared.content.Write.{Write}
 use Rattle.mega_entry.specs.declared.content.Send.{Send}
 use Rattle.mega_entry.specs.declared.content.Name.{Name}
 use Rattle.mega_entry.specs.declared.content.Content.{Content}
-use Rattle.mega_entry.specs.Entries.{write_at, entry_text}
+use Rattle.mega_entry.specs.Entries.{write_at, entry_text, entry_by}
 use Rattle.mega_index.specs.of_schema.declared.schema.Schema.{Schema}
 use Rattle.mega_index.specs.Rows.{Listed, row_under}
 use Rattle.mega_index.specs.Cells.{values_of, row_set}
@@ -63,15 +63,7 @@ handled s group rows effect = (fitted_writes s group.key (row_under rows) effect
 
 -- the entry of an operation that handles a message with this effect
 abbrev pub entry_handling : OpId → Name → Effect → Content
-entry_handling op name effect = record {
-  id = Some op;
-  leader = op.node;
-  writes = effect.0;
-  sends = effect.1;
-  enters = [];
-  handles = name ∷ [];
-  cuts = [];
-}
+entry_handling op name effect = record (entry_by op) { writes = effect.0; sends = effect.1; handles = name ∷ [] }
 
 -- where that entry would be too long it has the handle mark alone
 abbrev pub handle_entry : OpId → Name → Effect → Content
