@@ -6,6 +6,7 @@ use Rattle.mega_base.specs.declared.names.Epoch.{Epoch}
 use Rattle.mega_base.specs.declared.names.GroupId.{GroupId}
 use Rattle.mega_base.specs.declared.names.Position.{Position}
 use Rattle.mega_entry.specs.declared.content.Content.{Content}
+use Rattle.mega_entry.specs.Entries.{entry_by}
 use Rattle.mega_propose.specs.of_wire.declared.message.Message.{Message}
 use Rattle.mega_propose.specs.of_wire.declared.message.Body.{Body}
 use Rattle.mega_propose.specs.of_wire.declared.message.Body.TheVariants.{Where, Top, Fetch, HaveNot}
@@ -63,7 +64,7 @@ topped who r from top heard best sent =
 
 -- a no-op: it names its proposer's node as the next leader, and nothing else
 abbrev pub no_op : Reader → Content
-no_op who = record { id = None; leader = who.op.node; writes = []; sends = []; enters = []; handles = []; cuts = [] }
+no_op who = record (entry_by who.op) { id = None }
 
 abbrev pub site : Reader → List ℕ → ℕ → Site
 site who asked position =
