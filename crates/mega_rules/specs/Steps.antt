@@ -179,13 +179,10 @@ step_of node own locks durable applies sends now =
 -- a message is taken
 
 abbrev pub taken : Setting → Node → Message → List Met → List Heard → Option Decision → List Message → List Message → Step
-taken s node m told ts d reply told_news = ended (all_act s (at_first (met d) (stored_after s (met d) node.stored d)) ts)
-  where
-    met : Option Decision → List Met
-    met d = onto (decision_note d) (onto told (Takes m ∷ node.met))
-
-    ended : Now → Step
-    ended now = step_of node (Takes m) told (decision_note d) (apply_notes s node.met node.stored now.met now.stored) ((reply ++ told_news) ++ now.sends) now
+taken s node m told ts d reply told_news =
+    let met = onto (decision_note d) (onto told (Takes m ∷ node.met)) in
+    let now = all_act s (at_first met (stored_after s met node.stored d)) ts in
+    step_of node (Takes m) told (decision_note d) (apply_notes s node.met node.stored now.met now.stored) ((reply ++ told_news) ++ now.sends) now
 
 abbrev pub take_with : Setting → Node → Message → List Heard → Step
 take_with s node m ts = elim (told_decision m.body) [
