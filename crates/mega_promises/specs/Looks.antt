@@ -1,5 +1,5 @@
 -- When a step uses rows: it begins with full ones, or an operation looks at rows in it.
-use Rattle.std.specs.Prelude.{ℕ, ◌+◌, ◌&&◌, ◌||◌, Bool, true, false, not, nat_le, List, [], ◌∷◌, ◌++◌, fold, is_some}
+use Rattle.std.specs.Prelude.{ℕ, ◌+◌, ◌&&◌, ◌||◌, Bool, true, false, not, nat_le, [], ◌∷◌, ◌++◌, fold, is_some}
 use Rattle.std.specs.List.{list_any}
 use Rattle.mega_base.specs.declared.names.GroupId.{GroupId}
 use Rattle.mega_base.specs.declared.names.OpId.{OpId}
@@ -51,9 +51,6 @@ abbrev pub looks : Step → Operation → Bool
 looks made o =
     (is_reading o && is_of_rows o.request) && (list_any (answers_from_rows o.id) made.notes || list_any (is_proposing o.id) made.node.open_operations)
 
-abbrev pub begun_by : Setting → Node → Event → List Operation
-begun_by s node (Begin request text) = new_operation (op_of s node.met) request 0 ∷ []
-begun_by s node _ = []
-
 abbrev pub looks_at_rows : Setting → Node → Event → Step → Bool
-looks_at_rows s node event made = list_any (looks made) (node.open_operations ++ begun_by s node event)
+looks_at_rows s node event made = list_any (looks made) (
+    node.open_operations ++ (elim event [ Begin request text ↦ new_operation (op_of s node.met) request 0 ∷ [] | _ ↦ [] ]))

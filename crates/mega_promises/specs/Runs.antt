@@ -2,7 +2,6 @@
 use Rattle.std.specs.Prelude.{◌≡◌, ℕ, zero, suc, ◌+◌, ◌*◌, ◌/◌, ◌==◌, ◌&&◌, ◌||◌, Bool, true, false, not, if◌then◌else◌, nat_le, nat_lt, List, [], ◌∷◌, ◌++◌, map, filter, flat_map, fold, Option, Some, None, is_some}
 use Rattle.std.specs.List.{list_any}
 use Rattle.mega_base.specs.declared.names.Epoch.{Epoch}
-use Rattle.mega_base.specs.declared.names.GroupId.{GroupId}
 pub use Rattle.mega_base.specs.ListWords.{is_empty}
 use Rattle.mega_cluster.specs.declared.cluster.Cluster.{Cluster}
 use Rattle.mega_disk.specs.declared.pair.Device.{Device}
@@ -336,10 +335,6 @@ after_event c h cuts now (FuseEvent node calls image device) = fused now node.0 
 after_event c h cuts now (BeginEvent node request text) =
     at_node c h now node.0 (shown node.0 (Begins (op_of (setting c h node.0) (now.node node.0).met) text)) (Begin request text) (cuts now node.0)
 
-abbrev pub names_no_group : Option GroupId → Bool
-names_no_group None = false
-names_no_group (Some group) = is_empty group.key
-
 -- why an event is refused: 6 for no such node, 3 for no such message, 4 for a dropped one, 1 at a node that is down, 2 for a start of one
 -- that is up, 5 where the clock goes back, 7 where the request names no group or index of the schema; tried in this order
 
@@ -350,7 +345,7 @@ abbrev pub names_nothing : Request → Bool
 names_nothing (Txn transaction) = is_empty (transaction.group).key
 names_nothing (Batch group transactions) = is_empty group.key
 names_nothing (Read request) = is_empty (request.group).key
-names_nothing (Find request) = request.index == 0 || names_no_group request.group
+names_nothing (Find request) = request.index == 0 || (elim request.group [ None ↦ false | Some group ↦ is_empty group.key ])
 names_nothing _ = false
 
 abbrev pub receiver_down : Standing → Option Message → Bool
