@@ -41,9 +41,7 @@ ReadsBy view (Ok x) read = read ≡ Ok (view x)
 ReadsBy view (Err stop) read = Fails stop read
 
 abbrev pub number_at : Width → List ℕ → Read ℕ
-number_at w bytes =
-    if nat_lt (length bytes) (byte_len w) then Err 0
-    else Ok (from_be_bytes w (take (byte_len w) bytes), drop (byte_len w) bytes)
+number_at w bytes = if nat_lt (length bytes) (byte_len w) then Err 0 else Ok (from_be_bytes w (take (byte_len w) bytes), drop (byte_len w) bytes)
 
 -- the number that was raised by half of its range
 abbrev pub lowered : ℕ → ℕ → ℤ
@@ -70,8 +68,7 @@ with_front front (Err n) = Err n
 
 -- bytes up to their end, each escape undone
 unfoldable pub unescaped : List ℕ → Read (List ℕ)
-unescaped (zero ∷ c ∷ rest) =
-    if c == 255 then with_front (0 ∷ []) (unescaped rest) else (if c == 1 then Ok ([], rest) else Err (suc (length rest)))
+unescaped (zero ∷ c ∷ rest) = if c == 255 then with_front (0 ∷ []) (unescaped rest) else (if c == 1 then Ok ([], rest) else Err (suc (length rest)))
 unescaped (suc b ∷ rest) = with_front (suc b ∷ []) (unescaped rest)
 unescaped _ = Err 0
 

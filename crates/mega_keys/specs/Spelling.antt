@@ -61,8 +61,7 @@ abbrev pub head_bytes : ℕ → Bool → List Value → List ℕ
 head_bytes first scatter root = first ∷ (scatter_of scatter root ++ spell_all root)
 
 abbrev pub row_bytes : Shape → List Value → List ℕ
-row_bytes shape values =
-    head_bytes shape.space shape.scatter (root_part shape values) ++ shape.table ∷ spell_all (rest_part shape values)
+row_bytes shape values = head_bytes shape.space shape.scatter (root_part shape values) ++ shape.table ∷ spell_all (rest_part shape values)
 
 abbrev pub group_bytes : Shape → List Value → List ℕ
 group_bytes shape values = head_bytes shape.root shape.scatter values
