@@ -87,8 +87,7 @@ add_at s i n (Some t) key property row by = add_in s i n t key property (numbere
 -- item i, on the rows as the earlier ones left them
 abbrev pub change : Schema → List ℕ → Rows → ℕ → Change → Result (List Write) Turn
 change s group rows i (Put n row) = put_in s group rows i n (numbered s.tables n) row
-change s group rows i (Delete row) =
-    key_in s group i row.table row.key >>= λ key. delete_at s i row.table key (rows key)
+change s group rows i (Delete row) = key_in s group i row.table row.key >>= λ key. delete_at s i row.table key (rows key)
 change s group rows i (Add row property by) =
     key_in s group i row.table row.key >>= λ key. add_at s i row.table (numbered s.tables row.table) key property (rows key) by
 
