@@ -33,10 +33,7 @@ abbrev pub named_in : Schema → Option Data → Option Table
 named_in schema o = table_at schema.tables (table_in schema o)
 
 abbrev pub row_of : Schema → List ℕ → Data → RowRef
-row_of schema word d = record {
-  table = table_in schema (get word d);
-  key = key_in (named_in schema (get word d)) (list_in (get (codes "key") d));
-}
+row_of schema word d = record { table = table_in schema (get word d); key = key_in (named_in schema (get word d)) (list_in (get (codes "key") d)) }
 
 abbrev pub read_of : Schema → Data → RowRef
 read_of schema d = row_of schema (codes "row") d
