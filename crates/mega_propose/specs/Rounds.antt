@@ -186,8 +186,7 @@ is_here s op group position = same_op s.op op && same_group s.group group && pos
 
 -- what an operation does that takes a message from a node
 abbrev pub takes : Site → Proposal → ℕ → ℕ → Body → Move
-takes s p from now (Accepted op group position b e) =
-    if is_here s op group position then accepted s (sees p b.round) from now b e else stays p
+takes s p from now (Accepted op group position b e) = if is_here s op group position then accepted s (sees p b.round) from now b e else stays p
 takes s p from now (Refused op group position asked shown e) =
     if is_here s op group position then refused s (sees p (max asked.round shown.round)) now else stays p
 takes s p from now (Promise op group position b vote) =
