@@ -126,8 +126,7 @@ stored_with stored group count other = if same_group group other then count else
 
 abbrev pub validated_by : Now → GroupId → ℕ → Option NotValid → Now
 validated_by now group p (Some refusal) = now
-validated_by now group p None =
-    record now { met = Validates group p ∷ now.met; valid = now.valid ++ Validates group p ∷ [] }
+validated_by now group p None = record now { met = Validates group p ∷ now.met; valid = now.valid ++ Validates group p ∷ [] }
 
 abbrev pub validates : Setting → Now → GroupId → ℕ → Option Epoch → Now
 validates s now group p None = now
@@ -189,8 +188,7 @@ read_begun s now o group asked =
     else polled_read (reader_of s o.id group) (serves_at s.cluster now.met) asked (clock_of now.met))
 
 abbrev pub visiting : Operation → GroupId → Option Enter → ReadMove → Operation
-visiting o group message t =
-    record o { visited = o.visited ++ group ∷ []; message = message; phase = Reads group t.reading }
+visiting o group message t = record o { visited = o.visited ++ group ∷ []; message = message; phase = Reads group t.reading }
 
 abbrev pub reads_group : Setting → (Now → Operation → Now) → Now → Operation → GroupId → Option Enter → ReadMove → Now
 reads_group s again now o group message t = again (sends_more now t.sends) (visiting o group message t)

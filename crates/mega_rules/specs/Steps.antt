@@ -149,8 +149,7 @@ apply_note was was_stored met stored group =
     if nat_lt (applied_at was was_stored group) (applied_at met stored group) then Applies group (applied_at met stored group) ∷ [] else []
 
 abbrev pub apply_notes : Setting → List Met → (GroupId → ℕ) → List Met → (GroupId → ℕ) → List Met
-apply_notes s was was_stored met stored =
-    if has_rows s.cluster s.me then flat_map (apply_note was was_stored met stored) (groups_of met) else []
+apply_notes s was was_stored met stored = if has_rows s.cluster s.me then flat_map (apply_note was was_stored met stored) (groups_of met) else []
 
 -- the operations act one after another, each on what those before it left
 abbrev pub at_first : List Met → (GroupId → ℕ) → Now
@@ -228,16 +227,11 @@ abbrev pub lease_notes : Setting → List Met → ℕ → List Met
 lease_notes s met now = if is_full s.cluster s.me then tick_notes s.cluster met now else []
 
 abbrev pub tick_step : Setting → Node → ℕ → Step
-tick_step s node now = ended (fold (ticked s now) (at_first met (portion_of s node.met node.stored)) node.open_operations)
-  where
-    met : List Met
-    met = onto (lapse_notes s node.met now) (onto (lease_notes s node.met now) (Ticks now ∷ node.met))
-
-    ended : Now → Step
-    ended acc =
-        step_of node (Ticks now) (lease_notes s node.met now) (lapse_notes s node.met now)
-        (apply_notes s node.met node.stored acc.met acc.stored)
-        ((acquires_at s.cluster s.me node.met now ++ acc.sends) ++ background s node.met now) acc
+tick_step s node now =
+    let met = onto (lapse_notes s node.met now) (onto (lease_notes s node.met now) (Ticks now ∷ node.met)) in
+    let acc = fold (ticked s now) (at_first met (portion_of s node.met node.stored)) node.open_operations in
+    step_of node (Ticks now) (lease_notes s node.met now) (lapse_notes s node.met now) (apply_notes s node.met node.stored acc.met acc.stored)
+    ((acquires_at s.cluster s.me node.met now ++ acc.sends) ++ background s node.met now) acc
 
 -- a request begins: it may be refused at once, answered at once, or become an open operation
 
@@ -330,13 +324,11 @@ abbrev pub op_of : Setting → List Met → OpId
 op_of s met = record { node = record { 0 = s.me }; start = start_of met; number = next_number met }
 
 abbrev pub begin_step : Setting → Node → Request → List ℕ → Step
-begin_step s node request text = ended (unless_refused s (at_open (at_first (own ∷ node.met) node.stored) node.open_operations) (new_operation (op_of s node.met) request (clock_of node.met)) (refusal s node request))
-  where
-    own : Met
-    own = Begins (op_of s node.met) text
-
-    ended : Now → Step
-    ended now = step_of node own [] [] (apply_notes s node.met node.stored now.met now.stored) now.sends now
+begin_step s node request text =
+    let own = Begins (op_of s node.met) text in
+    let open_ones = at_open (at_first (own ∷ node.met) node.stored) node.open_operations in
+    let now = unless_refused s open_ones (new_operation (op_of s node.met) request (clock_of node.met)) (refusal s node request) in
+    step_of node own [] [] (apply_notes s node.met node.stored now.met now.stored) now.sends now
 
 -- the step of a node for one event
 abbrev pub step : Setting → Node → Event → Step
