@@ -187,8 +187,7 @@ log_fuse_after now me is_appending = set_at now.log_fuse me (if is_appending the
 
 -- the records on the log after a step
 abbrev pub records_after : Standing → ℕ → Bool → ℕ → ℕ
-records_after now me is_appending =
-    set_at now.records me ((if compacts now me then 0 else now.records me) + (if is_appending then 1 else 0))
+records_after now me is_appending = set_at now.records me ((if compacts now me then 0 else now.records me) + (if is_appending then 1 else 0))
 
 -- and after a cut; of a start the record alone counts
 abbrev pub records_left : Standing → ℕ → Left → ℕ → ℕ

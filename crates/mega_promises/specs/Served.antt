@@ -85,8 +85,7 @@ recorded c me now own waiting made = record {
 }
 
 abbrev pub ticked : Cluster → ℕ → Meanings → ℕ → Served → Served
-ticked c me handlers clock now =
-    recorded c me now (noted me (Ticks clock ∷ [])) now.waiting (step (setting c handlers me) now.node (Tick clock))
+ticked c me handlers clock now = recorded c me now (noted me (Ticks clock ∷ [])) now.waiting (step (setting c handlers me) now.node (Tick clock))
 
 -- a datagram that is no message, or none of its sender to this node, is recorded and changes nothing
 abbrev pub with_lines : Served → List Line → Served
@@ -126,8 +125,7 @@ received c me wish handlers now (Some one) = given c me wish handlers now (Got o
 
 -- a turn: the tick of the reading, and then the step of the datagram
 abbrev pub turned : Cluster → ℕ → (List ℕ → Wish) → Served → Turn → Served
-turned c me wish now turn =
-    received c me wish turn.handlers (ticked c me turn.handlers turn.clock now) turn.datagram
+turned c me wish now turn = received c me wish turn.handlers (ticked c me turn.handlers turn.clock now) turn.datagram
 
 -- a start counts itself in the journal; what it finds of earlier starts stands in the journal, and in no line
 abbrev pub served_start : Cluster → ℕ → Meanings → List JournalItem → Served
