@@ -1,5 +1,5 @@
 -- A current read of a group: it is local or polls, and then completes what its node has not decided (CIDR 2011, reads and catch-up).
-use Rattle.std.specs.Prelude.{ℕ, ◌+◌, ◌==◌, ◌&&◌, ◌||◌, max, Bool, false, not, if◌then◌else◌, List, [], ◌∷◌, ◌++◌, length, map, Option, Some, None}
+use Rattle.std.specs.Prelude.{ℕ, ◌+◌, ◌==◌, ◌&&◌, ◌||◌, max, Bool, false, not, if◌then◌else◌, List, [], ◌∷◌, ◌++◌, length, map, Option, Some, None, option_map}
 use Rattle.std.specs.List.{list_all}
 use Rattle.mega_base.specs.declared.names.OpId.{OpId}
 use Rattle.mega_base.specs.declared.names.Epoch.{Epoch}
@@ -120,8 +120,7 @@ falls_due who r retry now = elim r.stage [
 
 -- the entry that the read's round settled, and where
 abbrev pub settled_there : ℕ → Option Content → Option (ℕ × Content)
-settled_there position None = None
-settled_there position (Some entry) = Some (position, entry)
+settled_there position entry = option_map (λ (entry : Content). (position, entry)) entry
 
 abbrev pub read_settled : Reading → Option (ℕ × Content)
 read_settled r = elim r.stage [ Catching through (Some (Filling position proposal)) ↦ settled_there position (settled proposal) | _ ↦ None ]
