@@ -1,5 +1,5 @@
 -- One step of a node: what it notes and sends for a tick, a message that it takes, or a request that begins, and what it is then.
-use Rattle.std.specs.Prelude.{ℕ, ◌+◌, ◌-◌, ◌==◌, ◌&&◌, Bool, true, false, if◌then◌else◌, nat_le, nat_lt, List, [], ◌∷◌, ◌++◌, length, map, flat_map, fold, Option, Some, None, is_none, is_some}
+use Rattle.std.specs.Prelude.{ℕ, ◌+◌, ◌-◌, ◌==◌, ◌&&◌, Bool, true, false, if◌then◌else◌, nat_le, nat_lt, List, [], ◌∷◌, ◌++◌, length, map, flat_map, fold, Option, Some, None, is_none, is_some, option_map}
 use Rattle.std.specs.Option.{option_or}
 use Rattle.mega_base.specs.declared.names.GroupId.{GroupId}
 use Rattle.mega_base.specs.declared.names.OpId.{OpId}
@@ -93,12 +93,10 @@ pub record Decision : Type 0 where
 
 -- the entry that an operation settled in this step
 abbrev pub decision_at : GroupId → ℕ → Option Content → Option Decision
-decision_at group n None = None
-decision_at group n (Some entry) = Some (record { group = group; position = n; entry = entry })
+decision_at group n entry = option_map (λ (entry : Content). record { group = group; position = n; entry = entry }) entry
 
 abbrev pub read_decision : GroupId → Option (ℕ × Content) → Option Decision
-read_decision group None = None
-read_decision group (Some found) = Some (record { group = group; position = found.0; entry = found.1 })
+read_decision group found = option_map (λ (found : ℕ × Content). record { group = group; position = found.0; entry = found.1 }) found
 
 abbrev pub settled_by : Operation → Option Decision
 settled_by o = elim o.phase [
