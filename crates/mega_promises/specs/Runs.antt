@@ -1,5 +1,5 @@
 -- A run of a cluster: its tape is the opening starts, and then one piece for each event.
-use Rattle.std.specs.Prelude.{◌≡◌, ℕ, zero, suc, ◌+◌, ◌*◌, ◌/◌, ◌==◌, ◌&&◌, ◌||◌, Bool, true, false, not, if◌then◌else◌, nat_le, nat_lt, List, [], ◌∷◌, ◌++◌, map, filter, flat_map, fold, Option, Some, None, is_some}
+use Rattle.std.specs.Prelude.{◌≡◌, ℕ, zero, suc, ◌+◌, ◌*◌, ◌/◌, ◌==◌, ◌&&◌, ◌||◌, Bool, true, false, not, if◌then◌else◌, nat_le, nat_lt, List, [], ◌∷◌, ◌++◌, map, filter, flat_map, fold, Option, Some, None, is_some, option_map}
 use Rattle.std.specs.List.{list_any}
 use Rattle.mega_base.specs.declared.names.Epoch.{Epoch}
 pub use Rattle.mega_base.specs.ListWords.{is_empty}
@@ -179,8 +179,7 @@ fate_by now me cut calls = fate_of now me calls (cut calls)
 
 -- a fuse after an append
 abbrev pub after_append : Option Fuse → Option Fuse
-after_append None = None
-after_append (Some fuse) = Some (record fuse { appended = fuse.appended + 1 })
+after_append fuse = option_map (λ (fuse : Fuse). record fuse { appended = fuse.appended + 1 }) fuse
 
 abbrev pub log_fuse_after : Standing → ℕ → Bool → ℕ → Option Fuse
 log_fuse_after now me is_appending = set_at now.log_fuse me (if is_appending then after_append (now.log_fuse me) else now.log_fuse me)
