@@ -1,5 +1,5 @@
 -- The header of a cluster: what its keys say, and the rules in the order in which they are tried.
-use Rattle.std.specs.Prelude.{◌≡◌, ℕ, ℤ, pos, negsuc, Bool, true, false, not, ◌&&◌, ◌||◌, List, [], ◌∷◌, length, codes, Option, Some, None, Result, Ok, Err, if◌then◌else◌, nat_lt, nat_le, ◌==◌, unwrap_or}
+use Rattle.std.specs.Prelude.{◌≡◌, ℕ, ℤ, pos, negsuc, Bool, true, false, not, ◌&&◌, ◌||◌, List, [], ◌∷◌, length, codes, Option, Some, None, Result, Ok, Err, if◌then◌else◌, nat_lt, nat_le, ◌==◌}
 use Rattle.std.specs.List.{list_any}
 use Rattle.std.specs.Str.{is_utf8}
 use Rattle.toml.specs.Data.{Data, string, integer, array, Items, no_items, item, Members, no_members, member, get_member}
@@ -103,7 +103,7 @@ addresses_of_data _ = None
 -- none where there are none, or they are no array of strings
 abbrev pub addresses_of : Option Data → List (List ℕ)
 addresses_of None = []
-addresses_of (Some d) = unwrap_or (addresses_of_data d) []
+addresses_of (Some d) = elim (addresses_of_data d) [ None ↦ [] | Some texts ↦ texts ]
 
 -- the result is the answer, which is told by a rule's number where there is none, unless memory ran out
 abbrev pub Refuses : {A : Type 0} → HeaderFault → Result A ℕ → Type 0

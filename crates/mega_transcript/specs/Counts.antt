@@ -1,5 +1,5 @@
 -- The counts of a run.
-use Rattle.std.specs.Prelude.{ℕ, zero, suc, ◌==◌, ◌&&◌, ◌||◌, max, sum, map, filter, Bool, true, false, if◌then◌else◌, List, [], ◌∷◌, ◌++◌, length, codes, decimal, Option, unwrap_or}
+use Rattle.std.specs.Prelude.{ℕ, zero, suc, ◌==◌, ◌&&◌, ◌||◌, max, sum, map, filter, Bool, true, false, if◌then◌else◌, List, [], ◌∷◌, ◌++◌, length, codes, decimal, Option, Some, None}
 use Rattle.std.specs.List.{list_any}
 use Rattle.std.specs.Ordering.{is_eq}
 use Rattle.std.specs.Map.{lookup}
@@ -59,7 +59,8 @@ abbrev pub prefix_of : List Item → GroupId → ℕ → ℕ
 prefix_of tape group node = climb (is_decided tape group node) (greatest_of tape group node) 0
 
 abbrev pub or_zero : Option ℕ → ℕ
-or_zero n = unwrap_or n 0
+or_zero None = 0
+or_zero (Some n) = n
 
 -- the groups with a prefix of one of them: the longest one is kept
 abbrev pub lengthened : GroupId → ℕ → List (GroupId × ℕ) → List (GroupId × ℕ)
