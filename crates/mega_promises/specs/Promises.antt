@@ -66,12 +66,9 @@ Agree tape =
     → Stands (Decide i group n d) tape → Stands (Decide j group n e) tape → d ≡ e
 
 -- what an operation asked for: the meaning of the text with which it began
-abbrev pub meant : (List ℕ → Option Request) → OpId → OpId → List ℕ → Option Request → Option Request
-meant meaning op began text other = if same_op began op then meaning text else other
-
 abbrev pub asked_for : (List ℕ → Option Request) → List Item → OpId → Option Request
 asked_for meaning [] op = None
-asked_for meaning (Begin began text ∷ before) op = meant meaning op began text (asked_for meaning before op)
+asked_for meaning (Begin began text ∷ before) op = if same_op began op then meaning text else asked_for meaning before op
 asked_for meaning (_ ∷ before) op = asked_for meaning before op
 
 -- the entry is what the request comes to over the entries below it

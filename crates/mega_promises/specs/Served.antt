@@ -72,16 +72,13 @@ answer_line schema me waiting _ = []
 abbrev pub is_open_at : Node → OpId → Bool
 is_open_at node op = list_any (λ (o : Operation). same_op o.id op) node.open_operations
 
-abbrev pub still_waiting : Node → List Waiting → List Waiting
-still_waiting node waiting = filter (λ (one : Waiting). is_open_at node one.op) waiting
-
 -- a step goes into the record: the event's own lines, its notes, what it puts to nodes, and then its replies to clients
 abbrev pub recorded : Cluster → ℕ → Served → List Line → List Waiting → Step → Served
 recorded c me now own waiting made = record {
   node = made.node;
   lines = now.lines ++ (((own ++ noted me made.notes) ++ put_out made.sends) ++ flat_map (answer_line c.schema me waiting) made.notes);
   journal = reverse (kept_of made) ++ now.journal;
-  waiting = still_waiting made.node waiting;
+  waiting = filter (λ (one : Waiting). is_open_at made.node one.op) waiting;
 }
 
 abbrev pub ticked : Cluster → ℕ → Meanings → ℕ → Served → Served
