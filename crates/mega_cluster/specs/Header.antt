@@ -1,5 +1,5 @@
 -- The header of a cluster: what its keys say, and the rules in the order in which they are tried.
-use Rattle.std.specs.Prelude.{◌≡◌, ℕ, ℤ, pos, negsuc, Bool, true, false, not, ◌&&◌, ◌||◌, List, [], ◌∷◌, length, codes, Option, Some, None, Result, Ok, Err, if◌then◌else◌, nat_lt, nat_le, ◌==◌}
+use Rattle.std.specs.Prelude.{◌≡◌, ℕ, ℤ, pos, negsuc, Bool, true, false, not, ◌&&◌, ◌||◌, List, [], ◌∷◌, length, codes, Option, Some, None, Result, Ok, Err, if◌then◌else◌, nat_lt, nat_le, ◌==◌, option_and_then}
 use Rattle.std.specs.List.{list_any}
 use Rattle.std.specs.Str.{is_utf8}
 use Rattle.toml.specs.Data.{Data, string, integer, array, Items, no_items, item, Members, no_members, member, get_member}
@@ -77,8 +77,7 @@ number_of low high default (Some d) = number_of_data low high d
 
 -- 1, 3 or 5 cells, no more than nodes
 abbrev pub odd_cells : ℕ → Option ℕ → Option ℕ
-odd_cells nodes None = None
-odd_cells nodes (Some n) = if ((n == 1) || (n == 3) || (n == 5)) && nat_le n nodes then Some n else None
+odd_cells nodes n = option_and_then (λ (n : ℕ). if ((n == 1) || (n == 3) || (n == 5)) && nat_le n nodes then Some n else None) n
 
 -- three where there are as many nodes, else one
 abbrev pub default_cells : ℕ → ℕ
