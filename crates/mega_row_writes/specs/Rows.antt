@@ -47,9 +47,8 @@ row_under listed key = lookup (λ other. same_key key other) listed
 
 -- the list after one write
 abbrev pub list_changed : Listed → Write → Listed
-list_changed listed write = elim write.row [
-    None ↦ remove_entry (λ other. same_key write.key other) listed
-  | Some row ↦ insert_entry key_cmp listed write.key row ]
+list_changed listed write =
+    elim write.row [ None ↦ remove_entry (λ other. same_key write.key other) listed | Some row ↦ insert_entry key_cmp listed write.key row ]
 
 -- the list after these writes, one after another
 abbrev pub list_written : List Write → Listed → Listed
