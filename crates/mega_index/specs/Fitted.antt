@@ -55,9 +55,8 @@ send_fits s send = is_group s (send.to).key && is_queue send.queue
 
 -- the key is a row key of the table, of this group
 abbrev pub is_key_of : Schema → ℕ → Table → List ℕ → List ℕ → Bool
-is_key_of s n t group key = elim (read_key_of (shape_of s n t) key) [
-    Ok values ↦ elim (group_of s n t values) [ Ok own ↦ same_key own group | Err fault ↦ false ]
-  | Err fault ↦ false ]
+is_key_of s n t group key =
+    elim (read_key_of (shape_of s n t) key) [ Ok values ↦ elim (group_of s n t values) [ Ok own ↦ same_key own group | _ ↦ false ] | _ ↦ false ]
 
 -- the number of the table of which the key is a row key in this group; the tables are numbered from n on
 abbrev pub table_in : Schema → ℕ → List Table → List ℕ → List ℕ → Option ℕ
