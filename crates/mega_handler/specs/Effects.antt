@@ -1,5 +1,5 @@
 -- What the handlers that the store brings make of a message.
-use Rattle.std.specs.Prelude.{ℕ, ◌==◌, nat_lt, if◌then◌else◌, ℤ, ◌+ℤ◌, ◌^◌, List, [], ◌∷◌, take, drop, length, slice_index, Option, Some, None, Result, Ok, Err}
+use Rattle.std.specs.Prelude.{ℕ, ◌==◌, nat_lt, if◌then◌else◌, ℤ, ◌+ℤ◌, ◌^◌, List, [], ◌∷◌, take, drop, length, slice_index, Option, Some, None, Result, Ok, Err, option_and_then}
 use Rattle.std.specs.Int.{w64, from_be_bytes, cast_signed}
 use Rattle.mega_base.specs.Reading.{whole_of}
 use Rattle.mega_base.specs.declared.values.Value.{Value}
@@ -29,8 +29,7 @@ int64_of _ = None
 
 -- the sum, where it is an int64
 abbrev pub sum_of : ℤ → Option ℤ → Option ℤ
-sum_of amount None = None
-sum_of amount (Some z) = if is_in_range (2 ^ 63) (z +ℤ amount) then Some (z +ℤ amount) else None
+sum_of amount z = option_and_then (λ (z : ℤ). if is_in_range (2 ^ 63) (z +ℤ amount) then Some (z +ℤ amount) else None) z
 
 -- a write of the row with the sum, where there is one
 abbrev pub sum_written : List ℕ → ℕ → Row → Option ℤ → List Write
