@@ -1,5 +1,5 @@
 -- What a line asks of a node.
-use Rattle.std.specs.Prelude.{ℕ, ◌&&◌, Bool, false, not, if◌then◌else◌, List, [], position, codes, Option, Some, None, is_some, option_and_then, unwrap_or}
+use Rattle.std.specs.Prelude.{ℕ, ◌&&◌, Bool, false, not, if◌then◌else◌, List, [], position, codes, Option, Some, None, is_some, option_and_then, unwrap_or, option_map}
 use Rattle.serde_json.specs.Data.{Data}
 use Rattle.serde_json.specs.Find.{get, as_str}
 use Rattle.mega_base.specs.declared.names.GroupId.{GroupId}
@@ -59,8 +59,7 @@ index_or_none schema d =
     then index_in schema d else 0
 
 abbrev pub group_if : Schema → Option Data → Option GroupId
-group_if schema None = None
-group_if schema (Some d) = Some (group_of schema (Some d))
+group_if schema d = option_map (λ (d : Data). group_of schema (Some d)) d
 
 abbrev pub find_request : Schema → Data → FindRequest
 find_request schema d = record {
