@@ -134,7 +134,7 @@ is_sent ballot entry b e = same_ballot ballot b && same_entry entry e
 -- a voter accepted: the leader while it is asked, then the others
 abbrev pub accepted : Site → Proposal → ℕ → ℕ → Ballot → Content → Move
 accepted s p from now b e = elim p.round [
-    Asking leader sent ↦
+  | Asking leader sent ↦
       if from == leader && is_sent zero_ballot p.own b e
       then move p (accepts s zero_ballot p.own (if has leader s.voters then leader ∷ [] else []) now) (map (accept_to s zero_ballot p.own) (others leader s.voters))
       else stays p
@@ -142,7 +142,8 @@ accepted s p from now b e = elim p.round [
       if is_sent ballot entry b e && has from s.voters then move p (accepts s ballot entry (with_node from voted) sent) [] else stays p
   | Covering ballot entry cover sent ↦
       if is_sent ballot entry b e && has from s.voters then move p (covers s ballot entry (with_accepted cover from) sent) [] else stays p
-  | _ ↦ stays p ]
+  | _ ↦ stays p
+]
 
 -- the leader refused: the operation prepares. Elsewhere a refusal is only remembered
 abbrev pub refused : Site → Proposal → ℕ → Move
@@ -151,26 +152,29 @@ refused s p now = elim p.round [ Asking leader sent ↦ prepares s p now | _ ↦
 -- a voter promised: its first promise of the ballot counts
 abbrev pub promised : Site → Proposal → ℕ → ℕ → Ballot → Option (Ballot × Content) → Move
 promised s p from now b vote = elim p.round [
-    Preparing ballot reports sent ↦
+  | Preparing ballot reports sent ↦
       if same_ballot ballot b && has from s.voters && not (list_any (λ (report : Report). report.voter == from) reports)
       then proposes s p ballot (reports ++ record { voter = from; vote = vote } ∷ []) sent now
       else stays p
-  | _ ↦ stays p ]
+  | _ ↦ stays p
+]
 
 -- a coordinator is invalidated
 abbrev pub invalidated : Site → Proposal → ℕ → Move
 invalidated s p from = elim p.round [
-    Covering ballot entry cover sent ↦ if has from cover.told then move p (covers s ballot entry (with_invalidated cover from) sent) [] else stays p
-  | _ ↦ stays p ]
+  | Covering ballot entry cover sent ↦ if has from cover.told then move p (covers s ballot entry (with_invalidated cover from) sent) [] else stays p
+  | _ ↦ stays p
+]
 
 -- a cell holds nothing for a node
 abbrev pub unheld : Site → Proposal → ℕ → ℕ → Move
 unheld s p cell node = elim p.round [
-    Covering ballot entry cover sent ↦
+  | Covering ballot entry cover sent ↦
       if nat_le cell s.cells && has node cover.told
       then move p (covers s ballot entry (with_cell cover (record { cell = cell; node = node })) sent) []
       else stays p
-  | _ ↦ stays p ]
+  | _ ↦ stays p
+]
 
 -- the rounds that a message for this place shows are seen
 abbrev pub vote_round : Option (Ballot × Content) → ℕ
@@ -215,11 +219,12 @@ tells s p ballot entry cover now =
 
 abbrev pub due : Site → Proposal → ℕ → ℕ → Move
 due s p retry now = elim p.round [
-    Asking leader sent ↦ if is_due sent retry now then prepares s p now else stays p
+  | Asking leader sent ↦ if is_due sent retry now then prepares s p now else stays p
   | Preparing ballot reports sent ↦ if is_due sent retry now then prepares s p now else stays p
   | Accepting ballot entry voted sent ↦ if is_due sent retry now then prepares s p now else stays p
   | Covering ballot entry cover sent ↦ if is_due sent retry now then tells s p ballot entry cover now else stays p
-  | _ ↦ stays p ]
+  | _ ↦ stays p
+]
 
 -- a round begins: with the leader at ballot zero, or, to complete a position, with prepares
 abbrev pub asks : Site → ℕ → Content → ℕ → Move
