@@ -85,8 +85,9 @@ helpers who = others who.op.node.0 who.voters
 -- an entry is fetched from all other voters; where there is none, a no-op is proposed at once
 abbrev pub fetches : Reader → Reading → ℕ → ℕ → ℕ → Move
 fetches who r through position now = elim (helpers who) [
-    [] ↦ fills who r through position now
-  | voter ∷ voters ↦ move r (Catching through (Some (Fetching position [] now))) (map (fetch_to who position) (voter ∷ voters)) ]
+  | [] ↦ fills who r through position now
+  | voter ∷ voters ↦ move r (Catching through (Some (Fetching position [] now))) (map (fetch_to who position) (voter ∷ voters))
+]
 
 -- a voter has not decided the position: once all others said so, a no-op is proposed
 abbrev pub denied : Reader → Reading → ℕ → ℕ → ℕ → List ℕ → ℕ → ℕ → Move
@@ -112,11 +113,12 @@ hears who r from now body = by r.stage body
 -- what is due at a tick: a poll asks those again that have not answered, a fetch gives way to a no-op, and its round goes on
 abbrev pub falls_due : Reader → Reading → ℕ → ℕ → Move
 falls_due who r retry now = elim r.stage [
-    Polling heard best sent ↦
+  | Polling heard best sent ↦
       if is_due sent retry now then move r (Polling heard best now) (map (where_to who) (without heard who.voters)) else stays r
   | Catching through None ↦ stays r
   | Catching through (Some (Fetching position denials sent)) ↦ if is_due sent retry now then fills who r through position now else stays r
-  | Catching through (Some (Filling position proposal)) ↦ filled r through position (due (site who r.asked position) proposal retry now) ]
+  | Catching through (Some (Filling position proposal)) ↦ filled r through position (due (site who r.asked position) proposal retry now)
+]
 
 -- the entry that the read's round settled, and where
 abbrev pub settled_there : ℕ → Option Content → Option (ℕ × Content)
@@ -150,8 +152,9 @@ is_position n (Some position) = position == n
 -- a read turns to the least position that its node has not decided, where it does not complete that one already
 abbrev pub seeks : Reader → Reading → ℕ → ℕ → Move
 seeks who r least now = elim r.stage [
-    Polling heard best sent ↦ stays r
+  | Polling heard best sent ↦ stays r
   | Catching through search ↦
       if is_position least (searched search)
       then stays r
-      else fetches who (record r { asked = asked_by r }) through least now ]
+      else fetches who (record r { asked = asked_by r }) through least now
+]
