@@ -158,8 +158,9 @@ rows_answer p (Err turn) = Turned turn
 
 abbrev pub read_answer : Setting → ReadRequest → ℕ → Rows → Listed → Answer
 read_answer s request p rows listed = elim request.rows [
-    [] ↦ ReadAnswer (record { 0 = p }) (all_rows s.cluster.schema request.group listed)
-  | row ∷ more ↦ rows_answer p (read_rows s.cluster.schema request.group (row ∷ more) rows) ]
+  | [] ↦ ReadAnswer (record { 0 = p }) (all_rows s.cluster.schema request.group listed)
+  | row ∷ more ↦ rows_answer p (read_rows s.cluster.schema request.group (row ∷ more) rows)
+]
 
 -- a log that has reached its limit takes no further entry
 abbrev pub unless_full : Setting → Now → Operation → ℕ → Now → Now
@@ -236,13 +237,14 @@ handles s again now o group r p (Some message) = handles_message s now o group r
 -- what an operation does whose current read through a position is complete
 abbrev pub finishes : Setting → (Now → Operation → Now) → Now → Operation → GroupId → Reading → ℕ → Now
 finishes s again now o group r p = elim o.request [
-    Txn transaction ↦ unless_full s now o p (sealed s now o group r p (outcome s.cluster.schema transaction (rows_at now group p)))
+  | Txn transaction ↦ unless_full s now o p (sealed s now o group r p (outcome s.cluster.schema transaction (rows_at now group p)))
   | BatchRequest own transactions ↦ unless_full s now o p (batch_sealed s now o group r p (batch_outcome s.cluster.schema own transactions (rows_at now group p)))
   | ReadRequested request ↦ ends now o.id (read_answer s request p (rows_at now group p) (listed_at now group p))
   | Find request ↦ ends now o.id (local_found s.cluster.schema request p (listed_at now group p))
   | PumpEnter ↦ unless_full s now o p (enters s again now o group r p o.message)
   | PumpHandle ↦ unless_full s now o p (handles s again now o group r p (oldest_unhandled (take p (log_of now.met group))))
-  | Refresh ↦ keeps now o ]
+  | Refresh ↦ keeps now o
+]
 
 -- a read goes on once all positions through its own are decided, and else seeks the least that is not
 abbrev pub seeks_on : Operation → Now → GroupId → ReadMove → Now
@@ -250,16 +252,18 @@ seeks_on o now group t = keeps (sends_more now t.sends) (in_phase o (Reads group
 
 abbrev pub reads_on : Setting → (Now → Operation → Now) → Now → Operation → GroupId → Reading → Now
 reads_on s again now o group r = elim r.stage [
-    Polling heard best sent ↦ keeps now o
+  | Polling heard best sent ↦ keeps now o
   | Catching p search ↦
       if nat_le p (prefix_of now.met group)
       then finishes s again (completes_read s now group r p) o group r p
-      else seeks_on o now group (seeks (reader_of s o.id group) r (prefix_of now.met group + 1) (clock_of now.met)) ]
+      else seeks_on o now group (seeks (reader_of s o.id group) r (prefix_of now.met group + 1) (clock_of now.met))
+]
 
 abbrev pub acts : Setting → (Now → Operation → Now) → Now → Operation → Now
 acts s again now o = elim o.phase [
-    Reads group r ↦ reads_on s again now o group r
-  | Proposes group n asked proposal promised ↦ unless_decided now o n promised (decided now.met group n) ]
+  | Reads group r ↦ reads_on s again now o group r
+  | Proposes group n asked proposal promised ↦ unless_decided now o n promised (decided now.met group n)
+]
 
 -- a pump may pick again within a step, each time another group with entries that it reads locally, so at most as often as there are such
 -- groups: the last case is never reached

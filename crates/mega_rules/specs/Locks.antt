@@ -32,9 +32,8 @@ abbrev pub reopenings : List Met → List Call
 reopenings met = flat_map (λ node. reopening node (last_grant met node)) nodes
 
 abbrev pub asked_in : Cluster → ℕ → ℕ → Message → List Call
-asked_in c me now message = elim message.body [
-    Acquire cell epoch clock ↦ if cell == me && is_cell c me then Asks message.from epoch now (keep_of c) ∷ [] else []
-  | _ ↦ [] ]
+asked_in c me now message =
+    elim message.body [ Acquire cell epoch clock ↦ if cell == me && is_cell c me then Asks message.from epoch now (keep_of c) ∷ [] else [] | _ ↦ [] ]
 
 -- what a start shows of a step that was cut before it
 abbrev pub if_opening : List Met → Call → List Call

@@ -1,5 +1,5 @@
 -- One step of a node: what it notes and sends for a tick, a message that it takes, or a request that begins, and what it is then.
-use Rattle.std.specs.Prelude.{ℕ, ◌+◌, ◌-◌, ◌==◌, ◌&&◌, Bool, true, false, if◌then◌else◌, nat_le, nat_lt, List, [], ◌∷◌, ◌++◌, length, map, flat_map, fold, Option, Some, None, is_none, is_some, option_map}
+use Rattle.std.specs.Prelude.{ℕ, ◌+◌, ◌-◌, ◌==◌, ◌&&◌, Bool, true, false, if◌then◌else◌, nat_le, nat_lt, List, [], ◌∷◌, ◌++◌, length, map, flat_map, fold, Option, Some, None, is_none, is_some, option_map, option_and_then}
 use Rattle.std.specs.Option.{option_or}
 use Rattle.mega_base.specs.declared.names.GroupId.{GroupId}
 use Rattle.mega_base.specs.declared.names.OpId.{OpId}
@@ -76,14 +76,16 @@ round_heard o group n asked promised t = record { operation = in_phase o (Propos
 -- each open operation hears a message
 abbrev pub hears_message : Setting → ℕ → Message → Operation → Heard
 hears_message s now m o = elim o.phase [
-    Reads group r ↦ read_heard o group (hears (reader_of s o.id group) r m.from now m.body)
-  | Proposes group n asked p promised ↦ round_heard o group n asked promised (takes (site (reader_of s o.id group) asked n) p m.from now m.body) ]
+  | Reads group r ↦ read_heard o group (hears (reader_of s o.id group) r m.from now m.body)
+  | Proposes group n asked p promised ↦ round_heard o group n asked promised (takes (site (reader_of s o.id group) asked n) p m.from now m.body)
+]
 
 -- each open operation does what is due at a tick
 abbrev pub does_due : Setting → ℕ → Operation → Heard
 does_due s now o = elim o.phase [
-    Reads group r ↦ read_heard o group (falls_due (reader_of s o.id group) r s.cluster.retry now)
-  | Proposes group n asked p promised ↦ round_heard o group n asked promised (due (site (reader_of s o.id group) asked n) p s.cluster.retry now) ]
+  | Reads group r ↦ read_heard o group (falls_due (reader_of s o.id group) r s.cluster.retry now)
+  | Proposes group n asked p promised ↦ round_heard o group n asked promised (due (site (reader_of s o.id group) asked n) p s.cluster.retry now)
+]
 
 -- a decision at a position of a group
 pub record Decision : Type 0 where
@@ -99,9 +101,8 @@ abbrev pub read_decision : GroupId → Option (ℕ × Content) → Option Decisi
 read_decision group found = option_map (λ (found : ℕ × Content). record { group = group; position = found.0; entry = found.1 }) found
 
 abbrev pub settled_by : Operation → Option Decision
-settled_by o = elim o.phase [
-    Reads group r ↦ read_decision group (read_settled r)
-  | Proposes group n asked p promised ↦ decision_at group n (settled p) ]
+settled_by o =
+    elim o.phase [ Reads group r ↦ read_decision group (read_settled r) | Proposes group n asked p promised ↦ decision_at group n (settled p) ]
 
 abbrev pub first_settled : List Heard → Option Decision
 first_settled [] = None
@@ -115,8 +116,7 @@ told_decision _ = None
 
 -- a decision counts where its node had not decided the position
 abbrev pub if_new : List Met → Option Decision → Option Decision
-if_new met None = None
-if_new met (Some d) = if is_none (decided met d.group d.position) then Some d else None
+if_new met d = option_and_then (λ (d : Decision). if is_none (decided met d.group d.position) then Some d else None) d
 
 abbrev pub decision_note : Option Decision → List Met
 decision_note None = []
@@ -183,10 +183,11 @@ taken s node m told ts d reply told_news =
 
 abbrev pub take_with : Setting → Node → Message → List Heard → Step
 take_with s node m ts = elim (told_decision m.body) [
-    Some d ↦ taken s node m (told_notes s node.met m.from m.body) ts (if_new node.met (Some d)) (reply_to s.cluster s.me node.met m) []
+  | Some d ↦ taken s node m (told_notes s node.met m.from m.body) ts (if_new node.met (Some d)) (reply_to s.cluster s.me node.met m) []
   | None ↦
       taken s node m (told_notes s node.met m.from m.body) ts (if_new node.met (first_settled ts)) (reply_to s.cluster s.me node.met m)
-      (news s (if_new node.met (first_settled ts))) ]
+      (news s (if_new node.met (first_settled ts)))
+]
 
 abbrev pub take_step : Setting → Node → Message → Step
 take_step s node m = take_with s node m (map (hears_message s (clock_of node.met) m) node.open_operations)
@@ -302,13 +303,14 @@ find_begins s now o request (Some group) = local_find_begins s now o request gro
 -- what an operation does in the step in which it begins
 abbrev pub begins : Setting → Now → Operation → Now
 begins s now o = elim o.request [
-    Txn transaction ↦ begins_read s (goes_on s) now o transaction.group None []
+  | Txn transaction ↦ begins_read s (goes_on s) now o transaction.group None []
   | Batch group transactions ↦ begins_read s (goes_on s) now o group None []
   | Read request ↦ read_begins s now o request request.mode
   | Find request ↦ find_begins s now o request request.group
   | PumpEnter ↦ picks_to_enter s (goes_on s) now o []
   | PumpHandle ↦ picks_to_handle s (goes_on s) now o []
-  | Refresh ↦ ends now o.id (Refreshed (applied_marks now)) ]
+  | Refresh ↦ ends now o.id (Refreshed (applied_marks now))
+]
 
 abbrev pub unless_refused : Setting → Now → Operation → Option Answer → Now
 unless_refused s now o None = begins s now o
