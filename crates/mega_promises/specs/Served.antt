@@ -107,9 +107,8 @@ wished c me handlers now got client token (Asks request text) =
 
 abbrev pub takes_message : Cluster → ℕ → (List ℕ → Wish) → Meanings → Served → List Line → Peer → Message → Served
 takes_message c me wish handlers now got (OfNode node) m = recorded c me now got now.waiting (step (setting c handlers me) now.node (Take m))
-takes_message c me wish handlers now got (OfClient client) m = elim m.body [
-    Requests token json ↦ wished c me handlers now got client token (wish json)
-  | _ ↦ with_lines now got ]
+takes_message c me wish handlers now got (OfClient client) m =
+    elim m.body [ Requests token json ↦ wished c me handlers now got client token (wish json) | _ ↦ with_lines now got ]
 
 abbrev pub given : Cluster → ℕ → (List ℕ → Wish) → Meanings → Served → List Line → Peer → Result Message ℕ → Served
 given c me wish handlers now got from (Err at) = with_lines now got
