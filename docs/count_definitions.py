@@ -61,7 +61,7 @@ class Module:
             if line.startswith(("use ", "pub use ")):
                 self.imported(line)
                 continue
-            if line[0] not in " })" and not is_clause_of(name, line):
+            if line[0] not in " })]" and not is_clause_of(name, line):
                 name = (FIXITY.match(line) or HEAD.match(line)).group(1)
                 is_data = line.startswith(("data ", "pub data "))
             elif is_data and re.match(r"[\w-]+ :", text):
