@@ -1,5 +1,5 @@
 -- Rows that are spilled where they are full: with which marks, and what this leaves of the device below them.
-use Rattle.std.specs.Prelude.{◌≡◌, ◌⊎◌, ℕ, ◌<◌, ◌≤◌, ◌^◌, true, List, map, Option, Some}
+use Rattle.std.specs.Prelude.{◌≡◌, ◌⊎◌, ℕ, ◌<◌, ◌≤◌, ◌^◌, true, List, [], map, Option, Some}
 use Rattle.mega_base.specs.Causes.{Rose}
 use Rattle.mega_base.specs.declared.names.GroupId.{GroupId}
 use Rattle.mega_base.specs.declared.names.Position.{Position}
@@ -9,11 +9,14 @@ use Rattle.mega_disk.specs.declared.versions.StoreError.{StoreError}
 use Rattle.mega_disk.specs.declared.versions.StoreError.TheVariants as why
 use Rattle.mega_disk.specs.declared.versions.Versions.{Ghosts}
 use Rattle.mega_replica.specs.declared.rows.StoredRows.{StoredRows}
-use Rattle.mega_replica.specs.Following.{progress_at}
+use Rattle.mega_replica.specs.Following.{Follows, progress_at}
+use Rattle.mega_replica.specs.Stored.{log_in}
 use Rattle.mega_rules.specs.Logs.{groups_of}
 use Rattle.mega_rules.specs.Met.{Met}
 use Rattle.mega_rules.specs.Steps.{applied_at}
+use Rattle.mega_wal.specs.declared.item.JournalItem.{JournalItem}
 use Rattle.mega_wal.specs.declared.kept.Kept.{Kept}
+use Rattle.mega_wal.specs.Kept.{Represents}
 use Rattle.mega_core.specs.of_taking.declared.fault.StepFault.{StepFault}
 use Rattle.mega_core.specs.of_taking.declared.fault.StepFault.TheVariants as step
 use Rattle.mega_core.specs.declared.node.Node.{Node}
@@ -65,3 +68,9 @@ step_fault_of why.NoMemory = step.NoMemory
 -- the rows were not spilled
 abbrev pub IsNotSpilled : UpFault → Type 0
 IsNotSpilled fault = (error : StoreError) × (fault ≡ up.Step (step_fault_of error))
+
+-- rows that may have stored more of the same logs: they follow these as before, where nothing was cleaned
+pub record StoresMore {V : Type 0} (store : Ghosts V) (kept : Kept) (old new : StoredRows V) : Type 0 where
+  pub follows : store.is_told ≡ true → store.cleaned old.rows ≡ [] → (items : List JournalItem) (stored : GroupId → ℕ) → Represents kept items
+      → Follows (store.version old.rows) (progress_at old.progress) (log_in items) stored → (more : GroupId → ℕ) × Follows (store.version new.rows) (progress_at new.progress) (log_in items) more
+  pub cleaned : store.cleaned new.rows ≡ store.cleaned old.rows
