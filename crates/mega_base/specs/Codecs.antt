@@ -19,10 +19,6 @@ pub bind-is_err : {A B : Type 0} (r : Result A ℕ) (f : A → Result B ℕ) →
 bind-is_err (Ok a) f h = absurd (cc)
 bind-is_err (Err e) f h = refl
 
--- where the first step gives a, the rest decides
-pub bind-at : {A B : Type 0} (r : Result A ℕ) (f : A → Result B ℕ) (a : A) → r ≡ Ok a → r >>= f ≡ f a
-bind-at r f a h = ap (λ s. s >>= f) h
-
 -- what an `Ok` holds, by its parts
 pub ok_parts : {A : Type 0} (x y : A) (p q : Place) → (let l : Read A = Ok (x, p) in let r : Read A = Ok (y, q) in l ≡ r) → (x ≡ y) × (p ≡ q)
 ok_parts {A} x y p q h =

@@ -4,6 +4,7 @@ use Rattle.mega_base.specs.declared.names.GroupId.{GroupId}
 use Rattle.mega_base.specs.declared.names.NodeId.{NodeId}
 use Rattle.mega_base.specs.declared.names.OpId.{OpId}
 use Rattle.mega_base.specs.declared.names.Position.{Position}
+pub use Rattle.mega_base.specs.ListWords.{onto as in_turn}
 use Rattle.mega_cluster.specs.declared.cluster.Cluster.{Cluster}
 use Rattle.mega_held.specs.Held.{HoldsItem}
 use Rattle.mega_meanings.specs.BuiltIn.{built_in}
@@ -51,14 +52,8 @@ pub record Happens (c : Cluster) (number : ℕ) (line : List ℕ) (now : Standin
 -- so does each of these lines
 abbrev pub AllHappen : Cluster → List (List ℕ) → List Happening → Type 0
 AllHappen c [] [] = Unit {0}
-AllHappen c [] (one ∷ earlier) = ⊥
-AllHappen c (line ∷ lines) [] = ⊥
 AllHappen c (line ∷ lines) (one ∷ earlier) = AllHappen c lines earlier × Happens c (length lines + 1) line (stood c earlier) one
-
--- these events, newest first, and then the others
-abbrev pub in_turn : List Happening → List Happening → List Happening
-in_turn [] rest = rest
-in_turn (one ∷ earlier) rest = in_turn earlier (one ∷ rest)
+AllHappen c _ _ = ⊥
 
 -- each answer has its cause on the tape before it, under the handlers that the store brings
 abbrev pub HaveCauses : Cluster → List Item → Type 0

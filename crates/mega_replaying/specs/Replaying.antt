@@ -14,11 +14,7 @@ use Rattle.mega_happening.specs.Refusals.{IsPastLast, IsRefused}
 use Rattle.mega_happening.specs.Running.{Replayed, stood}
 use Rattle.mega_writing.specs.Texts.{IsTallied, in_all, so_far}
 use Rattle.mega_writing.specs.LastLines.{header_line, refused_line, schedule_line, limit_line}
-
--- these lines, newest first, and then the others
-abbrev pub in_order : List (List ℕ) → List (List ℕ) → List (List ℕ)
-in_order [] rest = rest
-in_order (line ∷ earlier) rest = in_order earlier (line ∷ rest)
+pub use Rattle.mega_base.specs.ListWords.{onto as in_order}
 
 -- what was written once these events happened
 abbrev pub text_at : Report → Cluster → List Happening → List ℕ

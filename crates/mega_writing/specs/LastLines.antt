@@ -2,10 +2,7 @@
 use Rattle.std.specs.Prelude.{ℕ, List, [], ◌++◌, codes, decimal}
 use Rattle.mega_writing.specs.declared.status.Stop.{Stop}
 use Rattle.mega_writing.specs.declared.status.Stop.TheVariants.{Header, Schedule, Refused, Limit, Source, Sink, NoMemory}
-
--- the header breaks this rule
-abbrev pub header_line : ℕ → List ℕ
-header_line rule = codes "header " ++ (decimal rule ++ codes "\n")
+pub use Rattle.mega_transcript.specs.Words.{header_line}
 
 -- this line is no event, for this reason
 abbrev pub schedule_line : ℕ → ℕ → List ℕ
