@@ -13,7 +13,7 @@ use crate::keeping::is_cut;
 use crate::up::Up;
 use mega_base::Items;
 use mega_disk::{Records, Versions};
-use mega_formed::are_items;
+use mega_well_formed::are_items;
 use mega_wal::{LogFault, Logs};
 use std::alloc::Global;
 

@@ -6,7 +6,7 @@ use Rattle.mega_locks.specs.declared.lock.Term.{Term}
 use Rattle.mega_locks.specs.declared.lock.Lock.{Lock}
 use Rattle.mega_locks.specs.declared.lock.Lock.TheVariants.{Free, Held, Ended}
 use Rattle.mega_locks.specs.declared.asked.Asked.{Asked}
-use Rattle.mega_locks.specs.declared.asked.Asked.TheVariants.{Granted, Renewed, Taken, Over}
+use Rattle.mega_locks.specs.declared.asked.Asked.TheVariants.{Granted, Renewed, GreaterHeld, Over}
 
 -- epochs are in order of start, then of count
 abbrev pub is_above : Epoch → Epoch → Bool
@@ -23,7 +23,7 @@ held_epoch _ = None
 -- an epoch is granted where it is above every epoch granted before, and renewed where it is held
 abbrev pub answer : Lock → Epoch → Asked
 answer Free e = Granted
-answer (Held g renewed) e = if is_above e g then Granted else (if is_same e g then Renewed else Taken g)
+answer (Held g renewed) e = if is_above e g then Granted else (if is_same e g then Renewed else GreaterHeld g)
 answer (Ended g) e = if is_above e g then Granted else Over g
 
 -- a grant ends what was held before; a grant or a renewal is held, and counts as told

@@ -8,7 +8,7 @@ use crate::escape::put_fitted;
 use crate::journeys::Journeys;
 use crate::kinds::tone_of;
 use crate::sheet::{Sheet, step};
-use crate::told::Told;
+use crate::item_line::ItemLine;
 use mega_base::{Bytes, NoMemory};
 use std::alloc::Global;
 
@@ -194,7 +194,7 @@ pub fn put_arrows(
     out: &mut Bytes,
     sheet: Sheet,
     journeys: &Journeys,
-    told: &[Told],
+    told: &[ItemLine],
 ) -> Result<(), NoMemory>
     requires few { length told.now ≤ 4000 }
     requires rows { Follows journeys.now told.now }

@@ -17,9 +17,9 @@ mod page;
 mod page_notes;
 mod sheet;
 mod style;
-mod told;
+mod item_line;
 mod validity;
 
 pub use drawable::{Flaw, flaw_of};
 pub use page::put_page;
-pub use told::{MOST, Told};
+pub use item_line::{MOST, ItemLine};

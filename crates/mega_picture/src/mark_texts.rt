@@ -10,7 +10,7 @@ use crate::kinds::tone_of;
 use crate::labels::put_label;
 use crate::marks::{Mark, Place, mark_of, word_of};
 use crate::sheet::{Sheet, step};
-use crate::told::Told;
+use crate::item_line::ItemLine;
 use mega_base::{Bytes, NoMemory};
 use std::alloc::Global;
 
@@ -165,7 +165,7 @@ fn put_if(
     groups: &Groups,
     row: u32,
     mark: Option<Mark>,
-    one: &Told,
+    one: &ItemLine,
 ) -> Result<(), NoMemory>
     ensures { OnOk result (out.new ≡ out.old ++ text_if sheet groups.now row one.now mark) }
 {
@@ -186,7 +186,7 @@ pub fn put_marks(
     sheet: Sheet,
     journeys: &Journeys,
     groups: &Groups,
-    told: &[Told],
+    told: &[ItemLine],
 ) -> Result<(), NoMemory>
     requires few { length told.now ≤ 4000 }
     requires rows { Follows journeys.now told.now }

@@ -6,8 +6,8 @@ use Rattle.mega_base.specs.declared.names.GroupId.{GroupId}
 use Rattle.mega_cluster.specs.declared.cluster.Cluster.{Cluster}
 use Rattle.mega_disk.specs.declared.disk.Disk.{Ghosts as DiskGhosts}
 use Rattle.mega_disk.specs.declared.pair.Pair.{Pair}
-use Rattle.mega_heading.specs.Known.{Told}
-use Rattle.mega_heading.specs.Parts.{cluster_in, lines_behind}
+use Rattle.mega_header.specs.Known.{IfKnown}
+use Rattle.mega_header.specs.Parts.{cluster_in, lines_behind}
 use Rattle.mega_index.specs.Rows.{after, no_rows}
 use Rattle.mega_io.specs.Pieces.{AppendsFront}
 use Rattle.mega_checkpoint.specs.Format.{list_of}
@@ -42,6 +42,6 @@ BringsBack at input =
 
 -- the rows of a backup at a position were asked for, and what was asked for ended with this status
 pub record HasRestored (at : ℕ) (input before after : Option (List ℕ)) (status : ℕ) : Type 0 where
-  pub whole : is_cut status ≡ false → Told input (λ input. (status ≡ (restore_of at input).status) × Appends before after (restore_of at input).text)
-  pub front : Told input (λ input. AppendsFront before after (restore_of at input).text)
-  pub rows : Told input (BringsBack at)
+  pub whole : is_cut status ≡ false → IfKnown input (λ input. (status ≡ (restore_of at input).status) × Appends before after (restore_of at input).text)
+  pub front : IfKnown input (λ input. AppendsFront before after (restore_of at input).text)
+  pub rows : IfKnown input (BringsBack at)

@@ -10,7 +10,7 @@ use Rattle.mega_two_driver.specs.of_moves.declared.phase.Phase.TheVariants.{Begi
 use Rattle.mega_two_driver.specs.declared.two.Two.{Two}
 use Rattle.mega_two_driver_laws.specs.Runs.{closes, shows_made, was}
 use Rattle.mega_two_turns.specs.Turns.{driven, ending, start}
-use Rattle.mega_two_run_laws.specs.Tolds.{tolds}
+use Rattle.mega_two_run_laws.specs.TurnResults.{tolds}
 use Rattle.mega_two_words.specs.declared.last.Last.{Last}
 use Rattle.mega_two_words.specs.Endings.{is_cut, last_line, status_of}
 use Rattle.mega_two_words.specs.Runs.{RunsTo}

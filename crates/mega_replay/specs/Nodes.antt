@@ -6,7 +6,7 @@ use Rattle.mega_cluster.specs.declared.cluster.Cluster.{Cluster}
 use Rattle.mega_disk.specs.declared.disk.Disk.{Ghosts as DiskGhosts}
 use Rattle.mega_disk.specs.declared.pair.Pair.{Pair}
 use Rattle.mega_handler.specs.Named.{Meanings}
-use Rattle.mega_heading.specs.Known.{HeaderFails}
+use Rattle.mega_header.specs.Known.{HeaderFails}
 use Rattle.mega_checkpoint.specs.Format.{list_of}
 use Rattle.mega_wal.specs.Records.{first_bad}
 use Rattle.mega_node.specs.Calls.{HasRun, IsCut}

@@ -4,7 +4,7 @@ use Rattle.mega_words.specs.declared.command.Command.{Command}
 use Rattle.mega_words.specs.declared.command.Command.TheVariants.{Backup, Gen, Node, Replay, Restore, Two}
 use Rattle.mega_backup_words.specs.Stops.{IsBackupStatus, IsRestoreStatus}
 use Rattle.mega_two_words.specs.Endings.{IsStatus as IsTwoStatus}
-use Rattle.mega_writing.specs.Statuses.{IsCutStatus, IsReplayStatus}
+use Rattle.mega_replay_output.specs.Statuses.{IsCutStatus, IsReplayStatus}
 
 -- the statuses with which a drawing of lines ends
 abbrev pub IsDrawn : ℕ → Type 0

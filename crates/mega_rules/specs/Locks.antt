@@ -8,7 +8,7 @@ use Rattle.mega_read.specs.of_wire.declared.message.Message.{Message}
 use Rattle.mega_read.specs.of_wire.declared.message.Body.{Body}
 use Rattle.mega_read.specs.of_wire.declared.message.Body.TheVariants.{Acquire, Dead, Granted as GrantedBody, Held, Past, Unheld}
 use Rattle.mega_locks.specs.declared.asked.Asked.{Asked}
-use Rattle.mega_locks.specs.declared.asked.Asked.TheVariants.{Granted, Taken, Over}
+use Rattle.mega_locks.specs.declared.asked.Asked.TheVariants.{Granted, GreaterHeld, Over}
 use Rattle.mega_locks.specs.History.{Call, Reopens, Asks, Ticks as CellTicks, held_for, lapse_for, lock_of, nodes}
 use Rattle.mega_locks.specs.Rule.{answer}
 use Rattle.mega_replica.specs.of_wal.History.{after_grant, after_lapse}
@@ -59,7 +59,7 @@ grant_note node epoch Granted = Grants node epoch ∷ []
 grant_note node epoch _ = []
 
 abbrev pub lock_answer : ℕ → Epoch → ℕ → Asked → Body
-lock_answer cell epoch clock (Taken greatest) = Past cell epoch greatest
+lock_answer cell epoch clock (GreaterHeld greatest) = Past cell epoch greatest
 lock_answer cell epoch clock (Over greatest) = Past cell epoch greatest
 lock_answer cell epoch clock _ = GrantedBody cell epoch clock
 

@@ -2,7 +2,7 @@
 
 use crate::samples;
 use mega_base::{Bytes, NodeId, Text};
-use mega_formed::is_message;
+use mega_well_formed::is_message;
 use mega_io::{MemSink, MemSource};
 use mega_link::{MemClock, MemLink, Peer};
 use mega_two_words::run_two;
