@@ -26,14 +26,14 @@ ghost use Rattle.mega_answers.specs.of_step_work.Settings.{setting};
 ghost use Rattle.mega_answers.specs.of_step_work.Working.{work_of};
 
 use crate::replica::Replica;
-use mega_base::{GroupId, NoMemory, OpId, Position};
-use mega_disk::{Records, Versions};
-use mega_answers::mega_operations::{OperationBase, Members, Operation, Phase};
+use mega_answers::mega_operations::{Members, Operation, OperationBase, Phase};
 use mega_answers::mega_step_work::{
     Action, CompleteRead, End, Proposing, Work, is_pump, unless_decided,
 };
 use mega_answers::mega_voter::Voter;
 use mega_answers::{ActFault, goes, pumps, reads_through, takes};
+use mega_base::{GroupId, NoMemory, OpId, Position};
+use mega_disk::{Records, Versions};
 use mega_meanings::QueueHandlers;
 use mega_read::Reading;
 use std::alloc::Global;

@@ -19,13 +19,13 @@ ghost use Rattle.mega_actions.specs.IsAt.{IsAt, setting_of};
 ghost use Rattle.mega_answers.specs.of_step_work.Working.{work_of};
 
 use crate::replica::Replica;
-use mega_base::{Copied, GroupId, Items, NoMemory, OpId};
-use mega_disk::{Records, Versions};
-use mega_answers::mega_operations::{Heard, OperationBase, Operation, Phase};
+use mega_answers::mega_operations::{Heard, Operation, OperationBase, Phase};
 use mega_answers::mega_step_work::{
     Action, End, Work, group_asked, is_at_once, is_indexed, is_pump, read_begun,
 };
 use mega_answers::{ActFault, Pumped, answer_now, indexed_answer, is_entering, picks};
+use mega_base::{Copied, GroupId, Items, NoMemory, OpId};
+use mega_disk::{Records, Versions};
 use mega_meanings::QueueHandlers;
 use mega_outcome::Request;
 use std::alloc::Global;

@@ -9,6 +9,6 @@ mod turning;
 
 pub use mega_answers;
 pub use mega_answers::{
-    mega_leases, mega_marks, mega_operations, mega_step_work, mega_pumps, mega_voter,
+    mega_leases, mega_marks, mega_operations, mega_pumps, mega_step_work, mega_voter,
 };
 pub use replica::Replica;

@@ -14,11 +14,11 @@ ghost use Rattle.mega_actions.specs.Turns.{IsServable, IsServableHeard, IsHeardA
 ghost use Rattle.mega_answers.specs.of_step_work.Working.{work_of};
 
 use crate::replica::Replica;
-use mega_base::Items;
-use mega_disk::{Records, Versions};
 use mega_answers::ActFault;
 use mega_answers::mega_operations::{Heard, Operation};
 use mega_answers::mega_step_work::{Action, End, Work};
+use mega_base::Items;
+use mega_disk::{Records, Versions};
 use mega_meanings::QueueHandlers;
 use std::alloc::Global;
 

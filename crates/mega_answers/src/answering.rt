@@ -29,11 +29,11 @@ use crate::outcomes::outcome_at;
 use mega_base::{Copied, Items, NoMemory, Position};
 use mega_disk::{Records, Versions};
 use mega_outcome::{Answer, Done, Mode, ReadRequest, Request, RowRef, Transaction, Turn};
+use mega_replica::StoredRows;
+use mega_schema::Schema;
 use mega_step_work::mega_operations::Members;
 use mega_step_work::mega_voter::Voter;
 use mega_step_work::{group_asked, mode_asked};
-use mega_replica::StoredRows;
-use mega_schema::Schema;
 use mega_view::read_all;
 use std::alloc::Global;
 

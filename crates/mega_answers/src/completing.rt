@@ -25,12 +25,12 @@ use crate::fault::ActFault;
 use crate::finishing::finishes;
 use mega_base::{Epoch, GroupId, NoMemory, Position};
 use mega_disk::{Records, Versions};
+use mega_read::Reading;
+use mega_replica::StoredRows;
 use mega_step_work::mega_leases::Leases;
 use mega_step_work::mega_operations::Members;
 use mega_step_work::mega_voter::Voter;
 use mega_step_work::{CompleteRead, Work};
-use mega_read::Reading;
-use mega_replica::StoredRows;
 use std::alloc::Global;
 
 /// All writes of a group through a position are stored.

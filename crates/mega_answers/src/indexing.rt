@@ -15,9 +15,9 @@ use crate::fault::ActFault;
 use mega_disk::{Records, Versions};
 use mega_marks::Indexed;
 use mega_outcome::{Answer, Request};
+use mega_replica::StoredRows;
 use mega_step_work::mega_operations::Members;
 use mega_step_work::mega_voter::Voter;
-use mega_replica::StoredRows;
 use std::alloc::Global;
 
 /// The answer of such a request; a refresh brings the indexes to what is applied.

@@ -32,12 +32,12 @@ use mega_base::{GroupId, Items, NoMemory, OpId, Position};
 use mega_disk::{Records, Versions};
 use mega_meanings::QueueHandlers;
 use mega_outcome::{Answer, Request};
-use mega_step_work::mega_leases::Leases;
-use mega_step_work::mega_operations::{Heard, OperationBase, Members, Operation, Promised};
-use mega_step_work::mega_voter::Voter;
-use mega_step_work::{Action, CompleteRead, End, Work, is_limit};
 use mega_pumps::{Digest, Own, Picked, applied_marks, enters, handles, visits};
 use mega_replica::StoredRows;
+use mega_step_work::mega_leases::Leases;
+use mega_step_work::mega_operations::{Heard, Members, Operation, OperationBase, Promised};
+use mega_step_work::mega_voter::Voter;
+use mega_step_work::{Action, CompleteRead, End, Work, is_limit};
 use std::alloc::Global;
 
 /// What a pump does: it is done for this step, or acts again in it, with the read of another group.

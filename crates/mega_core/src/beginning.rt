@@ -23,9 +23,9 @@ use mega_actions::mega_step_work::{Work, is_served};
 use mega_base::Items;
 use mega_disk::{Records, Versions};
 use mega_meanings::QueueHandlers;
+use mega_node_events::{at_open, next_op, refusal, unless_refused};
 use mega_outcome::Request;
 use mega_step_parts::{kind_of, missing_kind};
-use mega_node_events::{at_open, next_op, refusal, unless_refused};
 use std::alloc::Global;
 use std::mem;
 

@@ -14,9 +14,9 @@ use crate::fault::UpFault;
 use mega_core::Node;
 use mega_core::mega_step_parts::Step;
 use mega_disk::{Records, Versions};
-use mega_well_formed::are_items;
 use mega_voter::Voter;
 use mega_wal::LogFault;
+use mega_well_formed::are_items;
 use std::alloc::Global;
 
 /// The greatest number of items that a record has.

@@ -154,7 +154,11 @@ pub(crate) fn tick_notes(
 }
 
 /// Adds what a node notes of an epoch that its cell let lapse.
-fn add_lapse(notes: Items<LeaseNote>, node: u8, lapsed: Option<Epoch>) -> Result<Items<LeaseNote>, NoMemory>
+fn add_lapse(
+    notes: Items<LeaseNote>,
+    node: u8,
+    lapsed: Option<Epoch>,
+) -> Result<Items<LeaseNote>, NoMemory>
     ensures { IfOk result (λ made. made ≡ notes ++ lapsed_notes node lapsed) }
 {
     let mut made = notes;

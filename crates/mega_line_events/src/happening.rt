@@ -12,11 +12,11 @@ ghost use Rattle.mega_replay_output.specs.Stops.{IsEventStop, IsLineStop, IsWorl
 use mega_cluster::Cluster;
 use mega_field_ranges::hold;
 use mega_meanings::QueueHandlers;
+use mega_replay_output::Stop;
 use mega_schedule::{LineFault, WorldEvent, event};
 use mega_schema::Schema;
 use mega_transcript::Tape;
 use mega_world::{World, WorldFault};
-use mega_replay_output::Stop;
 use std::alloc::Global;
 
 /// The event that the line of this number spells.

@@ -2,9 +2,9 @@
 ghost use Rattle.std.specs.Prelude.{◌≡◌, ◌≤◌, ◌++◌, OnOk, length};
 ghost use Rattle.mega_picture.specs.ArrowNames.{right_name, left_name, message_name, name_if, arrow_names};
 
+use crate::item_line::ItemLine;
 use crate::kinds::{kind_name, kind_of};
 use crate::sheet::{Sheet, step};
-use crate::item_line::ItemLine;
 use mega_base::{Bytes, NoMemory};
 use mega_transcript::Item;
 use mega_wire::Message;

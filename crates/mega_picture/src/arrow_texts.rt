@@ -5,10 +5,10 @@ ghost use Rattle.mega_picture.specs.ArrowTexts.{class_of, line_path, back_path, 
 
 use crate::arrows::{Arrow, End, arrow_of};
 use crate::escape::put_fitted;
+use crate::item_line::ItemLine;
 use crate::journeys::Journeys;
 use crate::kinds::tone_of;
 use crate::sheet::{Sheet, step};
-use crate::item_line::ItemLine;
 use mega_base::{Bytes, NoMemory};
 use std::alloc::Global;
 

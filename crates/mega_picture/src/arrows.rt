@@ -4,9 +4,9 @@ ghost use Rattle.mega_picture.specs.declared.item_line.ItemLine.{ItemLine as Ite
 ghost use Rattle.mega_picture.specs.Rows.{Follows};
 ghost use Rattle.mega_picture.specs.Arrows.{end_of, arrow_with, is_row, again_of, arrow_of};
 
+use crate::item_line::ItemLine;
 use crate::journeys::{Journeys, message_at};
 use crate::kinds::position_of;
-use crate::item_line::ItemLine;
 use mega_transcript::Item;
 use mega_wire::Message;
 

@@ -2,8 +2,8 @@
 ghost use Rattle.std.specs.Prelude.{◌≡◌, ◌≤◌, ◌++◌, OnOk, length};
 ghost use Rattle.mega_picture.specs.Bands.{turn_if, turn_of, width_of, class_of, rect_text, band_text, ended, turned, since_after, band_texts};
 
-use crate::sheet::{Sheet, step};
 use crate::item_line::ItemLine;
+use crate::sheet::{Sheet, step};
 use mega_base::{Bytes, NoMemory};
 use mega_transcript::Item;
 use std::alloc::Global;

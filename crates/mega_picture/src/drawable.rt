@@ -4,8 +4,8 @@ ghost use Rattle.mega_picture.specs.declared.item_line.ItemLine.{ItemLine as Ite
 ghost use Rattle.mega_picture.specs.Rows.{Follows};
 ghost use Rattle.mega_picture.specs.Flaws.{greatest_node, is_before, is_sent_before, message_flaw, flaw_at, flaw_of};
 
-use crate::journeys::Journeys;
 use crate::item_line::ItemLine;
+use crate::journeys::Journeys;
 use mega_base::NoMemory;
 use mega_transcript::Item;
 use std::alloc::Global;

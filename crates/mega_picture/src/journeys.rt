@@ -49,7 +49,11 @@ fn note(rows: &mut BTreeMap<u64, u32>, number: Option<u64>, row: u32) -> Result<
 
 /// The row in which this first happens to each message.
 #[tactic(auto, using(crate::proofs::Indexing::first_row_on))]
-pub fn first_rows(alloc: Global, way: Way, told: &[ItemLine]) -> Result<BTreeMap<u64, u32>, NoMemory>
+pub fn first_rows(
+    alloc: Global,
+    way: Way,
+    told: &[ItemLine],
+) -> Result<BTreeMap<u64, u32>, NoMemory>
     requires { length told.now ≤ 4000 }
     ensures { IfOk result (λ rows. (n : ℕ) → get nat_cmp rows n ≡ first_row way n told.now) }
 {

@@ -5,12 +5,12 @@ ghost use Rattle.mega_picture.specs.MarkTexts.{x_of, beside_of, class_of, room_o
 
 use crate::escape::{put_cut, put_fitted};
 use crate::groups::Groups;
+use crate::item_line::ItemLine;
 use crate::journeys::Journeys;
 use crate::kinds::tone_of;
 use crate::labels::put_label;
 use crate::marks::{Mark, Place, mark_of, word_of};
 use crate::sheet::{Sheet, step};
-use crate::item_line::ItemLine;
 use mega_base::{Bytes, NoMemory};
 use std::alloc::Global;
 

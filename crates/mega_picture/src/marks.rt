@@ -4,8 +4,8 @@ ghost use Rattle.std.specs.Option.{option_copied};
 ghost use Rattle.mega_picture.specs.Rows.{Follows};
 ghost use Rattle.mega_picture.specs.Marks.{word_of, side_of, arrival_of, on_lane, across, taken_mark, dropped_mark, arrival_at, mark_of};
 
-use crate::journeys::{Journeys, message_at};
 use crate::item_line::ItemLine;
+use crate::journeys::{Journeys, message_at};
 use mega_transcript::Item;
 use mega_wire::Message;
 

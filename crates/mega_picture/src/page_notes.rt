@@ -2,9 +2,9 @@
 ghost use Rattle.std.specs.Prelude.{◌≡◌, ◌≤◌, ◌<◌, ◌++◌, OnOk, length, Option};
 ghost use Rattle.mega_picture.specs.Pages.{line_number, number_text, number_at, line_numbers, name_text, kind_text, name_at, lane_names, names_at, all_names, is_of_client, has_clients, clients, group_text, groups_from, writing};
 
+use crate::item_line::ItemLine;
 use crate::kinds::node_word;
 use crate::sheet::{NAMED, Sheet, step};
-use crate::item_line::ItemLine;
 use mega_base::{Bytes, NoMemory, NodeKind};
 use mega_transcript::Item;
 use std::alloc::Global;

@@ -13,7 +13,7 @@ use crate::picking::Picked;
 use mega_base::{Copied, GroupId, Items, NoMemory, OpId};
 use mega_disk::Records;
 use mega_leases::Leases;
-use mega_operations::{Heard, OperationBase, Members, Operation, Phase};
+use mega_operations::{Heard, Members, Operation, OperationBase, Phase};
 use mega_propose::is_same_group;
 use mega_read::local_read;
 use mega_voter::Voter;

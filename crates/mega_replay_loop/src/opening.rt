@@ -8,8 +8,8 @@ ghost use Rattle.mega_replay_output.specs.Stops.{IsOpeningStop};
 
 use mega_cluster::Cluster;
 use mega_line_events::mega_world::World;
-use mega_transcript::Tape;
 use mega_replay_output::Stop;
+use mega_transcript::Tape;
 use std::alloc::Global;
 
 /// Starts the nodes of a cluster, and puts that on the tape, which is empty before.

@@ -22,14 +22,14 @@ use crate::input::{Next, next_line};
 use crate::opening::opened;
 use mega_base::{Bytes, Items};
 use mega_cluster::Cluster;
+use mega_io::{LineReader, Sink, Source};
 use mega_line_events::mega_world::World;
 use mega_line_events::take_line;
-use mega_io::{LineReader, Sink, Source};
 use mega_meanings::QueueHandlers;
+use mega_replay_output::{Stop, tell, write_end};
 use mega_tally::Tally;
 use mega_transcript::Tape;
 use mega_words::Report;
-use mega_replay_output::{Stop, tell, write_end};
 use std::alloc::Global;
 
 /// How many lines a schedule may have.

@@ -14,8 +14,8 @@ use crate::replay::replay;
 use mega_base::Bytes;
 use mega_io::{Sink, Source};
 use mega_meanings::{BuiltIn, QueueHandlers};
-use mega_words::Report;
 use mega_replay_output::{Stop, write_on, write_stop};
+use mega_words::Report;
 use std::alloc::Global;
 
 /// Replays the input with the handlers that the store brings, and gives the status with which the program then ends.

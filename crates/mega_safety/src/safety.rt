@@ -11,8 +11,8 @@ ghost use Rattle.mega_safety.specs.declared.safety.Lapse.{Lapse as LapseValue};
 ghost use Rattle.mega_safety.specs.Lapses.{AreLapsesOf, is_lapse, lapse_cmp, lapse_of};
 
 use mega_base::{Epoch, Items, NoMemory, NodeId};
-use mega_step_work::{Answered, Valid};
 use mega_step_parts::Note;
+use mega_step_work::{Answered, Valid};
 use std::alloc::Global;
 use std::collections::BTreeSet;
 

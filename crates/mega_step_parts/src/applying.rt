@@ -10,9 +10,9 @@ ghost use Rattle.mega_step_parts.specs.Positions.{before_at, note_since};
 use crate::note::Note;
 use mega_base::{GroupId, Items, NoMemory};
 use mega_disk::{Records, Versions};
+use mega_replica::StoredRows;
 use mega_step_choices::applied_at;
 use mega_step_work::mega_voter::Voter;
-use mega_replica::StoredRows;
 use std::alloc::Global;
 
 /// The applied position of a group before a step.

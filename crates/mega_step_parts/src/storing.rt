@@ -16,8 +16,8 @@ ghost use Rattle.mega_step_parts.specs.Touching.{behind};
 use crate::deciding::Chosen;
 use mega_base::{GroupId, Items, NoMemory};
 use mega_disk::{Records, Versions};
-use mega_step_work::mega_voter::Voter;
 use mega_replica::StoredRows;
+use mega_step_work::mega_voter::Voter;
 use std::alloc::Global;
 
 /// Stores a portion of the group of a decision, at a node that keeps rows.

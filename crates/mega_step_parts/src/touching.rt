@@ -15,13 +15,13 @@ ghost use Rattle.mega_step_parts.specs.Touching.{asked_groups, begun_groups, nam
 use crate::deciding::tells_decision;
 use mega_base::{Copied, GroupId, Items, NoMemory};
 use mega_disk::{Records, Versions};
-use mega_step_choices::is_behind;
 use mega_outcome::Request;
 use mega_propose::is_same_group;
+use mega_replica::StoredRows;
+use mega_step_choices::is_behind;
 use mega_step_work::is_pump;
 use mega_step_work::mega_operations::{Heard, Operation, Phase, first_settled};
 use mega_step_work::mega_voter::Voter;
-use mega_replica::StoredRows;
 use mega_wire::Body;
 use std::alloc::Global;
 

@@ -12,9 +12,9 @@ mod work;
 pub use action::{Action, End};
 pub use complete_read::CompleteRead;
 pub use limit::is_limit;
-pub use mega_step_choices::read_begun;
 pub use mega_leases;
 pub use mega_operations;
+pub use mega_step_choices::read_begun;
 pub use mega_voter;
 pub use proposing::{Proposing, unless_decided};
 pub use serving::{

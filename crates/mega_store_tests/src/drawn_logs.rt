@@ -6,7 +6,7 @@ ghost use Rattle.mega_wal.specs.Items.{IsItem};
 
 use crate::calls::{Call, Kind, ballot, entry_of, epoch, group, node, number_of, position};
 use crate::draws::Draws;
-use crate::plain::{Plain, Seen, CallResult};
+use crate::plain::{CallResult, Plain, Seen};
 use mega_ballot::Ballot;
 use mega_base::{Epoch, GroupId, NodeId, Position};
 use mega_disk::MemRecords;

@@ -116,7 +116,8 @@ fn call(
             let number = draws.draw(1000) as i32;
             rows.put(alloc, &bytes, Position(at), row_of(rt, alloc, number))
                 .expect(rt, "refused");
-            list.push(ListedVersion { key, at, number }).expect(rt, "refused");
+            list.push(ListedVersion { key, at, number })
+                .expect(rt, "refused");
             (0, 0)
         }
         4 => {

@@ -7,7 +7,7 @@ ghost use Rattle.mega_two_driver.specs.Rows.{data_in, first_row, holder_told, li
 use crate::words::{has_word, same, unread_told};
 use mega_base::{Bytes, NoMemory};
 use mega_schedule::values::bytes_of;
-use mega_two_moves::{State, RequestResult};
+use mega_two_moves::{RequestResult, State};
 use serde_json::Value as Json;
 use std::alloc::Global;
 

@@ -16,7 +16,7 @@ use crate::tables::has_plans;
 use crate::words::{same, transaction_told};
 use mega_base::{Copied, NoMemory, Text};
 use mega_schema::Schema;
-use mega_two_moves::{Ended, Phase, State, RequestResult, by_state, ended_in, moved};
+use mega_two_moves::{Ended, Phase, RequestResult, State, by_state, ended_in, moved};
 use std::alloc::Global;
 
 /// A change of several groups: its requests, and where it is.
@@ -200,7 +200,12 @@ impl Two {
     }
 
     /// Takes a reply that shows the plan of the change that it recovers.
-    fn read_plan(&mut self, alloc: Global, reply: &[u8], told: RequestResult) -> Result<(), NoMemory>
+    fn read_plan(
+        &mut self,
+        alloc: Global,
+        reply: &[u8],
+        told: RequestResult,
+    ) -> Result<(), NoMemory>
         ensures ok { OnOk result (self.new ≡ read_plan self.old reply.now told) }
         ensures err { OnErr result (self.new ≡ self.old) }
     {

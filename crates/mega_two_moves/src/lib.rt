@@ -9,4 +9,4 @@ mod request_result;
 pub use finish::finish_of;
 pub use moves::{by_state, ended_in, moved};
 pub use phase::{Ended, Phase};
-pub use request_result::{State, RequestResult};
+pub use request_result::{RequestResult, State};

@@ -3,7 +3,7 @@ ghost use Rattle.std.specs.Prelude.{◌≡◌, ◌+◌};
 ghost use Rattle.mega_two_moves.specs.Moves.{by_state, checked, decided, ended_in, ending_of, finished, finishing, looked, moved, planned, prepared, preparing};
 
 use crate::phase::{Ended, Phase};
-use crate::request_result::{State, RequestResult};
+use crate::request_result::{RequestResult, State};
 
 /// The parts from this one on are prepared, and then the change is made.
 fn preparing(count: usize, part: usize) -> Phase

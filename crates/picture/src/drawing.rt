@@ -11,7 +11,7 @@ use crate::stop::Stop;
 use crate::words::Window;
 use mega_base::{Bytes, NodeKind};
 use mega_cluster::Cluster;
-use mega_picture::{Flaw, MOST, ItemLine, flaw_of, put_page};
+use mega_picture::{Flaw, ItemLine, MOST, flaw_of, put_page};
 use std::alloc::Global;
 
 /// The page of items, unless one of them has a flaw.
