@@ -1,11 +1,9 @@
 -- Every run: an entry that handles a message is what the handler made of it that stood under the queue in the step in which the entry was made, and each answer
 -- has its cause under the handlers of its step.
-use Rattle.std.proofs.Common.{◌≡◌, ◌⊎◌, inl, inr, ℕ, zero, suc, ◌+◌, ◌<◌, Bool, true, false, cond, List, [], ◌∷◌, ◌++◌, length, map, take, slice_get, Option, Some, None, refl, sym, ap, ◌∙◌, subst, arith}
+use Rattle.std.proofs.Common.{◌≡◌, ◌⊎◌, inl, inr, ℕ, zero, suc, ◌+◌, ◌<◌, Bool, true, false, cond, List, [], ◌∷◌, ◌++◌, take, slice_get, Option, Some, refl, sym, ap, ◌∙◌, subst, arith}
 use Rattle.std.specs.Prelude.{Contains}
-use Rattle.std.specs.List.{cons_option}
 use Rattle.mega_base.specs.declared.names.GroupId.{GroupId}
 use Rattle.mega_base.specs.declared.names.OpId.{OpId}
-use Rattle.mega_base.specs.declared.names.Position.{Position}
 use Rattle.mega_ballot.specs.declared.ballot.Ballot.{Ballot}
 use Rattle.mega_ballot.specs.Order.{zero_ballot}
 use Rattle.mega_cluster.specs.declared.cluster.Cluster.{Cluster}
@@ -31,7 +29,7 @@ use Rattle.mega_run_laws.specs.of_promises.Promises.{Stands, handled_by, log_of}
 use Rattle.mega_run_laws.specs.of_promises.Runs.{Cuts, Happening, IsRun, goes_on, opening}
 use Rattle.mega_run_laws.specs.of_rules.Queues.{oldest_unhandled}
 use Rattle.mega_run_laws.specs.of_tape_laws.Places.{In, Move, Place, Prepares, Proposes, is_move_at, move_in, move_of, moves}
-use Rattle.mega_run_laws.specs.of_tape_laws.Writes.{Knows, LawfulWrites, OwnEntry, Usage, enters, fills, handles, runs, runs_all}
+use Rattle.mega_run_laws.specs.of_tape_laws.Writes.{LawfulWrites, OwnEntry, Usage, enters, fills, handles, runs, runs_all}
 use Rattle.mega_run_laws.proofs.of_tape_laws.Entries.{entry_decided, known_front}
 use Rattle.mega_run_laws.proofs.of_tape_laws.Lists.{from_cons, kept}
 use Rattle.mega_run_laws.proofs.of_tape_laws.Logs.{Decided}
@@ -46,7 +44,7 @@ use Rattle.mega_answer_laws.proofs.Runs.{run_answers}
 use Rattle.mega_handled_laws.specs.Meant.{AreMeant}
 use Rattle.mega_handled_laws.proofs.Made.{IsProposed}
 use Rattle.mega_handled_laws.proofs.Meant.{meant_fits, usage_of}
-use Rattle.mega_handled_laws.proofs.Runs.{IsHandling, IsSaid, Opens, Said, SaidAt, goes_said, stands_on}
+use Rattle.mega_handled_laws.proofs.Runs.{IsHandling, IsSaid, Opens, Said, goes_said, stands_on}
 use Rattle.mega_handled_laws.proofs.Since.{Later, regroup}
 
 -- ---- the first proposal

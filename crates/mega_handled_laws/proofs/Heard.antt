@@ -1,5 +1,5 @@
 -- What an open operation sends as it hears a message, or as it does what is due: of entries with its own id it proposes only what it proposed before.
-use Rattle.std.proofs.Common.{◌≡◌, ◌⊎◌, inl, inr, ℕ, ◌+◌, List, [], ◌∷◌, Option, Some, refl, sym, ap, ◌∙◌, subst}
+use Rattle.std.proofs.Common.{◌≡◌, ◌⊎◌, inl, inr, ℕ, ◌+◌, List, [], ◌∷◌, Option, Some, sym, ap, ◌∙◌, subst}
 use Rattle.std.specs.List.{cons_option}
 use Rattle.mega_base.specs.declared.names.GroupId.{GroupId}
 use Rattle.mega_base.specs.declared.names.OpId.{OpId}
@@ -94,7 +94,7 @@ module _ (s : Setting) (usage : Usage) (tape : List Item) (log : GroupId → Lis
         none = none;
       }
 
-      abbrev OnNode : OpId → Type 0
+      abbrev pub OnNode : OpId → Type 0
       OnNode op = op.node.0 ≡ s.me
 
       heard_by : (clock : ℕ) (m : Message) (id : OpId) (request : Request) (began : ℕ) (visited : List GroupId) (posted : Option Enter) (phase : Phase)

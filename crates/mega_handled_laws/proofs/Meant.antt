@@ -14,7 +14,7 @@ use Rattle.mega_run_laws.proofs.Turns.{each_on, each_zip}
 use Rattle.mega_handled_laws.specs.Meant.{AreMeant}
 
 -- as many items as events before it
-abbrev handlers_at : List Happening → List Item → Meanings
+abbrev pub handlers_at : List Happening → List Item → Meanings
 handlers_at [] moment = []
 handlers_at (one ∷ later) [] = one.handlers
 handlers_at (one ∷ later) (item ∷ moment) = handlers_at later moment

@@ -1,5 +1,5 @@
 -- Every run: each message that is sent proposes with its operation's id only what was proposed before, or what the operation made under the handlers of the event.
-use Rattle.std.proofs.Common.{◌≡◌, ◌⊎◌, inl, inr, ℕ, zero, suc, ◌+◌, ◌==◌, ◌&&◌, Bool, true, false, not, cond, List, [], ◌∷◌, ◌++◌, flat_map, fold, length, take, Option, Some, None, refl, sym, ap, ◌∙◌, subst, arith}
+use Rattle.std.proofs.Common.{◌≡◌, ◌⊎◌, inl, inr, ℕ, zero, suc, ◌+◌, ◌==◌, ◌&&◌, true, false, not, cond, List, [], ◌∷◌, ◌++◌, flat_map, fold, length, take, Option, Some, None, refl, sym, ap, ◌∙◌, subst, arith}
 use Rattle.std.proofs.lemmas.Bool.{and_parts, not-false}
 use Rattle.mega_base.specs.declared.names.GroupId.{GroupId}
 use Rattle.mega_base.specs.declared.names.OpId.{OpId}
@@ -18,7 +18,7 @@ use Rattle.mega_wire.specs.declared.message.Body.TheVariants.{Accept}
 use Rattle.mega_run_laws.specs.of_tape_laws.of_schedule.declared.world_event.WorldEvent.{WorldEvent}
 use Rattle.mega_run_laws.specs.of_tape_laws.of_schedule.declared.world_event.WorldEvent.TheVariants.{Tick as TickEvent, Deliver, Drop, Drain, Crash as CrashEvent, Start as StartEvent, Fuse as FuseEvent, Begin as BeginEvent}
 use Rattle.mega_run_laws.specs.of_transcript.declared.item.Item.{Item}
-use Rattle.mega_run_laws.specs.of_transcript.declared.item.Item.TheVariants.{Begin as BeginItem, Crash, Cut as CutItem, Decide, Dropped, Sent, Taken, Tick as TickItem}
+use Rattle.mega_run_laws.specs.of_transcript.declared.item.Item.TheVariants.{Begin as BeginItem, Crash, Cut as CutItem, Dropped, Sent, Taken, Tick as TickItem}
 use Rattle.mega_run_laws.specs.of_transcript.Tape.{is_sent, is_taken, sent_count}
 use Rattle.mega_run_laws.specs.of_promises.Items.{number, numbered, shown}
 use Rattle.mega_run_laws.specs.of_promises.Messages.{is_dropped, is_deliverable, message_of, next_delivery, receiver_up}
@@ -33,7 +33,7 @@ use Rattle.mega_run_laws.specs.of_rules.Operations.{Node}
 use Rattle.mega_run_laws.specs.of_rules.Queues.{oldest_unhandled}
 use Rattle.mega_run_laws.specs.of_rules.Steps.{Begin, Event, Step, Take, Tick, crashed, op_of, start, start_items, step}
 use Rattle.mega_run_laws.specs.of_tape_laws.Lawful.{message}
-use Rattle.mega_run_laws.specs.of_tape_laws.Places.{In, Place, Proposes, Took, moves}
+use Rattle.mega_run_laws.specs.of_tape_laws.Places.{Place, Proposes, Took, moves}
 use Rattle.mega_run_laws.specs.of_tape_laws.Writes.{Knows, Usage}
 use Rattle.mega_run_laws.proofs.of_tape_laws.Ballots.{number_self}
 use Rattle.mega_run_laws.proofs.of_tape_laws.Lists.{in_tail}

@@ -1,5 +1,5 @@
 -- What came onto a tape since a moment, and what holds of each message that was sent since by what stood before.
-use Rattle.std.proofs.Common.{◌≡◌, ℕ, ◌+◌, ◌&&◌, Bool, true, false, not, cond, List, [], ◌∷◌, ◌++◌, refl, sym, ap, ◌∙◌, subst}
+use Rattle.std.proofs.Common.{◌≡◌, ℕ, ◌+◌, ◌&&◌, Bool, true, false, not, cond, List, [], ◌∷◌, ◌++◌, refl, ap, ◌∙◌, subst}
 use Rattle.mega_cluster.specs.declared.cluster.Cluster.{Cluster}
 use Rattle.mega_wire.specs.declared.message.Message.{Message}
 use Rattle.mega_run_laws.specs.of_transcript.declared.item.Item.{Item}

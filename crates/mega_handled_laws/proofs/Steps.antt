@@ -1,5 +1,5 @@
 -- A step of a node: each message that it sends proposes with its operation's id only what was proposed before, or what the operation made in this step.
-use Rattle.std.proofs.Common.{◌≡◌, inl, inr, ℕ, ◌+◌, List, [], ◌∷◌, ◌++◌, map, fold, Option, Some, None, refl, sym, ◌∙◌}
+use Rattle.std.proofs.Common.{◌≡◌, inr, ℕ, ◌+◌, List, [], ◌∷◌, ◌++◌, map, fold, Option, Some, None, refl, sym, ◌∙◌}
 use Rattle.mega_base.specs.declared.names.GroupId.{GroupId}
 use Rattle.mega_base.specs.declared.names.OpId.{OpId}
 use Rattle.mega_coordinator.specs.declared.answers.NotValid.{NotValid}
@@ -17,7 +17,7 @@ use Rattle.mega_run_laws.specs.of_rules.Met.{Begins, Met, Takes, Ticks, Validate
 use Rattle.mega_run_laws.specs.of_rules.Operations.{Node, Now, Operation, Setting}
 use Rattle.mega_run_laws.specs.of_rules.Acting.{validated_by}
 use Rattle.mega_run_laws.specs.of_rules.Replies.{reply_to}
-use Rattle.mega_run_laws.specs.of_rules.Steps.{Begin, Decision, Heard, Take, Tick, all_act, at_first, at_open, background, begin_step, decision_note, does_due, first_settled, hears_message, if_new, lapse_notes, lease_notes, new_operation, news, onto, op_of, portion_of, refusal, stored_after, take_step, taken, tick_step, ticked, told_decision, told_notes, unless_refused}
+use Rattle.mega_run_laws.specs.of_rules.Steps.{Begin, Decision, Heard, Take, Tick, all_act, at_first, at_open, background, begin_step, decision_note, does_due, first_settled, hears_message, if_new, lapse_notes, lease_notes, new_operation, news, onto, op_of, portion_of, refusal, stored_after, take_step, taken, tick_step, ticked, told_decision, told_notes}
 use Rattle.mega_run_laws.specs.of_tape_laws.Lawful.{Lawful, message}
 use Rattle.mega_run_laws.specs.of_tape_laws.Places.{Took}
 use Rattle.mega_run_laws.specs.of_tape_laws.Writes.{AreWritten, Usage}
@@ -35,11 +35,11 @@ abbrev pub logs_of : List Met → GroupId → List Content
 logs_of met group = log_of met group
 
 module _ (s : Setting) (usage : Usage) (tape : List Item) where
-  abbrev OnNode : OpId → Type 0
+  abbrev pub OnNode : OpId → Type 0
   OnNode op = op.node.0 ≡ s.me
 
   module _ (log : GroupId → List Content) where
-    abbrev SaysAt : Message → Type 0
+    abbrev pub SaysAt : Message → Type 0
     SaysAt m = Says s usage tape log m
 
     -- a node within the step has these logs, and sent only such messages
@@ -105,8 +105,8 @@ module _ (s : Setting) (usage : Usage) (tape : List Item) where
       take_by_says : (told : Option Decision)
           → ((group : GroupId) → log_of (take_by s node m ts told).node.met group ≡ log_of (onto (decision_note (if_new node.met (or_settled told (first_settled ts)))) (onto (told_notes s node.met m.from m.body) (Takes m ∷ node.met))) group)
           → Each (SaysAt (logs_of (take_by s node m ts told).node.met)) (take_by s node m ts told).sends
-      take_by_says (Some d) same = taken_says _ (if_new node.met (Some d)) [] tt (λ group. sym (same group))
-      take_by_says None same = taken_says _ (if_new node.met (first_settled ts)) (news s (if_new node.met (first_settled ts))) (news_quiet s (if_new node.met (first_settled ts))) (λ group. sym (same group))
+      take_by_says (Some d) same = taken_says (logs_of (take_by s node m ts (Some d)).node.met) (if_new node.met (Some d)) [] tt (λ group. sym (same group))
+      take_by_says None same = taken_says (logs_of (take_by s node m ts None).node.met) (if_new node.met (first_settled ts)) (news s (if_new node.met (first_settled ts))) (news_quiet s (if_new node.met (first_settled ts))) (λ group. sym (same group))
 
       pub take_says : Each (SaysAt (logs_of (take_step s node m).node.met)) (take_step s node m).sends
       take_says = take_by_says (told_decision m.body) (step_ends s node (Take m)).logs

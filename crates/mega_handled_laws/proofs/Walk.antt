@@ -26,18 +26,19 @@ use Rattle.mega_run_laws.specs.of_rules.of_read.declared.reading.Reading.{Readin
 use Rattle.mega_run_laws.specs.of_rules.of_read.declared.reading.Stage.{Stage}
 use Rattle.mega_run_laws.specs.of_rules.of_read.declared.reading.Stage.TheVariants.{Polling, Catching}
 use Rattle.mega_run_laws.specs.of_rules.of_read.Catching.{asked_by, seeks, site}
+use Rattle.mega_run_laws.specs.of_rules.of_replica.Applying.{after_read}
 use Rattle.mega_run_laws.specs.of_rules.Clock.{clock_of}
 use Rattle.mega_run_laws.specs.of_rules.Coordinators.{refused_at}
 use Rattle.mega_run_laws.specs.of_rules.Logs.{decided, groups_of, log_of, prefix_of}
 use Rattle.mega_run_laws.specs.of_rules.Met.{Validates}
 use Rattle.mega_run_laws.specs.of_rules.Queues.{Posted, enter_entry, is_named, names_entered, next_to_enter, next_to_handle, oldest_unhandled}
 use Rattle.mega_run_laws.specs.of_rules.Operations.{Now, Operation, Phase, Promised, Proposes, Reads, Replies, Results, Setting}
-use Rattle.mega_run_laws.specs.of_rules.Acting.{acts, acts_within, applied_logs, batch_sealed, begins_read, completes_read, ends, enters, finishes, goes_on, handles, handling, is_taken, keeps, leader_after, listed_at, picks_group, picks_message, proposes, proposes_by, read_begun, reader_of, reads_on, rows_at, sealed, sends_more, table_rows, unless_decided, unless_full, validated_by, validates, visiting}
-use Rattle.mega_run_laws.specs.of_rules.Steps.{Heard, acts_in_turn, all_act, begins, does_due, find_begins, is_out, last_answer, local_find_begins, read_begins, ticked, unless_refused}
+use Rattle.mega_run_laws.specs.of_rules.Acting.{acts, acts_within, applied_logs, batch_sealed, begins_read, completes_read, ends, enters, finishes, goes_on, handles, handling, is_taken, keeps, leader_after, listed_at, picks_group, picks_message, proposes, proposes_by, read_begun, reader_of, reads_on, rows_at, sealed, sends_more, stored_with, table_rows, unless_decided, unless_full, validated_by, validates, visiting}
+use Rattle.mega_run_laws.specs.of_rules.Steps.{Heard, acts_in_turn, all_act, begins, does_due, find_begins, is_out, local_find_begins, read_begins, ticked, unless_refused}
 use Rattle.mega_run_laws.specs.Justified.{Each}
 use Rattle.mega_run_laws.proofs.Prefixes.{prefix_more}
 use Rattle.mega_run_laws.proofs.Turns.{each_on}
-use Rattle.mega_handled_laws.proofs.Made.{ByHandler, IsMade}
+use Rattle.mega_handled_laws.proofs.Made.{IsMade}
 use Rattle.mega_handled_laws.proofs.Quiet.{AreQuiet, Quiet, begun_quiet, seeks_quiet}
 
 -- what an operation makes of its own over a log through a position
@@ -150,11 +151,14 @@ module _ (s : Setting) (On : OpId → Type 0) (A : Message → Type 0) (P : Now 
       reads_on_it now request phase group noted asked (Polling heard best at) h = l.keeps_it now (one request phase) h
       reads_on_it now request phase group noted asked (Catching p search) h = either_so (nat_le p (prefix_of now.met group)) _ _
           (λ has_all. finishes_it (completes_read s now group r p) request phase group r p
-          (completed s _ group p noted (le_is p (prefix_of now.met group) has_all)) (validates_fact _ group p noted (l.stores_it now _ h)))
+          (completed s filled group p noted (le_is p (prefix_of now.met group) has_all)) (validates_fact filled group p noted (l.stores_it now (filled.stored) h)))
           (l.keeps_it _ _ (quiet_it now (seeks (reader_of s id group) r (prefix_of now.met group + 1) (clock_of now.met)).sends (seeks_quiet (reader_of s id group) r (prefix_of now.met group + 1) (clock_of now.met)) h))
         where
           r : Reading
           r = record { noted = noted; asked = asked; stage = Catching p search }
+
+          filled : Now
+          filled = record now { stored = stored_with now.stored group (after_read p (log_of now.met group) (now.stored group)) }
 
       acts_by : (now : Now) (request : Request) (phase : Phase) → P now → P (acts s again now (one request phase))
       acts_by now request (Reads group r) h = reads_on_it now request (Reads group r) group r.noted r.asked r.stage h
