@@ -120,7 +120,7 @@ opening_at c h before from (Accept o g n d f) op p b e tells id none said = by (
     by (inr opens) = record {
       from_is = opens.from ∙ ap (λ (x : OpId). x.node.0) at.0;
       body_is = λ i. Accept (at.0 i) (at.1 i).group (at.1 i).position (opens.at_zero i) (entry i);
-      made = coe 0 1 (i. ((entry i).handles ≡ []) ⊎ IsHandling c h before (at.0 i) (at.1 i).group (at.1 i).position.0 (entry i)) opens.made;
+      made = coe 0 1 (i. ((entry i).handles ≡ []) ⊎ IsHandling c h before (at.0 i) (at.1 i).group ((at.1 i).position).0 (entry i)) opens.made;
     }
 opening_at c h before from (Prepare o g n d) op p b e tells id none said = let clashing = (move_is (is_move_at op p o g n) (Prepares d) (Proposes b e) tells).1 in cc
 opening_at c h before from _ op p b e tells id none said = cc

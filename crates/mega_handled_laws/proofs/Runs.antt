@@ -33,7 +33,7 @@ use Rattle.mega_run_laws.specs.of_rules.Operations.{Node}
 use Rattle.mega_run_laws.specs.of_rules.Queues.{oldest_unhandled}
 use Rattle.mega_run_laws.specs.of_rules.Steps.{Begin, Event, Step, Take, Tick, crashed, op_of, start, start_items, step}
 use Rattle.mega_run_laws.specs.of_tape_laws.Lawful.{message}
-use Rattle.mega_run_laws.specs.of_tape_laws.Places.{Place, Proposes, Took, moves}
+use Rattle.mega_run_laws.specs.of_tape_laws.Places.{Place, Proposes, Took, move_of, moves}
 use Rattle.mega_run_laws.specs.of_tape_laws.Writes.{Knows, Usage}
 use Rattle.mega_run_laws.proofs.of_tape_laws.Ballots.{number_self}
 use Rattle.mega_run_laws.proofs.of_tape_laws.Lists.{in_tail}
@@ -79,7 +79,7 @@ SaidAt c h tape m = Said c h tape m.from m.body
 proposed_later : (piece tape : List Item) (op : OpId) (p : Place) (e : Content) → IsProposed tape op p e → IsProposed (piece ++ tape) op p e
 proposed_later [] tape op p e h = h
 proposed_later (item ∷ piece) tape op p e h =
-    let rest = proposed_later piece tape op p e h in record { ballot = rest.ballot; stands = in_tail _ (moves (piece ++ tape) op p) (Proposes rest.ballot e) rest.stands }
+    let rest = proposed_later piece tape op p e h in record { ballot = rest.ballot; stands = in_tail (move_of op p item) (moves (piece ++ tape) op p) (Proposes rest.ballot e) rest.stands }
 
 pub proposed_on : (old new : List Item) (op : OpId) (p : Place) (e : Content) → Later old new → IsProposed old op p e → IsProposed new op p e
 proposed_on old new op p e l h = subst (λ t. IsProposed t op p e) (sym l.is) (proposed_later l.piece old op p e h)
