@@ -118,7 +118,7 @@ opening_at c h before from (Accept o g n d f) op p b e tells id none said = by (
     by : IsProposed before o (record { group = g; position = n }) f ⊎ Opens c h before from o g n d f → IsOpening c h before from (Accept o g n d f) op p e
     by (inl was) = absurd (none was.ballot (coe 0 1 (i. In (Proposes was.ballot (entry i)) (moves before (at.0 i) (at.1 i))) was.stands))
     by (inr opens) = record {
-      from_is = opens.from ∙ ap (λ (x : OpId). x.node.0) at.0;
+      from_is = opens.from_is ∙ ap (λ (x : OpId). x.node.0) at.0;
       body_is = λ i. Accept (at.0 i) (at.1 i).group (at.1 i).position (opens.at_zero i) (entry i);
       made = coe 0 1 (i. ((entry i).handles ≡ []) ⊎ IsHandling c h before (at.0 i) (at.1 i).group ((at.1 i).position).0 (entry i)) opens.made;
     }
@@ -245,17 +245,21 @@ module _ (c : Cluster) (usage : Usage) (first : Meanings) (events : List Happeni
 
 answers_during : (c : Cluster) (meaning : List ℕ → Option Request) (first : Meanings) (cuts : Cuts) (events : List Happening) (before : List Item) (op : OpId) (answer : Answer) → IsAnswered c meaning first cuts events before op answer
     → (handlers : Meanings) × IsDuring c first cuts events before handlers × HasCause c meaning handlers before op answer
-answers_during c meaning first cuts events before op answer a = ((a.event).handlers, record {
-  earlier = a.past;
-  one = a.event;
-  later = a.later;
-  events_are = a.are;
-  handlers_are = refl;
-  since = a.more;
-  moment_is = a.behind;
-  rest = (a.stood).later ++ AnswerItem op answer ∷ [];
-  piece_is = (a.stood).is ∙ regroup (a.stood).later (AnswerItem op answer ∷ []) before;
-}, a.cause)
+answers_during c meaning first cuts events before op answer a = (
+  (a.event).handlers,
+  record {
+    earlier = a.past;
+    one = a.event;
+    later = a.later;
+    events_are = a.are;
+    handlers_are = refl;
+    since = a.more;
+    moment_is = a.behind;
+    rest = (a.stood).later ++ AnswerItem op answer ∷ [];
+    piece_is = (a.stood).is ∙ regroup (a.stood).later (AnswerItem op answer ∷ []) before;
+  },
+  a.cause,
+)
 
 -- ---- runs
 

@@ -42,7 +42,7 @@ made_on c h log other op group n e same (inr by) = inr (subst (λ l. ByHandler c
 -- an operation of this node proposes what it made, first at ballot zero
 pub record IsOpened (c : Cluster) (h : Meanings) (log : GroupId → List Content) (me from : ℕ) (op : OpId) (group : GroupId) (n : Position) (b : Ballot) (e : Content) : Type 0 where
   pub at_zero : b ≡ zero_ballot
-  pub from : from ≡ op.node.0
+  pub from_is : from ≡ op.node.0
   pub node : op.node.0 ≡ me
   pub made : IsMade c h (log group) op group n.0 e
 

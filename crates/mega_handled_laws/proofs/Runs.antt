@@ -66,7 +66,7 @@ pub record IsHandling (c : Cluster) (h : Meanings) (tape : List Item) (op : OpId
 -- an operation first proposes what it made
 pub record Opens (c : Cluster) (h : Meanings) (tape : List Item) (from : ℕ) (op : OpId) (group : GroupId) (n : Position) (b : Ballot) (e : Content) : Type 0 where
   pub at_zero : b ≡ zero_ballot
-  pub from : from ≡ op.node.0
+  pub from_is : from ≡ op.node.0
   pub made : (e.handles ≡ []) ⊎ IsHandling c h tape op group n.0 e
 
 abbrev pub Said : Cluster → Meanings → List Item → ℕ → Body → Type 0
@@ -113,7 +113,7 @@ module _ (c : Cluster) (h : Meanings) (first base before : List Item) (me : ℕ)
       by : IsProposed first op (record { group = group; position = n }) e ⊎ IsOpened c h (logs_of met) me from op group n b e
           → IsProposed before op (record { group = group; position = n }) e ⊎ Opens c h before from op group n b e
       by (inl was) = inl (proposed_on first before op (record { group = group; position = n }) e (later_then first base before start later) was)
-      by (inr o) = inr (record { at_zero = o.at_zero; from = o.from; made = made_said op group n e o.node o.made })
+      by (inr o) = inr (record { at_zero = o.at_zero; from_is = o.from_is; made = made_said op group n e o.node o.made })
   says_said from _ says = tt
 
 -- ---- what an event leads to

@@ -62,7 +62,7 @@ module _ (s : Setting) (usage : Usage) (tape : List Item) where
       asks_it = λ now op group asked p leader own on made h. record {
         same = h.same;
         says = each_append SaysAt now.sends _ h.says
-            ((λ id. inr (record { at_zero = refl; from = refl; node = on; made = made_on s.cluster s.handlers (log_of now.met group) (log group) op group (p + 1) own (h.same group) made })), tt);
+            ((λ id. inr (record { at_zero = refl; from_is = refl; node = on; made = made_on s.cluster s.handlers (log_of now.met group) (log group) op group (p + 1) own (h.same group) made })), tt);
       };
       stores_it = λ now stored h. record { same = h.same; says = h.says };
       validates_it = λ now group p refusal h. validated now group p refusal h;
