@@ -3,7 +3,7 @@ use Rattle.std.proofs.Common.{◌≡◌, ℕ, ◌+◌, ◌-◌, ◌<◌, ◌≤�
 use Rattle.std.specs.List.{All}
 use Rattle.std.proofs.lemmas.Bool.Decides.{nat_tests}
 use Rattle.std.proofs.lemmas.List.{append_assoc, append-nil, map-append}
-use Rattle.std.proofs.lemmas.List.Elements.{All-append, All-cons, All-head, All-nil, All-push, All-tail}
+use Rattle.std.proofs.lemmas.List.Elements.{All-append, All-cons, All-head, All-nil, All-push, All-tail, All-weaker}
 use Rattle.mega_base.specs.declared.names.GroupId.{GroupId}
 use Rattle.mega_base.specs.declared.names.OpId.{OpId}
 use Rattle.mega_coordinator.specs.declared.answers.NotValid.{NotValid}
@@ -196,7 +196,7 @@ first_of : (met : List Met) (stored : GroupId → ℕ) → Sofar [] [] (at_first
 first_of met stored = record { kept_are = refl; answers_are = refl; valid = nothing }
 
 -- a tick, and a message
-tick_went : (s : Setting) (node : Node) (now : ℕ) → Went (ids node.open_operations) (Ticks now ∷ node.met) (tick_step s node now)
+pub tick_went : (s : Setting) (node : Node) (now : ℕ) → Went (ids node.open_operations) (Ticks now ∷ node.met) (tick_step s node now)
 tick_went s node now =
     went node (Ticks now) (lease_notes s node.met now) (lapse_notes s node.met now) (apply_notes s node.met node.stored acc.met acc.stored)
     ((acquires_at s.cluster s.me node.met now ++ acc.sends) ++ background s node.met now) acc (ids node.open_operations)
@@ -238,7 +238,7 @@ by_told : (s : Setting) (node : Node) (m : Message) (ts : List Heard) (told : Op
 by_told s node m ts (Some d) = taken_went s node m ts (if_new node.met (Some d)) []
 by_told s node m ts None = taken_went s node m ts (if_new node.met (first_settled ts)) (news s (if_new node.met (first_settled ts)))
 
-take_went : (s : Setting) (node : Node) (m : Message) → Went (ids node.open_operations) (Takes m ∷ node.met) (take_step s node m)
+pub take_went : (s : Setting) (node : Node) (m : Message) → Went (ids node.open_operations) (Takes m ∷ node.met) (take_step s node m)
 take_went s node m = subst (λ before. Went before (Takes m ∷ node.met) (take_step s node m)) (heard_ops s (clock_of node.met) m node.open_operations)
     (by_told s node m (map (hears_message s (clock_of node.met) m) node.open_operations) (told_decision m.body))
 
@@ -273,7 +273,7 @@ with_new open_ones op now came = record {
   };
 }
 
-begin_went : (s : Setting) (node : Node) (request : Request) (text : List ℕ)
+pub begin_went : (s : Setting) (node : Node) (request : Request) (text : List ℕ)
     → Went (ids node.open_operations ++ op_of s node.met ∷ []) (Begins (op_of s node.met) text ∷ node.met) (begin_step s node request text)
 begin_went s node request text =
     went node own [] [] (apply_notes s node.met node.stored now.met now.stored) now.sends now (ids node.open_operations ++ op_of s node.met ∷ [])
@@ -289,3 +289,83 @@ begin_went s node request text =
 
     now : Now
     now = unless_refused s first (new_operation (op_of s node.met) request (clock_of node.met)) (refusal s node request)
+
+-- ---- numbers
+
+abbrev pub IsBelow : ℕ → OpId → Type 0
+IsBelow n op = op.number < n
+
+abbrev pub IsWithin : ℕ → OpId → Type 0
+IsWithin n op = op.number ≤ n
+
+-- what holds of all the operations of a step holds of those that stay
+staying_all : (P : OpId → Type 0) (fates : List Fate) → All P (map op_in fates) → All P (flat_map staying fates)
+staying_all P [] h = All-nil P
+staying_all P (Stays op ∷ fates) h = All-cons P op (flat_map staying fates) (All-head P op (map op_in fates) h) (staying_all P fates (All-tail P op (map op_in fates) h))
+staying_all P (Ends op answer ∷ fates) h = staying_all P fates (All-tail P op (map op_in fates) h)
+
+open_all : (P : OpId → Type 0) (before : List OpId) (base : List Met) (made : Step) → Went before base made → All P before → All P (ids made.node.open_operations)
+open_all P before base made w h = subst (All P) (sym w.open_are) (staying_all P w.fates (subst (All P) (sym w.ops_are) h))
+
+less_is : (a b : ℕ) → nat_le a b ≡ false → b < a
+less_is a b h = grind (arith, nat_tests)
+
+below_next : (b last : ℕ) → nat_le (last - 1) b ≡ false → min (b + 1) last < min ((b + 1) + 1) last
+below_next b last h = let less = less_is (last - 1) b h in omega (arith, less)
+
+below_more : (b last n : ℕ) → n < min (b + 1) last → n < min ((b + 1) + 1) last
+below_more b last n less = omega (arith, less)
+
+within_begun : (b last n : ℕ) → n < min (b + 1) last → n ≤ b
+within_begun b last n less = omega (arith, less)
+
+next_within : (b last : ℕ) → min (b + 1) last ≤ b + 1
+next_within b last = omega arith
+
+-- each open operation has a number below that of the next one; and each that is worn is answered at once
+abbrev pub AreBelow : Node → Type 0
+AreBelow node = All (IsBelow (min (begun_of node.met + 1) last_number)) (ids node.open_operations)
+
+pub below_still : (node : Node) (base : List Met) (made : Step) → Went (ids node.open_operations) base made → begun_of base ≡ begun_of node.met → AreBelow node → AreBelow made.node
+below_still node base made w same h =
+    subst (λ b. All (IsBelow (min (b + 1) last_number)) (ids made.node.open_operations)) (sym (w.begun ∙ same))
+    (open_all (IsBelow (min (begun_of node.met + 1) last_number)) (ids node.open_operations) base made w h)
+
+worn_open : (s : Setting) (node : Node) (request : Request) (text : List ℕ) → is_worn node.met ≡ true → (begin_step s node request text).node.open_operations ≡ node.open_operations
+worn_open s node request text worn = ap (λ t. (unless_refused s first (new_operation (op_of s node.met) request (clock_of node.met))
+    (cond t (Some Worn) (unless_missing node.open_operations (missing_kind request (kind_of s.cluster s.me))))).kept) worn
+  where
+    first : Now
+    first = at_open (at_first (Begins (op_of s node.met) text ∷ node.met) node.stored) node.open_operations
+
+pub below_begun : (s : Setting) (node : Node) (request : Request) (text : List ℕ) → AreBelow node → AreBelow (begin_step s node request text).node
+below_begun s node request text h = subst (λ b. All (IsBelow (min (b + 1) last_number)) (ids made.node.open_operations)) (sym w.begun) (by (is_worn node.met) refl)
+  where
+    made : Step
+    made = begin_step s node request text
+
+    w : Went (ids node.open_operations ++ op_of s node.met ∷ []) (Begins (op_of s node.met) text ∷ node.met) made
+    w = begin_went s node request text
+
+    next : ℕ
+    next = min ((begun_of node.met + 1) + 1) last_number
+
+    more : All (IsBelow next) (ids node.open_operations)
+    more = All-weaker (IsBelow (min (begun_of node.met + 1) last_number)) (IsBelow next) (λ x less. below_more (begun_of node.met) last_number x.number less) (ids node.open_operations) h
+
+    by : (t : Bool) → is_worn node.met ≡ t → All (IsBelow next) (ids made.node.open_operations)
+    by true worn = subst (λ os. All (IsBelow next) (ids os)) (sym (worn_open s node request text worn)) more
+    by false fresh = open_all (IsBelow next) (ids node.open_operations ++ op_of s node.met ∷ []) (Begins (op_of s node.met) text ∷ node.met) made w
+        (All-push (IsBelow next) (ids node.open_operations) (op_of s node.met) more (below_next (begun_of node.met) last_number fresh))
+
+-- and none above how many were begun
+pub within_still : (node : Node) → AreBelow node → All (IsWithin (begun_of node.met)) (ids node.open_operations)
+within_still node h = All-weaker (IsBelow (min (begun_of node.met + 1) last_number)) (IsWithin (begun_of node.met)) (λ x less. within_begun (begun_of node.met) last_number x.number less) (ids node.open_operations) h
+
+pub within_with_new : (s : Setting) (node : Node) → AreBelow node → All (IsWithin (begun_of node.met + 1)) (ids node.open_operations ++ op_of s node.met ∷ [])
+within_with_new s node h = All-push (IsWithin (begun_of node.met + 1)) (ids node.open_operations) (op_of s node.met)
+    (All-weaker (IsBelow (min (begun_of node.met + 1) last_number)) (IsWithin (begun_of node.met + 1)) (λ x less. up x.number (within_begun (begun_of node.met) last_number x.number less)) (ids node.open_operations) h)
+    (next_within (begun_of node.met) last_number)
+  where
+    up : (n : ℕ) → n ≤ begun_of node.met → n ≤ begun_of node.met + 1
+    up n le = omega (arith, le)
