@@ -149,6 +149,25 @@ answers_to op one = same_op one.op op
 abbrev pub ends : OpId → Answer → List Asked → List Asked
 ends op answer asked = map (comes_to (ended_as op answer)) asked
 
+-- all answers of a step
+abbrev pub all_pass : List Fate → List Asked → List Asked
+all_pass [] asked = asked
+all_pass (Stays op ∷ fates) asked = all_pass fates asked
+all_pass (Ends op answer ∷ fates) asked = all_pass fates (ends op answer asked)
+
+pub all_pass_each : (fates : List Fate) (asked : List Asked) → all_pass fates asked ≡ map (comes_to (passes fates)) asked
+all_pass_each [] asked = stay asked
+  where
+    stay : (asked : List Asked) → asked ≡ map (comes_to (λ came. came)) asked
+    stay [] = refl
+    stay (one ∷ asked) = λ i. one ∷ stay asked i
+all_pass_each (Stays op ∷ fates) asked = all_pass_each fates asked
+all_pass_each (Ends op answer ∷ fates) asked = all_pass_each fates (ends op answer asked) ∙ joined asked
+  where
+    joined : (asked : List Asked) → map (comes_to (passes fates)) (map (comes_to (ended_as op answer)) asked) ≡ map (comes_to (λ came. passes fates (ended_as op answer came))) asked
+    joined [] = refl
+    joined (one ∷ asked) = λ i. comes_to (λ came. passes fates (ended_as op answer came)) one ∷ joined asked i
+
 -- an answer ends the waiting of those who wait for it
 waits_less : (op : OpId) (answer : Answer) (asked : List Asked) → waits (ends op answer asked) ≡ filter (λ (one : Waiting). not (answers_to op one)) (waits asked)
 waits_less op answer [] = refl
@@ -195,7 +214,7 @@ among_less P (one ∷ those) x h = by (P one)
     by true = ap (λ t. t || among (map op_awaited (filter P those)) x) apart.0 ∙ among_less P those x apart.1
     by false = among_less P those x apart.1
 
-apart_less : (P : Waiting → Bool) (those : List Waiting) → AreApart (map op_awaited those) → AreApart (map op_awaited (filter P those))
+pub apart_less : (P : Waiting → Bool) (those : List Waiting) → AreApart (map op_awaited those) → AreApart (map op_awaited (filter P those))
 apart_less P [] h = tt
 apart_less P (one ∷ those) h = by (P one)
   where
@@ -291,11 +310,6 @@ module _ (schema : Schema) (me : ℕ) where
 
     -- ---- all answers of a step
 
-    abbrev pub all_pass : List Fate → List Asked → List Asked
-    all_pass [] asked = asked
-    all_pass (Stays op ∷ fates) asked = all_pass fates asked
-    all_pass (Ends op answer ∷ fates) asked = all_pass fates (ends op answer asked)
-
     same_replies : (op : OpId) (fates : List Fate) (those : List Waiting) → among (map op_in fates) op ≡ false → replies_of (filter (λ (one : Waiting). not (answers_to op one)) those) fates ≡ replies_of those fates
     same_replies op [] those h = refl
     same_replies op (Stays other ∷ fates) those h = same_replies op fates those (not_first other op (map op_in fates) h).1
@@ -325,16 +339,3 @@ module _ (schema : Schema) (me : ℕ) where
 
         then_same : replies_of (waits (ends op answer asked)) fates ≡ replies_of (waits asked) fates
         then_same = ap (λ those. replies_of those fates) (waits_less op answer asked) ∙ same_replies op fates (waits asked) apart.0
-
-    pub all_pass_each : (fates : List Fate) (asked : List Asked) → all_pass fates asked ≡ map (comes_to (passes fates)) asked
-    all_pass_each [] asked = stay asked
-      where
-        stay : (asked : List Asked) → asked ≡ map (comes_to (λ came. came)) asked
-        stay [] = refl
-        stay (one ∷ asked) = λ i. one ∷ stay asked i
-    all_pass_each (Stays op ∷ fates) asked = all_pass_each fates asked
-    all_pass_each (Ends op answer ∷ fates) asked = all_pass_each fates (ends op answer asked) ∙ joined asked
-      where
-        joined : (asked : List Asked) → map (comes_to (passes fates)) (map (comes_to (ended_as op answer)) asked) ≡ map (comes_to (λ came. passes fates (ended_as op answer came))) asked
-        joined [] = refl
-        joined (one ∷ asked) = λ i. comes_to (λ came. passes fates (ended_as op answer came)) one ∷ joined asked i

@@ -1,5 +1,5 @@
 -- In a step each operation that was open, or begins, either stays open or is answered, in order; and nothing else is answered.
-use Rattle.std.proofs.Common.{◌≡◌, ℕ, ◌+◌, ◌-◌, ◌<◌, ◌≤◌, min, nat_le, Bool, true, false, cond, List, [], ◌∷◌, ◌++◌, map, flat_map, fold, Option, Some, None, refl, sym, ap, ◌∙◌, subst, arith}
+use Rattle.std.proofs.Common.{◌≡◌, ◌⊎◌, inl, inr, ℕ, ◌+◌, ◌-◌, ◌<◌, ◌≤◌, min, nat_le, Bool, true, false, cond, List, [], ◌∷◌, ◌++◌, map, flat_map, fold, Option, Some, None, refl, sym, ap, ◌∙◌, subst, arith}
 use Rattle.std.specs.List.{All}
 use Rattle.std.proofs.lemmas.Bool.Decides.{nat_tests}
 use Rattle.std.proofs.lemmas.List.{append_assoc, append-nil, map-append}
@@ -369,3 +369,15 @@ within_with_new s node h = All-push (IsWithin (begun_of node.met + 1)) (ids node
   where
     up : (n : ℕ) → n ≤ begun_of node.met → n ≤ begun_of node.met + 1
     up n le = omega (arith, le)
+
+-- a new operation is answered at once, or has a number that none before it had
+pub begins_new : (s : Setting) (node : Node) (request : Request) (text : List ℕ)
+    → ((begin_step s node request text).node.open_operations ≡ node.open_operations) ⊎ (begun_of node.met < (op_of s node.met).number)
+begins_new s node request text = by (is_worn node.met) refl
+  where
+    fresh : (b last : ℕ) → nat_le (last - 1) b ≡ false → b < min (b + 1) last
+    fresh b last h = let less = less_is (last - 1) b h in omega (arith, less)
+
+    by : (t : Bool) → is_worn node.met ≡ t → ((begin_step s node request text).node.open_operations ≡ node.open_operations) ⊎ (begun_of node.met < (op_of s node.met).number)
+    by true worn = inl (worn_open s node request text worn)
+    by false h = inr (fresh (begun_of node.met) last_number h)

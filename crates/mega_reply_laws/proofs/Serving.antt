@@ -1,0 +1,342 @@
+-- A served node answers each request once: what holds of its record is kept by each turn.
+use Rattle.std.proofs.Common.{◌≡◌, ◌⊎◌, inl, inr, ℕ, ◌+◌, ◌<◌, ◌≤◌, ◌==◌, ◌&&◌, ◌||◌, min, Bool, true, false, cond, List, [], ◌∷◌, ◌++◌, codes, decimal, map, filter, filter_map, flat_map, fold, Option, Some, None, is_none, Result, Ok, Err, refl, sym, ap, ◌∙◌, subst, arith}
+use Rattle.std.specs.List.{All, cons_option, list_any}
+use Rattle.std.proofs.lemmas.List.{append_assoc, append-nil, map-append}
+use Rattle.std.proofs.lemmas.List.Concat.{flat_map-append}
+use Rattle.std.proofs.lemmas.List.Elements.{All-cons, All-head, All-map, All-nil, All-push, All-tail, All-weaker, filter-append, filter_agree, filter_map-append}
+use Rattle.std.proofs.lemmas.List.Sums.{fold-append}
+use Rattle.mega_base.specs.Reading.{whole_of}
+use Rattle.mega_base.specs.declared.names.OpId.{OpId}
+use Rattle.mega_cluster.specs.declared.cluster.Cluster.{Cluster}
+use Rattle.mega_entry.specs.Same.{same_op}
+use Rattle.mega_entry.proofs.Sames.{same_op_equal, same_op_self}
+use Rattle.mega_handler.specs.Named.{Meanings}
+use Rattle.mega_wal.specs.History.{starts_of}
+use Rattle.mega_wal.specs.declared.item.JournalItem.{JournalItem}
+use Rattle.mega_wire.specs.Messages.{message_at}
+use Rattle.mega_wire.specs.declared.message.Body.{Body}
+use Rattle.mega_wire.specs.declared.message.Body.TheVariants.{Request as Requests}
+use Rattle.mega_wire.specs.declared.message.Message.{Message}
+use Rattle.mega_outcome.specs.declared.answer.Answer.{Answer}
+use Rattle.mega_outcome.specs.declared.request.Request.{Request}
+use Rattle.mega_transcript.specs.declared.item.Item.{Item}
+use Rattle.mega_rules.specs.Clock.{begun_of, last_number}
+use Rattle.mega_rules.specs.Met.{Met, Answers, Begins, Starts, Takes, Ticks}
+use Rattle.mega_rules.specs.Operations.{Node, Operation, Setting}
+use Rattle.mega_rules.specs.Steps.{Begin, Step, Take, Tick, begin_step, onto, op_of, start_items, start_notes, step}
+use Rattle.mega_promises.specs.Items.{shown}
+use Rattle.mega_promises.specs.NodeRuns.{met_of}
+use Rattle.mega_promises.specs.Runs.{names_nothing, setting}
+use Rattle.mega_promises.specs.Served.{Asks, Got, Line, Noted, OfClient, OfNode, Peer, Put, Refuses, Served, Turn, Waiting, Wish, answer_line, answered_line, given as receives, is_from, is_open_at, noted, put_out, received, recorded, reply_line, served, served_start, takes_message, ticked, turned, wished, with_lines}
+use Rattle.mega_reply_laws.specs.Requests.{Asked, Came, Ended, Heard, IsAsItStands, Opened, Refused, asked_by, asked_from, asked_in, behind_item, behind_line, begun_as, comes_to, is_reply, replies, reply_to, requests, wished_for}
+use Rattle.mega_reply_laws.proofs.Ending.{AreApart, all_end, all_pass, all_pass_each, among, apart_less, ends, given, many, many_both, not_first, op_awaited, open_or_ended, others_staying, passes, passes_ended, passes_opened, passes_refused, replies_of, staying_apart, stays_untold, told_to, waits, waits_by, waits_in}
+use Rattle.mega_reply_laws.proofs.Plain.{IsPlain, start_plain}
+use Rattle.mega_reply_laws.proofs.Steps.{AreBelow, Ends, Fate, IsBelow, IsWithin, LeavesBegun, Stays, Went, all_leave, answering, begin_went, begins_new, begun_left, below_begun, below_still, ids, op_in, staying, take_went, tick_went, within_still, within_with_new}
+
+-- ---- what is said of each request
+
+-- an operation that is open is among these
+abbrev OpenAmong : List OpId → Came → Type 0
+OpenAmong ops Heard = ⊥
+OpenAmong ops (Refused words) = Unit {0}
+OpenAmong ops (Opened x) = among ops x ≡ true
+OpenAmong ops (Ended x answer) = Unit {0}
+
+-- and one that ended is not
+abbrev EndedOut : List OpId → Came → Type 0
+EndedOut ops Heard = Unit {0}
+EndedOut ops (Refused words) = Unit {0}
+EndedOut ops (Opened x) = Unit {0}
+EndedOut ops (Ended x answer) = among ops x ≡ false
+
+abbrev Standing : List OpId → Came → Type 0
+Standing ops Heard = ⊥
+Standing ops (Refused words) = Unit {0}
+Standing ops (Opened x) = among ops x ≡ true
+Standing ops (Ended x answer) = among ops x ≡ false
+
+-- one that ended was begun by now
+abbrev Past : ℕ → Came → Type 0
+Past n Heard = Unit {0}
+Past n (Refused words) = Unit {0}
+Past n (Opened x) = Unit {0}
+Past n (Ended x answer) = x.number ≤ n
+
+abbrev Each : (Came → Type 0) → List Asked → Type 0
+Each P asked = All (λ (one : Asked). P one.came) asked
+
+each_weaker : (P Q : Came → Type 0) → ((came : Came) → P came → Q came) → (asked : List Asked) → Each P asked → Each Q asked
+each_weaker P Q f asked h = All-weaker (λ (one : Asked). P one.came) (λ (one : Asked). Q one.came) (λ one k. f one.came k) asked h
+
+each_comes : (P Q : Came → Type 0) (next : Came → Came) → ((came : Came) → P came → Q (next came)) → (asked : List Asked) → Each P asked → Each Q (map (comes_to next) asked)
+each_comes P Q next f asked h = All-map (λ (one : Asked). Q one.came) (comes_to next) asked (All-weaker (λ (one : Asked). P one.came) (λ (one : Asked). Q (next one.came)) (λ one k. f one.came k) asked h)
+
+each_both : (P Q : Came → Type 0) (asked : List Asked) → Each P asked → Each Q asked → Each (λ came. P came × Q came) asked
+each_both P Q [] h k = All-nil (λ (one : Asked). P one.came × Q one.came)
+each_both P Q (one ∷ asked) h k = All-cons (λ (one : Asked). P one.came × Q one.came) one asked (All-head (λ (one : Asked). P one.came) one asked h, All-head (λ (one : Asked). Q one.came) one asked k)
+    (each_both P Q asked (All-tail (λ (one : Asked). P one.came) one asked h) (All-tail (λ (one : Asked). Q one.came) one asked k))
+
+opened_of : (ops : List OpId) (came : Came) → Standing ops came → OpenAmong ops came
+opened_of ops Heard h = h
+opened_of ops (Refused words) h = tt
+opened_of ops (Opened x) h = h
+opened_of ops (Ended x answer) h = tt
+
+out_of : (ops : List OpId) (came : Came) → Standing ops came → EndedOut ops came
+out_of ops Heard h = tt
+out_of ops (Refused words) h = tt
+out_of ops (Opened x) h = tt
+out_of ops (Ended x answer) h = h
+
+out_more : (fates : List Fate) (came : Came) → EndedOut (map op_in fates) came → EndedOut (flat_map staying fates) came
+out_more fates Heard h = tt
+out_more fates (Refused words) h = tt
+out_more fates (Opened x) h = tt
+out_more fates (Ended x answer) h = others_staying fates x h
+
+-- what holds of all holds of one that is among them
+pub among_all : (P : OpId → Type 0) (ops : List OpId) (x : OpId) → All P ops → among ops x ≡ true → P x
+among_all P [] x h k = cc
+among_all P (op ∷ ops) x h k = by (same_op op x) refl k
+  where
+    by : (t : Bool) → same_op op x ≡ t → (t || among ops x) ≡ true → P x
+    by true e k = subst P (same_op_equal op x e) (All-head P op ops h)
+    by false e k = among_all P ops x (All-tail P op ops h) k
+
+-- ---- behind the fates of a step
+
+passed : (fates : List Fate) → AreApart (map op_in fates) → (came : Came) → OpenAmong (map op_in fates) came × EndedOut (flat_map staying fates) came → Standing (flat_map staying fates) (passes fates came)
+passed fates apart Heard h = absurd h.0
+passed fates apart (Refused words) h = subst (Standing (flat_map staying fates)) (sym (passes_refused fates words)) tt
+passed fates apart (Ended x answer) h = subst (Standing (flat_map staying fates)) (sym (passes_ended fates x answer)) h.1
+passed fates apart (Opened x) h = subst (Standing (flat_map staying fates)) (sym (passes_opened fates x)) (by (told_to fates x) (stays_untold fates x apart h.0))
+  where
+    by : (told : Option Answer) → among (flat_map staying fates) x ≡ is_none told → Standing (flat_map staying fates) (open_or_ended x told)
+    by None e = e
+    by (Some answer) e = e
+
+passed_past : (n : ℕ) (fates : List Fate) → All (IsWithin n) (map op_in fates) → (came : Came) → OpenAmong (map op_in fates) came × Past n came → Past n (passes fates came)
+passed_past n fates within Heard h = absurd h.0
+passed_past n fates within (Refused words) h = subst (Past n) (sym (passes_refused fates words)) tt
+passed_past n fates within (Ended x answer) h = subst (Past n) (sym (passes_ended fates x answer)) h.1
+passed_past n fates within (Opened x) h = subst (Past n) (sym (passes_opened fates x)) (by (told_to fates x))
+  where
+    by : (told : Option Answer) → Past n (open_or_ended x told)
+    by None = tt
+    by (Some answer) = among_all (IsWithin n) (map op_in fates) x within h.0
+
+still_waits : (fates : List Fate) → AreApart (map op_in fates) → (asked : List Asked) → Each (OpenAmong (map op_in fates)) asked
+    → waits (map (comes_to (passes fates)) asked) ≡ filter (λ (one : Waiting). among (flat_map staying fates) one.op) (waits asked)
+still_waits fates apart [] h = refl
+still_waits fates apart (one ∷ asked) h = by one.client one.token one.came (All-head (λ (one : Asked). OpenAmong (map op_in fates) one.came) one asked h)
+  where
+    stay : Waiting → Bool
+    stay w = among (flat_map staying fates) w.op
+
+    after : List Asked
+    after = map (comes_to (passes fates)) asked
+
+    rest : waits after ≡ filter stay (waits asked)
+    rest = still_waits fates apart asked (All-tail (λ (one : Asked). OpenAmong (map op_in fates) one.came) one asked h)
+
+    by : (client token : ℕ) (came : Came) → OpenAmong (map op_in fates) came → cons_option (waits_by client token (passes fates came)) (waits after) ≡ filter stay (cons_option (waits_by client token came) (waits asked))
+    by client token Heard k = absurd k
+    by client token (Refused words) k = ap (λ came. cons_option (waits_by client token came) (waits after)) (passes_refused fates words) ∙ rest
+    by client token (Ended x answer) k = ap (λ came. cons_option (waits_by client token came) (waits after)) (passes_ended fates x answer) ∙ rest
+    by client token (Opened x) k =
+        ap (λ came. cons_option (waits_by client token came) (waits after)) (passes_opened fates x) ∙ go (told_to fates x)
+        ∙ sym (ap (λ t. cond t (one_waits ∷ filter stay (waits asked)) (filter stay (waits asked))) (stays_untold fates x apart k))
+      where
+        one_waits : Waiting
+        one_waits = record { op = x; client = client; token = token }
+
+        go : (told : Option Answer) → cons_option (waits_by client token (open_or_ended x told)) (waits after) ≡ cond (is_none told) (one_waits ∷ filter stay (waits asked)) (filter stay (waits asked))
+        go None = ap (λ those. one_waits ∷ those) rest
+        go (Some answer) = rest
+
+-- ---- the lines of a step
+
+module _ (c : Cluster) (me : ℕ) (wish : List ℕ → Wish) where
+  abbrev after_line : List Asked → Line → List Asked
+  after_line asked line = behind_line me wish asked line
+
+  abbrev after_lines : List Asked → List Line → List Asked
+  after_lines asked lines = fold after_line asked lines
+
+  one_plain : (asked : List Asked) (one : Met) (rest : List Line) → IsPlain one → after_lines asked (map Noted (shown me one) ++ rest) ≡ after_lines asked rest
+  one_plain asked (Starts start) rest h = cc
+  one_plain asked (Begins op text) rest h = cc
+  one_plain asked (Answers op answer) rest h = cc
+  one_plain asked _ rest h = refl
+
+  noted_both : (xs ys : List Met) → noted me (xs ++ ys) ≡ noted me xs ++ noted me ys
+  noted_both xs ys = ap (map Noted) (flat_map-append (shown me) xs ys) ∙ map-append Noted (flat_map (shown me) xs) (flat_map (shown me) ys)
+
+  plain_lines : (asked : List Asked) (notes : List Met) → All IsPlain notes → after_lines asked (noted me notes) ≡ asked
+  plain_lines asked [] h = refl
+  plain_lines asked (one ∷ notes) h =
+      ap (after_lines asked) (map-append Noted (shown me one) (flat_map (shown me) notes))
+      ∙ one_plain asked one (noted me notes) (All-head IsPlain one notes h) ∙ plain_lines asked notes (All-tail IsPlain one notes h)
+
+  answer_lines : (fates : List Fate) (asked : List Asked) → after_lines asked (noted me (flat_map answering fates)) ≡ all_pass fates asked
+  answer_lines [] asked = refl
+  answer_lines (Stays op ∷ fates) asked = answer_lines fates asked
+  answer_lines (Ends op answer ∷ fates) asked = answer_lines fates (ends op answer asked)
+
+  put_lines : (asked : List Asked) (ms : List Message) → after_lines asked (put_out ms) ≡ asked
+  put_lines asked [] = refl
+  put_lines asked (m ∷ ms) = put_lines asked ms
+
+  one_replied : (asked : List Asked) (those : List Waiting) (one : Met) (rest : List Line) → after_lines asked (answer_line c.schema me those one ++ rest) ≡ after_lines asked rest
+  one_replied asked those (Answers op answer) rest = by (list_find those op)
+    where
+      list_find : List Waiting → OpId → Option Waiting
+      list_find those op = find_by (λ (one : Waiting). same_op one.op op) those
+
+      by : (found : Option Waiting) → after_lines asked (answered_line c.schema me answer found ++ rest) ≡ after_lines asked rest
+      by None = refl
+      by (Some one) = refl
+  one_replied asked those _ rest = refl
+
+  reply_lines : (asked : List Asked) (those : List Waiting) (notes : List Met) → after_lines asked (flat_map (answer_line c.schema me those) notes) ≡ asked
+  reply_lines asked those [] = refl
+  reply_lines asked those (one ∷ notes) = one_replied asked those one (flat_map (answer_line c.schema me those) notes) ∙ reply_lines asked those notes
+
+  -- and the replies among them
+  none_noted : (items : List Item) → replies (map Noted items) ≡ []
+  none_noted [] = refl
+  none_noted (item ∷ items) = none_noted items
+
+  none_put : (ms : List Message) → replies (put_out ms) ≡ []
+  none_put [] = refl
+  none_put (m ∷ ms) = none_put ms
+
+  all_replies : (those : List Waiting) (notes : List Met) → replies (flat_map (answer_line c.schema me those) notes) ≡ flat_map (answer_line c.schema me those) notes
+  all_replies those [] = refl
+  all_replies those (one ∷ notes) = filter-append is_reply (answer_line c.schema me those one) (flat_map (answer_line c.schema me those) notes) ∙ (λ i. kept one i ++ all_replies those notes i)
+    where
+      by : (answer : Answer) (found : Option Waiting) → replies (answered_line c.schema me answer found) ≡ answered_line c.schema me answer found
+      by answer None = refl
+      by answer (Some one) = refl
+
+      kept : (one : Met) → replies (answer_line c.schema me those one) ≡ answer_line c.schema me those one
+      kept (Answers op answer) = by answer _
+      kept _ = refl
+
+  plain_silent : (those : List Waiting) (notes : List Met) → All IsPlain notes → flat_map (answer_line c.schema me those) notes ≡ []
+  plain_silent those [] h = refl
+  plain_silent those (one ∷ notes) h = (λ i. none one (All-head IsPlain one notes h) i ++ flat_map (answer_line c.schema me those) notes) ∙ plain_silent those notes (All-tail IsPlain one notes h)
+    where
+      none : (one : Met) → IsPlain one → answer_line c.schema me those one ≡ []
+      none (Answers op answer) h = cc
+      none _ h = refl
+
+  any_ids : (os : List Operation) (x : OpId) → list_any (λ (o : Operation). same_op o.id x) os ≡ among (ids os) x
+  any_ids [] x = refl
+  any_ids (o ∷ os) x = ap (λ t. same_op o.id x || t) (any_ids os x)
+
+  -- ---- a served node
+
+  pub record Serves (now : Served) : Type 0 where
+    pub counted : (test : Line → Bool) → many test (replies now.lines) ≡ many test (given c.schema me (requests me wish now.lines))
+    pub waiting_are : waits (requests me wish now.lines) ≡ now.waiting
+    pub standing : Each (Standing (ids now.node.open_operations)) (requests me wish now.lines)
+    pub apart : AreApart (ids now.node.open_operations)
+    pub alone : AreApart (map op_awaited (waits (requests me wish now.lines)))
+    pub below : AreBelow now.node
+    pub past : Each (Past (begun_of now.node.met)) (requests me wish now.lines)
+
+  -- what holds of the requests as a step is made, with the operations that are open then
+  record Ready (now : Served) (before : List OpId) (own : List Line) (waiting : List Waiting) (asked : List Asked) : Type 0 where
+    are : after_lines (requests me wish now.lines) own ≡ asked
+    silent : replies own ≡ []
+    counted : (test : Line → Bool) → many test (replies now.lines) ≡ many test (given c.schema me asked)
+    waiting_are : waits asked ≡ waiting
+    opened : Each (OpenAmong before) asked
+    apart : AreApart before
+    alone : AreApart (map op_awaited (waits asked))
+
+  module _ (now : Served) (before : List OpId) (base : List Met) (made : Step) (own : List Line) (waiting : List Waiting) (asked : List Asked) (w : Went before base made) (r : Ready now before own waiting asked) where
+    next : Served
+    next = recorded c me now own waiting made
+
+    fates : List Fate
+    fates = w.fates
+
+    asked_then : List Asked
+    asked_then = map (comes_to (passes w.fates)) asked
+
+    tail_lines : List Line
+    tail_lines = flat_map (answer_line c.schema me waiting) made.notes
+
+    notes_lines : after_lines asked (noted me made.notes) ≡ asked_then
+    notes_lines =
+        ap (λ notes. after_lines asked (noted me notes)) w.notes_are
+        ∙ ap (after_lines asked) (noted_both w.plain (flat_map answering w.fates))
+        ∙ fold-append after_line asked (noted me w.plain) (noted me (flat_map answering w.fates))
+        ∙ ap (λ those. after_lines those (noted me (flat_map answering w.fates))) (plain_lines asked w.plain w.is_plain)
+        ∙ answer_lines w.fates asked ∙ all_pass_each w.fates asked
+
+    requests_are : requests me wish next.lines ≡ asked_then
+    requests_are =
+        fold-append after_line [] now.lines (((own ++ noted me made.notes) ++ put_out made.sends) ++ tail_lines)
+        ∙ fold-append after_line (requests me wish now.lines) ((own ++ noted me made.notes) ++ put_out made.sends) tail_lines
+        ∙ reply_lines (after_lines (requests me wish now.lines) ((own ++ noted me made.notes) ++ put_out made.sends)) waiting made.notes
+        ∙ fold-append after_line (requests me wish now.lines) (own ++ noted me made.notes) (put_out made.sends)
+        ∙ put_lines (after_lines (requests me wish now.lines) (own ++ noted me made.notes)) made.sends
+        ∙ fold-append after_line (requests me wish now.lines) own (noted me made.notes)
+        ∙ ap (λ those. after_lines those (noted me made.notes)) r.are ∙ notes_lines
+
+    tail_is : tail_lines ≡ replies_of c.schema me waiting w.fates
+    tail_is =
+        ap (flat_map (answer_line c.schema me waiting)) w.notes_are
+        ∙ flat_map-append (answer_line c.schema me waiting) w.plain (flat_map answering w.fates)
+        ∙ ap (λ lines. lines ++ replies_of c.schema me waiting w.fates) (plain_silent waiting w.plain w.is_plain)
+
+    replies_are : replies next.lines ≡ replies now.lines ++ replies_of c.schema me waiting w.fates
+    replies_are =
+        filter-append is_reply now.lines (((own ++ noted me made.notes) ++ put_out made.sends) ++ tail_lines)
+        ∙ ap (λ lines. replies now.lines ++ lines) (
+            filter-append is_reply ((own ++ noted me made.notes) ++ put_out made.sends) tail_lines
+            ∙ ap (λ lines. lines ++ replies tail_lines) (
+                filter-append is_reply (own ++ noted me made.notes) (put_out made.sends)
+                ∙ (λ i. (filter-append is_reply own (noted me made.notes) ∙ (λ j. r.silent j ++ none_noted (flat_map (shown me) made.notes) j)) i ++ none_put made.sends i))
+            ∙ all_replies waiting made.notes ∙ tail_is)
+
+    apart_fates : AreApart (map op_in w.fates)
+    apart_fates = subst AreApart (sym w.ops_are) r.apart
+
+    opened_fates : Each (OpenAmong (map op_in w.fates)) asked
+    opened_fates = subst (λ ops. Each (OpenAmong ops) asked) (sym w.ops_are) r.opened
+
+    counted_then : (test : Line → Bool) → many test (replies next.lines) ≡ many test (given c.schema me (requests me wish next.lines))
+    counted_then test =
+        ap (many test) replies_are ∙ many_both test (replies now.lines) (replies_of c.schema me waiting w.fates)
+        ∙ (λ i. r.counted test i + many test (replies_of c.schema me (r.waiting_are (~ i)) w.fates))
+        ∙ sym (all_end c.schema me test w.fates asked apart_fates r.alone)
+        ∙ ap (λ those. many test (given c.schema me those)) (all_pass_each w.fates asked ∙ sym requests_are)
+
+    waiting_then : waits (requests me wish next.lines) ≡ next.waiting
+    waiting_then =
+        ap waits requests_are ∙ still_waits w.fates apart_fates asked opened_fates
+        ∙ ap (λ ops. filter (λ (one : Waiting). among ops one.op) (waits asked)) (sym w.open_are)
+        ∙ filter_agree (λ (one : Waiting). among (ids made.node.open_operations) one.op) (λ (one : Waiting). is_open_at made.node one.op) (λ one. sym (any_ids made.node.open_operations one.op)) (waits asked)
+        ∙ ap (filter (λ (one : Waiting). is_open_at made.node one.op)) r.waiting_are
+
+    pub recorded_serves : Each (EndedOut (ids made.node.open_operations)) asked → AreBelow made.node → All (IsWithin (begun_of made.node.met)) before → Each (Past (begun_of made.node.met)) asked → Serves next
+    recorded_serves out below within past = record {
+      counted = counted_then;
+      waiting_are = waiting_then;
+      standing = subst (Each (Standing (ids made.node.open_operations))) (sym requests_are)
+          (subst (λ ops. Each (Standing ops) asked_then) (sym w.open_are)
+          (each_comes (λ came. OpenAmong (map op_in w.fates) came × EndedOut (flat_map staying w.fates) came) (Standing (flat_map staying w.fates)) (passes w.fates) (passed w.fates apart_fates) asked
+          (each_both (OpenAmong (map op_in w.fates)) (EndedOut (flat_map staying w.fates)) asked opened_fates (subst (λ ops. Each (EndedOut ops) asked) w.open_are out))));
+      apart = subst AreApart (sym w.open_are) (staying_apart w.fates apart_fates);
+      alone = subst (λ those. AreApart (map op_awaited those)) (sym (ap waits requests_are ∙ still_waits w.fates apart_fates asked opened_fates))
+          (apart_less (λ (one : Waiting). among (flat_map staying w.fates) one.op) (waits asked) r.alone);
+      below = below;
+      past = subst (Each (Past (begun_of made.node.met))) (sym requests_are)
+          (each_comes (λ came. OpenAmong (map op_in w.fates) came × Past (begun_of made.node.met) came) (Past (begun_of made.node.met)) (passes w.fates)
+          (passed_past (begun_of made.node.met) w.fates (subst (All (IsWithin (begun_of made.node.met))) (sym w.ops_are) within)) asked
+          (each_both (OpenAmong (map op_in w.fates)) (Past (begun_of made.node.met)) asked opened_fates past));
+    }
