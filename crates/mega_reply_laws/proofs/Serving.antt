@@ -1,5 +1,5 @@
 -- A served node answers each request once: what holds of its record is kept by each turn.
-use Rattle.std.proofs.Common.{◌≡◌, ◌⊎◌, inl, inr, ℕ, ◌+◌, ◌<◌, ◌≤◌, ◌==◌, ◌&&◌, ◌||◌, min, Bool, true, false, cond, List, [], ◌∷◌, ◌++◌, codes, decimal, map, filter, filter_map, flat_map, fold, Option, Some, None, is_none, Result, Ok, Err, refl, sym, ap, ◌∙◌, subst, arith}
+use Rattle.std.proofs.Common.{◌≡◌, ◌⊎◌, inl, inr, ℕ, ◌+◌, ◌<◌, ◌≤◌, ◌==◌, ◌&&◌, ◌||◌, min, Bool, true, false, cond, List, [], ◌∷◌, ◌++◌, codes, decimal, map, filter, filter_map, find, flat_map, fold, Option, Some, None, is_none, Result, Ok, Err, refl, sym, ap, ◌∙◌, subst, arith}
 use Rattle.std.specs.List.{All, cons_option, list_any}
 use Rattle.std.proofs.lemmas.List.{append_assoc, append-nil, map-append}
 use Rattle.std.proofs.lemmas.List.Concat.{flat_map-append}
@@ -188,11 +188,8 @@ module _ (c : Cluster) (me : ℕ) (wish : List ℕ → Wish) where
   put_lines asked (m ∷ ms) = put_lines asked ms
 
   one_replied : (asked : List Asked) (those : List Waiting) (one : Met) (rest : List Line) → after_lines asked (answer_line c.schema me those one ++ rest) ≡ after_lines asked rest
-  one_replied asked those (Answers op answer) rest = by (list_find those op)
+  one_replied asked those (Answers op answer) rest = by (find (λ (one : Waiting). same_op one.op op) those)
     where
-      list_find : List Waiting → OpId → Option Waiting
-      list_find those op = find_by (λ (one : Waiting). same_op one.op op) those
-
       by : (found : Option Waiting) → after_lines asked (answered_line c.schema me answer found ++ rest) ≡ after_lines asked rest
       by None = refl
       by (Some one) = refl
@@ -220,7 +217,7 @@ module _ (c : Cluster) (me : ℕ) (wish : List ℕ → Wish) where
       by answer (Some one) = refl
 
       kept : (one : Met) → replies (answer_line c.schema me those one) ≡ answer_line c.schema me those one
-      kept (Answers op answer) = by answer _
+      kept (Answers op answer) = by answer (find (λ (one : Waiting). same_op one.op op) those)
       kept _ = refl
 
   plain_silent : (those : List Waiting) (notes : List Met) → All IsPlain notes → flat_map (answer_line c.schema me those) notes ≡ []
@@ -312,7 +309,7 @@ module _ (c : Cluster) (me : ℕ) (wish : List ℕ → Wish) where
     counted_then : (test : Line → Bool) → many test (replies next.lines) ≡ many test (given c.schema me (requests me wish next.lines))
     counted_then test =
         ap (many test) replies_are ∙ many_both test (replies now.lines) (replies_of c.schema me waiting w.fates)
-        ∙ (λ i. r.counted test i + many test (replies_of c.schema me (r.waiting_are (~ i)) w.fates))
+        ∙ (λ i. r.counted test i + many test (replies_of c.schema me (sym r.waiting_are i) w.fates))
         ∙ sym (all_end c.schema me test w.fates asked apart_fates r.alone)
         ∙ ap (λ those. many test (given c.schema me those)) (all_pass_each w.fates asked ∙ sym requests_are)
 
@@ -340,3 +337,318 @@ module _ (c : Cluster) (me : ℕ) (wish : List ℕ → Wish) where
           (passed_past (begun_of made.node.met) w.fates (subst (All (IsWithin (begun_of made.node.met))) (sym w.ops_are) within)) asked
           (each_both (OpenAmong (map op_in w.fates)) (Past (begun_of made.node.met)) asked opened_fates past));
     }
+
+  -- ---- ticks and messages
+
+  module _ (now : Served) (h : Serves now) where
+    asked_now : List Asked
+    asked_now = requests me wish now.lines
+
+    -- before a step at which no operation begins
+    ready_still : (own : List Line) → after_lines asked_now own ≡ asked_now → replies own ≡ [] → Ready now (ids now.node.open_operations) own now.waiting asked_now
+    ready_still own are silent = record {
+      are = are;
+      silent = silent;
+      counted = h.counted;
+      waiting_are = h.waiting_are;
+      opened = each_weaker (Standing (ids now.node.open_operations)) (OpenAmong (ids now.node.open_operations)) (opened_of (ids now.node.open_operations)) asked_now h.standing;
+      apart = h.apart;
+      alone = h.alone;
+    }
+
+    still_serves : (own : List Line) (base : List Met) (made : Step) → Went (ids now.node.open_operations) base made → begun_of base ≡ begun_of now.node.met
+        → after_lines asked_now own ≡ asked_now → replies own ≡ [] → Serves (recorded c me now own now.waiting made)
+    still_serves own base made w same are silent =
+        recorded_serves now (ids now.node.open_operations) base made own now.waiting asked_now w (ready_still own are silent) out (below_still now.node base made w same h.below)
+        (subst (λ b. All (IsWithin b) (ids now.node.open_operations)) (sym begun) (within_still now.node h.below)) (subst (λ b. Each (Past b) asked_now) (sym begun) h.past)
+      where
+        begun : begun_of made.node.met ≡ begun_of now.node.met
+        begun = w.begun ∙ same
+
+        out : Each (EndedOut (ids made.node.open_operations)) asked_now
+        out = subst (λ ops. Each (EndedOut ops) asked_now) (sym w.open_are)
+            (each_weaker (EndedOut (map op_in w.fates)) (EndedOut (flat_map staying w.fates)) (out_more w.fates) asked_now
+            (subst (λ ops. Each (EndedOut ops) asked_now) (sym w.ops_are)
+            (each_weaker (Standing (ids now.node.open_operations)) (EndedOut (ids now.node.open_operations)) (out_of (ids now.node.open_operations)) asked_now h.standing)))
+
+    ticked_serves : (handlers : Meanings) (clock : ℕ) → Serves (ticked c me handlers clock now)
+    ticked_serves handlers clock = still_serves (noted me (Ticks clock ∷ [])) (Ticks clock ∷ now.node.met) (step (setting c handlers me) now.node (Tick clock)) (tick_went (setting c handlers me) now.node clock) refl refl refl
+
+    taken_serves : (handlers : Meanings) (own : List Line) (m : Message) → after_lines asked_now own ≡ asked_now → replies own ≡ [] → Serves (recorded c me now own now.waiting (step (setting c handlers me) now.node (Take m)))
+    taken_serves handlers own m are silent = still_serves own (Takes m ∷ now.node.met) (step (setting c handlers me) now.node (Take m)) (take_went (setting c handlers me) now.node m) refl are silent
+
+    -- ---- lines alone
+
+    told_by : (more : List Line) → after_lines asked_now more ≡ asked_now → requests me wish (now.lines ++ more) ≡ asked_now
+    told_by more are = fold-append after_line [] now.lines more ∙ are
+
+    lines_serve : (more : List Line) → after_lines asked_now more ≡ asked_now → replies more ≡ [] → Serves (with_lines now more)
+    lines_serve more are silent = record {
+      counted = λ test. ap (many test) (filter-append is_reply now.lines more ∙ ap (λ lines. replies now.lines ++ lines) silent ∙ append-nil (replies now.lines)) ∙ h.counted test
+          ∙ ap (λ asked. many test (given c.schema me asked)) (sym (told_by more are));
+      waiting_are = ap waits (told_by more are) ∙ h.waiting_are;
+      standing = subst (Each (Standing (ids now.node.open_operations))) (sym (told_by more are)) h.standing;
+      apart = h.apart;
+      alone = subst (λ asked. AreApart (map op_awaited (waits asked))) (sym (told_by more are)) h.alone;
+      below = h.below;
+      past = subst (Each (Past (begun_of now.node.met))) (sym (told_by more are)) h.past;
+    }
+
+    -- ---- a request that is refused
+
+    module _ (from : Peer) (bytes : List ℕ) (client token : ℕ) (words : List (List ℕ)) where
+      one_refused : Asked
+      one_refused = record { client = client; token = token; came = Refused words }
+
+      refusal_lines : List Line
+      refusal_lines = Got from bytes ∷ reply_line me client token words ∷ []
+
+      refused_serves : after_lines asked_now (Got from bytes ∷ []) ≡ asked_now ++ one_refused ∷ [] → Serves (with_lines now (Got from bytes ∷ [] ++ reply_line me client token words ∷ []))
+      refused_serves are = record {
+        counted = λ test.
+            ap (many test) (filter-append is_reply now.lines refusal_lines)
+            ∙ many_both test (replies now.lines) (reply_line me client token words ∷ [])
+            ∙ ap (λ n. n + many test (reply_line me client token words ∷ [])) (h.counted test)
+            ∙ sym (many_both test (given c.schema me asked_now) (reply_line me client token words ∷ []))
+            ∙ ap (many test) (sym (filter_map-append (reply_to c.schema me) asked_now (one_refused ∷ [])))
+            ∙ ap (λ asked. many test (given c.schema me asked)) (sym then_are);
+        waiting_are = ap waits then_are ∙ waits_same ∙ h.waiting_are;
+        standing = subst (Each (Standing (ids now.node.open_operations))) (sym then_are) (All-push (λ (one : Asked). Standing (ids now.node.open_operations) one.came) asked_now one_refused h.standing tt);
+        apart = h.apart;
+        alone = subst (λ those. AreApart (map op_awaited those)) (sym (ap waits then_are ∙ waits_same)) h.alone;
+        below = h.below;
+        past = subst (Each (Past (begun_of now.node.met))) (sym then_are) (All-push (λ (one : Asked). Past (begun_of now.node.met) one.came) asked_now one_refused h.past tt);
+      }
+        where
+          then_are : requests me wish (now.lines ++ refusal_lines) ≡ asked_now ++ one_refused ∷ []
+          then_are = fold-append after_line [] now.lines refusal_lines ∙ are
+
+          waits_same : waits (asked_now ++ one_refused ∷ []) ≡ waits asked_now
+          waits_same = filter_map-append waits_in asked_now (one_refused ∷ []) ∙ append-nil (waits asked_now)
+
+    -- ---- a request whose operation begins
+
+    module _ (handlers : Meanings) (request : Request) (text : List ℕ) (from : Peer) (bytes : List ℕ) (client token : ℕ) where
+      s : Setting
+      s = setting c handlers me
+
+      new : OpId
+      new = op_of s now.node.met
+
+      open_ids : List OpId
+      open_ids = ids now.node.open_operations
+
+      one_heard : Asked
+      one_heard = record { client = client; token = token; came = Heard }
+
+      one_opened : Asked
+      one_opened = record { client = client; token = token; came = Opened new }
+
+      one_waits : Waiting
+      one_waits = record { op = new; client = client; token = token }
+
+      -- the others began before
+      others_begun : (asked : List Asked) → Each (Standing open_ids) asked → map (comes_to (begun_as new)) (asked ++ one_heard ∷ []) ≡ asked ++ one_opened ∷ []
+      others_begun [] k = refl
+      others_begun (one ∷ asked) k = by one.client one.token one.came (All-head (λ (one : Asked). Standing open_ids one.came) one asked k)
+        where
+          rest : map (comes_to (begun_as new)) (asked ++ one_heard ∷ []) ≡ asked ++ one_opened ∷ []
+          rest = others_begun asked (All-tail (λ (one : Asked). Standing open_ids one.came) one asked k)
+
+          by : (client token : ℕ) (came : Came) → Standing open_ids came
+              → ((record { client = client; token = token; came = begun_as new came }) ∷ map (comes_to (begun_as new)) (asked ++ one_heard ∷ [])) ≡ ((record { client = client; token = token; came = came }) ∷ (asked ++ one_opened ∷ []))
+          by client token Heard k = absurd k
+          by client token (Refused words) k = ap (λ those. (record { client = client; token = token; came = Refused words }) ∷ those) rest
+          by client token (Opened x) k = ap (λ those. (record { client = client; token = token; came = Opened x }) ∷ those) rest
+          by client token (Ended x answer) k = ap (λ those. (record { client = client; token = token; came = Ended x answer }) ∷ those) rest
+
+      asked_then_new : List Asked
+      asked_then_new = asked_now ++ one_opened ∷ []
+
+      -- it is none of those that are open
+      below_new : All (IsBelow new.number) open_ids
+      below_new = h.below
+
+      not_new : (x : OpId) → x.number < new.number → same_op new x ≡ false
+      not_new x less = by (same_op new x) refl
+        where
+          by : (t : Bool) → same_op new x ≡ t → t ≡ false
+          by false e = refl
+          by true e = absurd (let is = ap (λ (y : OpId). y.number) (same_op_equal new x e) in omega (arith, is, less))
+
+      push_apart : (ops : List OpId) → All (IsBelow new.number) ops → AreApart ops → AreApart (ops ++ new ∷ [])
+      push_apart [] low apart = (refl, tt)
+      push_apart (op ∷ ops) low apart = (beside ops op (All-head (IsBelow new.number) op ops low) apart.0, push_apart ops (All-tail (IsBelow new.number) op ops low) apart.1)
+        where
+          beside : (ops : List OpId) (op : OpId) → op.number < new.number → among ops op ≡ false → among (ops ++ new ∷ []) op ≡ false
+          beside [] op less k = ap (λ t. t || false) (not_new op less)
+          beside (other ∷ ops) op less k = let apart = not_first other op ops k in ap (λ t. t || among (ops ++ new ∷ []) op) apart.0 ∙ beside ops op less apart.1
+
+      among_more : (ops : List OpId) (x : OpId) → among ops x ≡ true → among (ops ++ new ∷ []) x ≡ true
+      among_more [] x k = cc
+      among_more (op ∷ ops) x k = by (same_op op x) k
+        where
+          by : (t : Bool) → (t || among ops x) ≡ true → (t || among (ops ++ new ∷ []) x) ≡ true
+          by true k = refl
+          by false k = among_more ops x k
+
+      among_last : (ops : List OpId) → among (ops ++ new ∷ []) new ≡ true
+      among_last [] = ap (λ t. t || false) (same_op_self new)
+      among_last (op ∷ ops) = by (same_op op new)
+        where
+          by : (t : Bool) → (t || among (ops ++ new ∷ []) new) ≡ true
+          by true = refl
+          by false = among_last ops
+
+      not_among : (ops : List OpId) (x : OpId) → among ops x ≡ false → same_op new x ≡ false → among (ops ++ new ∷ []) x ≡ false
+      not_among [] x k e = ap (λ t. t || false) e
+      not_among (op ∷ ops) x k e = let apart = not_first op x ops k in ap (λ t. t || among (ops ++ new ∷ []) x) apart.0 ∙ not_among ops x apart.1 e
+
+      -- those who wait have open operations
+      waits_below : (asked : List Asked) → Each (Standing open_ids) asked → All (IsBelow new.number) (map op_awaited (waits asked))
+      waits_below [] k = All-nil (IsBelow new.number)
+      waits_below (one ∷ asked) k = by one.client one.token one.came (All-head (λ (one : Asked). Standing open_ids one.came) one asked k)
+        where
+          rest : All (IsBelow new.number) (map op_awaited (waits asked))
+          rest = waits_below asked (All-tail (λ (one : Asked). Standing open_ids one.came) one asked k)
+
+          by : (client token : ℕ) (came : Came) → Standing open_ids came → All (IsBelow new.number) (map op_awaited (cons_option (waits_by client token came) (waits asked)))
+          by client token Heard k = absurd k
+          by client token (Refused words) k = rest
+          by client token (Opened x) k = All-cons (IsBelow new.number) x (map op_awaited (waits asked)) (among_all (IsBelow new.number) open_ids x below_new k) rest
+          by client token (Ended x answer) k = rest
+
+      waits_then : waits asked_then_new ≡ waits asked_now ++ one_waits ∷ []
+      waits_then = filter_map-append waits_in asked_now (one_opened ∷ [])
+
+      own_lines : List Line
+      own_lines = Got from bytes ∷ [] ++ noted me (Begins new text ∷ [])
+
+      ready_new : after_lines asked_now (Got from bytes ∷ []) ≡ asked_now ++ one_heard ∷ [] → Ready now (open_ids ++ new ∷ []) own_lines (now.waiting ++ one_waits ∷ []) asked_then_new
+      ready_new are = record {
+        are = ap (map (comes_to (begun_as new))) are ∙ others_begun asked_now h.standing;
+        silent = refl;
+        counted = λ test. h.counted test ∙ ap (many test) (sym (filter_map-append (reply_to c.schema me) asked_now (one_opened ∷ []) ∙ append-nil (given c.schema me asked_now)));
+        waiting_are = waits_then ∙ ap (λ those. those ++ one_waits ∷ []) h.waiting_are;
+        opened = All-push (λ (one : Asked). OpenAmong (open_ids ++ new ∷ []) one.came) asked_now one_opened (each_weaker (Standing open_ids) (OpenAmong (open_ids ++ new ∷ [])) more asked_now h.standing) (among_last open_ids);
+        apart = push_apart open_ids below_new h.apart;
+        alone = subst (λ those. AreApart those) (sym (ap (map op_awaited) waits_then ∙ map-append op_awaited (waits asked_now) (one_waits ∷ []))) (push_apart (map op_awaited (waits asked_now)) (waits_below asked_now h.standing) h.alone);
+      }
+        where
+          more : (came : Came) → Standing open_ids came → OpenAmong (open_ids ++ new ∷ []) came
+          more Heard k = k
+          more (Refused words) k = tt
+          more (Opened x) k = among_more open_ids x k
+          more (Ended x answer) k = tt
+
+      made : Step
+      made = step s now.node (Begin request text)
+
+      w : Went (open_ids ++ new ∷ []) (Begins new text ∷ now.node.met) made
+      w = begin_went s now.node request text
+
+      out_then : Each (EndedOut (ids made.node.open_operations)) asked_then_new
+      out_then = All-push (λ (one : Asked). EndedOut (ids made.node.open_operations) one.came) asked_now one_opened (by (begins_new s now.node request text)) tt
+        where
+          by : (made.node.open_operations ≡ now.node.open_operations) ⊎ (begun_of now.node.met < new.number) → Each (EndedOut (ids made.node.open_operations)) asked_now
+          by (inl same) = subst (λ os. Each (EndedOut (ids os)) asked_now) (sym same) (each_weaker (Standing open_ids) (EndedOut open_ids) (out_of open_ids) asked_now h.standing)
+          by (inr fresh) = subst (λ ops. Each (EndedOut ops) asked_now) (sym w.open_are)
+              (each_weaker (EndedOut (map op_in w.fates)) (EndedOut (flat_map staying w.fates)) (out_more w.fates) asked_now
+              (subst (λ ops. Each (EndedOut ops) asked_now) (sym w.ops_are)
+              (each_weaker (λ came. Standing open_ids came × Past (begun_of now.node.met) came) (EndedOut (open_ids ++ new ∷ [])) outside asked_now
+              (each_both (Standing open_ids) (Past (begun_of now.node.met)) asked_now h.standing h.past))))
+            where
+              outside : (came : Came) → Standing open_ids came × Past (begun_of now.node.met) came → EndedOut (open_ids ++ new ∷ []) came
+              outside Heard k = tt
+              outside (Refused words) k = tt
+              outside (Opened x) k = tt
+              outside (Ended x answer) k = not_among open_ids x k.0 (not_new x (let le = k.1 in let less = fresh in omega (arith, le, less)))
+
+      begun_serves : after_lines asked_now (Got from bytes ∷ []) ≡ asked_now ++ one_heard ∷ [] → Serves (recorded c me now own_lines (now.waiting ++ one_waits ∷ []) made)
+      begun_serves are =
+          recorded_serves now (open_ids ++ new ∷ []) (Begins new text ∷ now.node.met) made own_lines (now.waiting ++ one_waits ∷ []) asked_then_new w (ready_new are) out_then
+          (below_begun s now.node request text h.below)
+          (subst (λ b. All (IsWithin b) (open_ids ++ new ∷ [])) (sym w.begun) (within_with_new s now.node h.below))
+          (subst (λ b. Each (Past b) asked_then_new) (sym w.begun) (All-push (λ (one : Asked). Past (begun_of now.node.met + 1) one.came) asked_now one_opened (each_weaker (Past (begun_of now.node.met)) (Past (begun_of now.node.met + 1)) later asked_now h.past) tt))
+        where
+          later : (came : Came) → Past (begun_of now.node.met) came → Past (begun_of now.node.met + 1) came
+          later Heard k = tt
+          later (Refused words) k = tt
+          later (Opened x) k = tt
+          later (Ended x answer) k = let le = k in omega (arith, le)
+
+    -- ---- a datagram
+
+    module _ (handlers : Meanings) (bytes : List ℕ) where
+      either : (t : Bool) (one other : Served) → (t ≡ true → Serves one) → (t ≡ false → Serves other) → Serves (cond t one other)
+      either true one other f g = f refl
+      either false one other f g = g refl
+
+      -- what comes behind a datagram, by what it brings
+      none_asked : (asked : List Asked) → asked ≡ [] → asked_now ++ asked ≡ asked_now
+      none_asked asked e = ap (λ those. asked_now ++ those) e ∙ append-nil asked_now
+
+      abbrev got : Peer → List Line
+      got from = Got from bytes ∷ []
+
+      wish_serves : (from : Peer) (client token : ℕ) (asked : Wish) → after_lines asked_now (got from) ≡ asked_now ++ (record { client = client; token = token; came = wished_for asked }) ∷ [] → Serves (wished c me handlers now (got from) client token asked)
+      wish_serves from client token (Refuses reason) are = refused_serves from bytes client token (codes "refused" ∷ codes "schedule" ∷ decimal reason ∷ []) are
+      wish_serves from client token (Asks request text) are = either (names_nothing request) _ _
+          (λ e. refused_serves from bytes client token (codes "refused" ∷ codes "world" ∷ decimal 7 ∷ []) (are ∙ ap (λ t. asked_now ++ (record { client = client; token = token; came = cond t (Refused (codes "refused" ∷ codes "world" ∷ decimal 7 ∷ [])) Heard }) ∷ []) e))
+          (λ e. begun_serves handlers request text from bytes client token (are ∙ ap (λ t. asked_now ++ (record { client = client; token = token; came = cond t (Refused (codes "refused" ∷ codes "world" ∷ decimal 7 ∷ [])) Heard }) ∷ []) e))
+
+      abbrev by_body : List Line → ℕ → Body → Served
+      by_body lines client (Requests token json) = wished c me handlers now lines client token (wish json)
+      by_body lines client _ = with_lines now lines
+
+      body_serves : (from : Peer) (client : ℕ) (body : Body) → after_lines asked_now (got from) ≡ asked_now ++ asked_in wish client body → Serves (by_body (got from) client body)
+      body_serves from client (Requests token json) are = wish_serves from client token (wish json) are
+      body_serves from client _ are = lines_serve (got from) (are ∙ append-nil asked_now) refl
+
+      message_serves : (from : Peer) (m : Message) → after_lines asked_now (got from) ≡ asked_now ++ asked_from wish from m.body → Serves (takes_message c me wish handlers now (got from) from m)
+      message_serves (OfNode node) m are = taken_serves handlers (got (OfNode node)) m (are ∙ append-nil asked_now) refl
+      message_serves (OfClient client) m are = body_serves (OfClient client) client m.body are
+
+      given_serves : (from : Peer) (read : Result Message ℕ) → after_lines asked_now (got from) ≡ asked_now ++ asked_by me wish from read → Serves (receives c me wish handlers now (got from) from read)
+      given_serves from (Err at) are = lines_serve (got from) (are ∙ append-nil asked_now) refl
+      given_serves from (Ok m) are = either (is_from from m.from && m.to == me) _ _
+          (λ e. message_serves from m (are ∙ ap (λ t. asked_now ++ cond t (asked_from wish from m.body) []) e))
+          (λ e. lines_serve (got from) (are ∙ ap (λ t. asked_now ++ cond t (asked_from wish from m.body) []) e ∙ append-nil asked_now) refl)
+
+    received_serves : (handlers : Meanings) (datagram : Option (Peer × List ℕ)) → Serves (received c me wish handlers now datagram)
+    received_serves handlers None = h
+    received_serves handlers (Some one) = given_serves handlers one.1 one.0 (whole_of message_at one.1) refl
+
+  -- ---- a run
+
+  turns_serve : (turns : List Turn) (now : Served) → Serves now → Serves (fold (turned c me wish) now turns)
+  turns_serve [] now h = h
+  turns_serve (turn ∷ turns) now h = turns_serve turns (turned c me wish now turn)
+      (received_serves (ticked c me turn.handlers turn.clock now) (ticked_serves now h turn.handlers turn.clock) turn.handlers turn.datagram)
+
+  module _ (first : Meanings) (before : List JournalItem) where
+    abbrev number : ℕ
+    number = starts_of before + 1
+
+    notes : List Met
+    notes = start_notes (setting c first me) (Starts number ∷ met_of me before)
+
+    start_asked : requests me wish (served_start c me first before).lines ≡ []
+    start_asked = plain_lines [] notes (start_plain (setting c first me) (Starts number ∷ met_of me before))
+
+    start_begun : begun_of (served_start c me first before).node.met ≡ 0
+    start_begun = begun_left notes (Starts number ∷ met_of me before) (all_leave notes (start_plain (setting c first me) (Starts number ∷ met_of me before)))
+
+    start_serves : Serves (served_start c me first before)
+    start_serves = record {
+      counted = λ test. ap (many test) (none_noted (flat_map (shown me) (start_items (setting c first me) number [] (met_of me before)))) ∙ ap (λ asked. many test (given c.schema me asked)) (sym start_asked);
+      waiting_are = ap waits start_asked;
+      standing = subst (Each (Standing [])) (sym start_asked) (All-nil (λ (one : Asked). Standing [] one.came));
+      apart = tt;
+      alone = subst (λ asked. AreApart (map op_awaited (waits asked))) (sym start_asked) tt;
+      below = All-nil (IsBelow (min (begun_of (served_start c me first before).node.met + 1) last_number));
+      past = subst (Each (Past (begun_of (served_start c me first before).node.met))) (sym start_asked) (All-nil (λ (one : Asked). Past (begun_of (served_start c me first before).node.met) one.came));
+    }
+
+    pub serves : (turns : List Turn) → Serves (served c me wish first before turns)
+    serves turns = turns_serve turns (served_start c me first before) start_serves

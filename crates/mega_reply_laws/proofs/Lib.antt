@@ -1,0 +1,5 @@
+pub mod Walk
+pub mod Plain
+pub mod Steps
+pub mod Ending
+pub mod Serving
