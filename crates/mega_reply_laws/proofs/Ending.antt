@@ -11,8 +11,8 @@ use Rattle.mega_outcome.specs.declared.answer.Answer.{Answer}
 use Rattle.mega_transcript.specs.Answers.{answer_words}
 use Rattle.mega_rules.specs.Met.{Met, Answers}
 use Rattle.mega_promises.specs.Served.{Line, Waiting, answer_line, answered_line, reply_line}
-use Rattle.mega_reply_laws.specs.Requests.{Asked, Came, Ended, Heard, Opened, Refused, begun_as, comes_to, ended_as, reply_by, reply_to}
-use Rattle.mega_reply_laws.proofs.Steps.{Ends, Fate, Stays, answering, op_in, staying}
+use Rattle.mega_reply_laws.specs.Requests.{Asked, Came, Ended, Heard, Opened, Refused, comes_to, ended_as, op_awaited, reply_by, reply_to, waits, waits_by}
+use Rattle.mega_reply_laws.specs.Fates.{AreApart, Ends, Fate, Stays, among, answering, op_in, staying}
 
 -- ---- operations and their ids
 
@@ -28,15 +28,6 @@ same_turned a b = by (same_op a b) (same_op b a) refl refl
     by false false h k = refl
     by true false h k = absurd (clash (same_op b a) (subst (λ x. same_op x a ≡ true) (same_op_equal a b h) (same_op_self a)) k)
     by false true h k = absurd (clash (same_op a b) (subst (λ x. same_op x b ≡ true) (same_op_equal b a k) (same_op_self b)) h)
-
--- an operation is among these
-abbrev pub among : List OpId → OpId → Bool
-among ops x = list_any (λ (op : OpId). same_op op x) ops
-
--- no two of them are the same
-abbrev pub AreApart : List OpId → Type 0
-AreApart [] = Unit {0}
-AreApart (op ∷ ops) = (among ops op ≡ false) × AreApart ops
 
 either_false : (a b : Bool) → (a || b) ≡ false → (a ≡ false) × (b ≡ false)
 either_false true b h = cc
@@ -77,19 +68,19 @@ others_told (Ends op answer ∷ fates) x h =
 -- one that is among them stays just where it is told nothing
 pub stays_untold : (fates : List Fate) (x : OpId) → AreApart (map op_in fates) → among (map op_in fates) x ≡ true → among (flat_map staying fates) x ≡ is_none (told_to fates x)
 stays_untold [] x apart h = cc
-stays_untold (Stays op ∷ fates) x apart h = by (same_op op x) refl
+stays_untold (Stays op ∷ fates) x apart h = by (same_op op x) refl (λ k. stays_untold fates x apart.1 k)
   where
-    by : (t : Bool) → same_op op x ≡ t → (t || among (flat_map staying fates) x) ≡ is_none (told_to fates x)
-    by true e = sym (ap is_none (others_told fates x (subst (λ y. among (map op_in fates) y ≡ false) (same_op_equal op x e) apart.0)))
-    by false e = stays_untold fates x apart.1 (in_rest (same_op op x) (among (map op_in fates) x) e h)
-stays_untold (Ends op answer ∷ fates) x apart h = by (same_op op x) refl
+    by : (t : Bool) → same_op op x ≡ t → (among (map op_in fates) x ≡ true → among (flat_map staying fates) x ≡ is_none (told_to fates x)) → (t || among (flat_map staying fates) x) ≡ is_none (told_to fates x)
+    by true e rest = sym (ap is_none (others_told fates x (subst (λ y. among (map op_in fates) y ≡ false) (same_op_equal op x e) apart.0)))
+    by false e rest = rest (in_rest (same_op op x) (among (map op_in fates) x) e h)
+stays_untold (Ends op answer ∷ fates) x apart h = by (same_op op x) refl (λ k. stays_untold fates x apart.1 k)
   where
     told_by : (t : Bool) → same_op op x ≡ t → told_to (Ends op answer ∷ fates) x ≡ told_if t answer (told_to fates x)
     told_by t e = ap (λ u. told_if u answer (told_to fates x)) (same_turned x op ∙ e)
 
-    by : (t : Bool) → same_op op x ≡ t → among (flat_map staying fates) x ≡ is_none (told_to (Ends op answer ∷ fates) x)
-    by true e = others_staying fates x (subst (λ y. among (map op_in fates) y ≡ false) (same_op_equal op x e) apart.0) ∙ sym (ap is_none (told_by true e))
-    by false e = stays_untold fates x apart.1 (in_rest (same_op op x) (among (map op_in fates) x) e h) ∙ sym (ap is_none (told_by false e))
+    by : (t : Bool) → same_op op x ≡ t → (among (map op_in fates) x ≡ true → among (flat_map staying fates) x ≡ is_none (told_to fates x)) → among (flat_map staying fates) x ≡ is_none (told_to (Ends op answer ∷ fates) x)
+    by true e rest = others_staying fates x (subst (λ y. among (map op_in fates) y ≡ false) (same_op_equal op x e) apart.0) ∙ sym (ap is_none (told_by true e))
+    by false e rest = rest (in_rest (same_op op x) (among (map op_in fates) x) e h) ∙ sym (ap is_none (told_by false e))
 
 pub staying_apart : (fates : List Fate) → AreApart (map op_in fates) → AreApart (flat_map staying fates)
 staying_apart [] h = tt
@@ -120,28 +111,13 @@ passes_ended (Ends op other ∷ fates) x answer = passes_ended fates x answer
 pub passes_opened : (fates : List Fate) (x : OpId) → passes fates (Opened x) ≡ open_or_ended x (told_to fates x)
 passes_opened [] x = refl
 passes_opened (Stays op ∷ fates) x = passes_opened fates x
-passes_opened (Ends op answer ∷ fates) x = by (same_op x op)
+passes_opened (Ends op answer ∷ fates) x = by (same_op x op) (passes_opened fates x)
   where
-    by : (t : Bool) → passes fates (cond t (Ended x answer) (Opened x)) ≡ open_or_ended x (cond t (Some answer) (told_to fates x))
-    by true = passes_ended fates x answer
-    by false = passes_opened fates x
+    by : (t : Bool) → passes fates (Opened x) ≡ open_or_ended x (told_to fates x) → passes fates (cond t (Ended x answer) (Opened x)) ≡ open_or_ended x (cond t (Some answer) (told_to fates x))
+    by true rest = passes_ended fates x answer
+    by false rest = rest
 
 -- ---- who waits
-
-abbrev pub waits_by : ℕ → ℕ → Came → Option Waiting
-waits_by client token Heard = None
-waits_by client token (Refused words) = None
-waits_by client token (Opened op) = Some (record { op = op; client = client; token = token })
-waits_by client token (Ended op answer) = None
-
-abbrev pub waits_in : Asked → Option Waiting
-waits_in one = waits_by one.client one.token one.came
-
-abbrev pub waits : List Asked → List Waiting
-waits asked = filter_map waits_in asked
-
-abbrev pub op_awaited : Waiting → OpId
-op_awaited one = one.op
 
 abbrev pub answers_to : OpId → Waiting → Bool
 answers_to op one = same_op one.op op
@@ -171,56 +147,54 @@ all_pass_each (Ends op answer ∷ fates) asked = all_pass_each fates (ends op an
 -- an answer ends the waiting of those who wait for it
 waits_less : (op : OpId) (answer : Answer) (asked : List Asked) → waits (ends op answer asked) ≡ filter (λ (one : Waiting). not (answers_to op one)) (waits asked)
 waits_less op answer [] = refl
-waits_less op answer (one ∷ asked) = by one.client one.token one.came
+waits_less op answer (one ∷ asked) = by one.client one.token one.came (waits_less op answer asked)
   where
-    rest : waits (ends op answer asked) ≡ filter (λ (one : Waiting). not (answers_to op one)) (waits asked)
-    rest = waits_less op answer asked
+    other_waits : Waiting → Bool
+    other_waits one = not (answers_to op one)
 
-    by : (client token : ℕ) (came : Came)
-        → cons_option (waits_by client token (ended_as op answer came)) (waits (ends op answer asked)) ≡ filter (λ (one : Waiting). not (answers_to op one)) (cons_option (waits_by client token came) (waits asked))
-    by client token Heard = rest
-    by client token (Refused words) = rest
-    by client token (Ended other given) = rest
-    by client token (Opened other) = go (same_op other op)
+    by : (client token : ℕ) (came : Came) → waits (ends op answer asked) ≡ filter other_waits (waits asked)
+        → cons_option (waits_by client token (ended_as op answer came)) (waits (ends op answer asked)) ≡ filter other_waits (cons_option (waits_by client token came) (waits asked))
+    by client token Heard rest = rest
+    by client token (Refused words) rest = rest
+    by client token (Ended other given) rest = rest
+    by client token (Opened other) rest = go (same_op other op)
       where
         one_waits : Waiting
         one_waits = record { op = other; client = client; token = token }
 
         go : (t : Bool) → cons_option (waits_by client token (cond t (Ended other answer) (Opened other))) (waits (ends op answer asked))
-            ≡ cond (not t) (one_waits ∷ filter (λ (one : Waiting). not (answers_to op one)) (waits asked)) (filter (λ (one : Waiting). not (answers_to op one)) (waits asked))
+            ≡ cond (not t) (one_waits ∷ filter other_waits (waits asked)) (filter other_waits (waits asked))
         go true = rest
         go false = ap (λ those. one_waits ∷ those) rest
 
 -- those who waited for another find it as before
 find_other : (op other : OpId) (those : List Waiting) → same_op other op ≡ false → find (answers_to other) (filter (λ (one : Waiting). not (answers_to op one)) those) ≡ find (answers_to other) those
 find_other op other [] h = refl
-find_other op other (one ∷ those) h = by (same_op one.op op) refl
+find_other op other (one ∷ those) h = by (same_op one.op op) refl (find_other op other those h)
   where
-    rest : find (answers_to other) (filter (λ (one : Waiting). not (answers_to op one)) those) ≡ find (answers_to other) those
-    rest = find_other op other those h
+    kept : List Waiting
+    kept = filter (λ (one : Waiting). not (answers_to op one)) those
 
-    by : (t : Bool) → same_op one.op op ≡ t → find (answers_to other) (cond (not t) (one ∷ filter (λ (one : Waiting). not (answers_to op one)) those) (filter (λ (one : Waiting). not (answers_to op one)) those)) ≡ cond (same_op one.op other) (Some one) (find (answers_to other) those)
-    by true e = rest ∙ sym (ap (λ t. cond t (Some one) (find (answers_to other) those)) (same_turned one.op other ∙ ap (same_op other) (same_op_equal one.op op e) ∙ h))
-    by false e = ap (λ found. cond (same_op one.op other) (Some one) found) rest
+    by : (t : Bool) → same_op one.op op ≡ t → find (answers_to other) kept ≡ find (answers_to other) those
+        → find (answers_to other) (cond (not t) (one ∷ kept) kept) ≡ cond (same_op one.op other) (Some one) (find (answers_to other) those)
+    by true e rest = rest ∙ sym (ap (λ t. cond t (Some one) (find (answers_to other) those)) (same_turned one.op other ∙ ap (same_op other) (same_op_equal one.op op e) ∙ h))
+    by false e rest = ap (λ found. cond (same_op one.op other) (Some one) found) rest
 
 among_less : (P : Waiting → Bool) (those : List Waiting) (x : OpId) → among (map op_awaited those) x ≡ false → among (map op_awaited (filter P those)) x ≡ false
 among_less P [] x h = refl
-among_less P (one ∷ those) x h = by (P one)
+among_less P (one ∷ those) x h = by (P one) (among_less P those x (not_first one.op x (map op_awaited those) h).1)
   where
-    apart : (same_op one.op x ≡ false) × (among (map op_awaited those) x ≡ false)
-    apart = not_first one.op x (map op_awaited those) h
-
-    by : (t : Bool) → among (map op_awaited (cond t (one ∷ filter P those) (filter P those))) x ≡ false
-    by true = ap (λ t. t || among (map op_awaited (filter P those)) x) apart.0 ∙ among_less P those x apart.1
-    by false = among_less P those x apart.1
+    by : (t : Bool) → among (map op_awaited (filter P those)) x ≡ false → among (map op_awaited (cond t (one ∷ filter P those) (filter P those))) x ≡ false
+    by true rest = ap (λ t. t || among (map op_awaited (filter P those)) x) (not_first one.op x (map op_awaited those) h).0 ∙ rest
+    by false rest = rest
 
 pub apart_less : (P : Waiting → Bool) (those : List Waiting) → AreApart (map op_awaited those) → AreApart (map op_awaited (filter P those))
 apart_less P [] h = tt
-apart_less P (one ∷ those) h = by (P one)
+apart_less P (one ∷ those) h = by (P one) (apart_less P those h.1)
   where
-    by : (t : Bool) → AreApart (map op_awaited (cond t (one ∷ filter P those) (filter P those)))
-    by true = (among_less P those one.op h.0, apart_less P those h.1)
-    by false = apart_less P those h.1
+    by : (t : Bool) → AreApart (map op_awaited (filter P those)) → AreApart (map op_awaited (cond t (one ∷ filter P those) (filter P those)))
+    by true rest = (among_less P those one.op h.0, rest)
+    by false rest = rest
 
 -- ---- how many lines pass a test
 
@@ -251,16 +225,17 @@ module _ (schema : Schema) (me : ℕ) where
   -- where none waits for it, an answer changes nothing
   none_ends : (op : OpId) (answer : Answer) (asked : List Asked) → among (map op_awaited (waits asked)) op ≡ false → ends op answer asked ≡ asked
   none_ends op answer [] h = refl
-  none_ends op answer (one ∷ asked) h = by one.client one.token one.came h
+  none_ends op answer (one ∷ asked) h = by one.client one.token one.came h (λ k. none_ends op answer asked k)
     where
       by : (client token : ℕ) (came : Came) → among (map op_awaited (cons_option (waits_by client token came) (waits asked))) op ≡ false
+          → (among (map op_awaited (waits asked)) op ≡ false → ends op answer asked ≡ asked)
           → ((record { client = client; token = token; came = ended_as op answer came }) ∷ ends op answer asked) ≡ ((record { client = client; token = token; came = came }) ∷ asked)
-      by client token Heard k = ap (λ those. (record { client = client; token = token; came = Heard }) ∷ those) (none_ends op answer asked k)
-      by client token (Refused words) k = ap (λ those. (record { client = client; token = token; came = Refused words }) ∷ those) (none_ends op answer asked k)
-      by client token (Ended other given) k = ap (λ those. (record { client = client; token = token; came = Ended other given }) ∷ those) (none_ends op answer asked k)
-      by client token (Opened other) k =
+      by client token Heard k rest = ap (λ those. (record { client = client; token = token; came = Heard }) ∷ those) (rest k)
+      by client token (Refused words) k rest = ap (λ those. (record { client = client; token = token; came = Refused words }) ∷ those) (rest k)
+      by client token (Ended other given) k rest = ap (λ those. (record { client = client; token = token; came = Ended other given }) ∷ those) (rest k)
+      by client token (Opened other) k rest =
           let apart = not_first other op (map op_awaited (waits asked)) k in
-          λ i. (record { client = client; token = token; came = cond (apart.0 i) (Ended other answer) (Opened other) }) ∷ none_ends op answer asked apart.1 i
+          λ i. (record { client = client; token = token; came = cond (apart.0 i) (Ended other answer) (Opened other) }) ∷ rest apart.1 i
 
   module _ (test : Line → Bool) where
     swap_in : (a b d : ℕ) → a + (b + d) ≡ (a + b) + d
@@ -270,21 +245,28 @@ module _ (schema : Schema) (me : ℕ) where
     one_ends : (op : OpId) (answer : Answer) (asked : List Asked) → AreApart (map op_awaited (waits asked))
         → many test (given (ends op answer asked)) ≡ many test (given asked) + many test (found_reply answer (find (answers_to op) (waits asked)))
     one_ends op answer [] apart = refl
-    one_ends op answer (one ∷ asked) apart = by one.client one.token one.came apart
+    one_ends op answer (one ∷ asked) apart = by one.client one.token one.came apart (λ k. one_ends op answer asked k)
       where
-        with_one : (line : Line) (found : Option Waiting) → many test (given (ends op answer asked)) ≡ many test (given asked) + many test (found_reply answer found)
-            → many test (line ∷ given (ends op answer asked)) ≡ many test (line ∷ given asked) + many test (found_reply answer found)
-        with_one line found e =
-            many_more test line (given (ends op answer asked)) ∙ ap (λ n. cond (test line) 1 0 + n) e
+        ended : List Line
+        ended = given (ends op answer asked)
+
+        found : Option Waiting
+        found = find (answers_to op) (waits asked)
+
+        with_one : (line : Line) → many test ended ≡ many test (given asked) + many test (found_reply answer found)
+            → many test (line ∷ ended) ≡ many test (line ∷ given asked) + many test (found_reply answer found)
+        with_one line e =
+            many_more test line ended ∙ ap (λ n. cond (test line) 1 0 + n) e
             ∙ swap_in (cond (test line) 1 0) (many test (given asked)) (many test (found_reply answer found)) ∙ sym (ap (λ n. n + many test (found_reply answer found)) (many_more test line (given asked)))
 
         by : (client token : ℕ) (came : Came) → AreApart (map op_awaited (cons_option (waits_by client token came) (waits asked)))
-            → many test (cons_option (reply_by schema me client token (ended_as op answer came)) (given (ends op answer asked)))
+            → (AreApart (map op_awaited (waits asked)) → many test ended ≡ many test (given asked) + many test (found_reply answer found))
+            → many test (cons_option (reply_by schema me client token (ended_as op answer came)) ended)
             ≡ many test (cons_option (reply_by schema me client token came) (given asked)) + many test (found_reply answer (find (answers_to op) (cons_option (waits_by client token came) (waits asked))))
-        by client token Heard k = one_ends op answer asked k
-        by client token (Refused words) k = with_one (reply_line me client token words) (find (answers_to op) (waits asked)) (one_ends op answer asked k)
-        by client token (Ended other given) k = with_one (reply_line me client token (answer_words schema given)) (find (answers_to op) (waits asked)) (one_ends op answer asked k)
-        by client token (Opened other) k = go (same_op other op) refl
+        by client token Heard k rest = rest k
+        by client token (Refused words) k rest = with_one (reply_line me client token words) (rest k)
+        by client token (Ended other told) k rest = with_one (reply_line me client token (answer_words schema told)) (rest k)
+        by client token (Opened other) k rest = go (same_op other op) refl
           where
             one_waits : Waiting
             one_waits = record { op = other; client = client; token = token }
@@ -295,18 +277,18 @@ module _ (schema : Schema) (me : ℕ) where
             swapped : (a b : ℕ) → a + b ≡ b + a
             swapped a b = omega arith
 
+            none : (a : ℕ) → a + 0 ≡ a
+            none a = omega arith
+
             single : many test (line ∷ []) ≡ cond (test line) 1 0
             single = many_more test line [] ∙ none (cond (test line) 1 0)
-              where
-                none : (a : ℕ) → a + 0 ≡ a
-                none a = omega arith
 
-            go : (t : Bool) → same_op other op ≡ t → many test (cons_option (reply_by schema me client token (cond t (Ended other answer) (Opened other))) (given (ends op answer asked)))
-                ≡ many test (given asked) + many test (found_reply answer (cond t (Some one_waits) (find (answers_to op) (waits asked))))
-            go true e = many_more test line (given (ends op answer asked))
+            go : (t : Bool) → same_op other op ≡ t → many test (cons_option (reply_by schema me client token (cond t (Ended other answer) (Opened other))) ended)
+                ≡ many test (given asked) + many test (found_reply answer (cond t (Some one_waits) found))
+            go true e = many_more test line ended
                 ∙ ap (λ those. cond (test line) 1 0 + many test (given those)) (none_ends op answer asked (subst (λ x. among (map op_awaited (waits asked)) x ≡ false) (same_op_equal other op e) k.0))
                 ∙ swapped (cond (test line) 1 0) (many test (given asked)) ∙ ap (λ n. many test (given asked) + n) (sym single)
-            go false e = one_ends op answer asked k.1
+            go false e = rest k.1
 
     -- ---- all answers of a step
 

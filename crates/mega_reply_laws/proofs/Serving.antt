@@ -28,10 +28,11 @@ use Rattle.mega_promises.specs.Items.{shown}
 use Rattle.mega_promises.specs.NodeRuns.{met_of}
 use Rattle.mega_promises.specs.Runs.{names_nothing, setting}
 use Rattle.mega_promises.specs.Served.{Asks, Got, Line, Noted, OfClient, OfNode, Peer, Put, Refuses, Served, Turn, Waiting, Wish, answer_line, answered_line, given as receives, is_from, is_open_at, noted, put_out, received, recorded, reply_line, served, served_start, takes_message, ticked, turned, wished, with_lines}
-use Rattle.mega_reply_laws.specs.Requests.{Asked, Came, Ended, Heard, IsAsItStands, Opened, Refused, asked_by, asked_from, asked_in, behind_item, behind_line, begun_as, comes_to, is_reply, replies, reply_to, requests, wished_for}
-use Rattle.mega_reply_laws.proofs.Ending.{AreApart, all_end, all_pass, all_pass_each, among, apart_less, ends, given, many, many_both, not_first, op_awaited, open_or_ended, others_staying, passes, passes_ended, passes_opened, passes_refused, replies_of, staying_apart, stays_untold, told_to, waits, waits_by, waits_in}
+use Rattle.mega_reply_laws.specs.Fates.{AreApart, Ends, Fate, Stays, among, answering, ids, op_in, staying}
+use Rattle.mega_reply_laws.specs.Requests.{Asked, Came, Ended, Heard, IsAsItStands, Opened, Refused, asked_by, asked_from, asked_in, behind_item, behind_line, begun_as, comes_to, is_reply, op_awaited, replies, reply_to, requests, waits, waits_by, waits_in, wished_for}
+use Rattle.mega_reply_laws.proofs.Ending.{all_end, all_pass, all_pass_each, apart_less, ends, given, many, many_both, not_first, open_or_ended, others_staying, passes, passes_ended, passes_opened, passes_refused, replies_of, staying_apart, stays_untold, told_to}
 use Rattle.mega_reply_laws.proofs.Plain.{IsPlain, start_plain}
-use Rattle.mega_reply_laws.proofs.Steps.{AreBelow, Ends, Fate, IsBelow, IsWithin, LeavesBegun, Stays, Went, all_leave, answering, begin_went, begins_new, begun_left, below_begun, below_still, ids, op_in, staying, take_went, tick_went, within_still, within_with_new}
+use Rattle.mega_reply_laws.proofs.Steps.{AreBelow, IsBelow, IsWithin, Went, all_leave, begin_went, begins_new, begun_left, below_begun, below_still, take_went, tick_went, within_still, within_with_new}
 
 -- ---- what is said of each request
 
@@ -97,11 +98,11 @@ out_more fates (Ended x answer) h = others_staying fates x h
 -- what holds of all holds of one that is among them
 pub among_all : (P : OpId → Type 0) (ops : List OpId) (x : OpId) → All P ops → among ops x ≡ true → P x
 among_all P [] x h k = cc
-among_all P (op ∷ ops) x h k = by (same_op op x) refl k
+among_all P (op ∷ ops) x h k = by (same_op op x) refl k (λ rest. among_all P ops x (All-tail P op ops h) rest)
   where
-    by : (t : Bool) → same_op op x ≡ t → (t || among ops x) ≡ true → P x
-    by true e k = subst P (same_op_equal op x e) (All-head P op ops h)
-    by false e k = among_all P ops x (All-tail P op ops h) k
+    by : (t : Bool) → same_op op x ≡ t → (t || among ops x) ≡ true → (among ops x ≡ true → P x) → P x
+    by true e k rest = subst P (same_op_equal op x e) (All-head P op ops h)
+    by false e k rest = rest k
 
 -- ---- behind the fates of a step
 
@@ -128,7 +129,9 @@ passed_past n fates within (Opened x) h = subst (Past n) (sym (passes_opened fat
 still_waits : (fates : List Fate) → AreApart (map op_in fates) → (asked : List Asked) → Each (OpenAmong (map op_in fates)) asked
     → waits (map (comes_to (passes fates)) asked) ≡ filter (λ (one : Waiting). among (flat_map staying fates) one.op) (waits asked)
 still_waits fates apart [] h = refl
-still_waits fates apart (one ∷ asked) h = by one.client one.token one.came (All-head (λ (one : Asked). OpenAmong (map op_in fates) one.came) one asked h)
+still_waits fates apart (one ∷ asked) h =
+    by one.client one.token one.came (All-head (λ (one : Asked). OpenAmong (map op_in fates) one.came) one asked h)
+    (still_waits fates apart asked (All-tail (λ (one : Asked). OpenAmong (map op_in fates) one.came) one asked h))
   where
     stay : Waiting → Bool
     stay w = among (flat_map staying fates) w.op
@@ -136,14 +139,12 @@ still_waits fates apart (one ∷ asked) h = by one.client one.token one.came (Al
     after : List Asked
     after = map (comes_to (passes fates)) asked
 
-    rest : waits after ≡ filter stay (waits asked)
-    rest = still_waits fates apart asked (All-tail (λ (one : Asked). OpenAmong (map op_in fates) one.came) one asked h)
-
-    by : (client token : ℕ) (came : Came) → OpenAmong (map op_in fates) came → cons_option (waits_by client token (passes fates came)) (waits after) ≡ filter stay (cons_option (waits_by client token came) (waits asked))
-    by client token Heard k = absurd k
-    by client token (Refused words) k = ap (λ came. cons_option (waits_by client token came) (waits after)) (passes_refused fates words) ∙ rest
-    by client token (Ended x answer) k = ap (λ came. cons_option (waits_by client token came) (waits after)) (passes_ended fates x answer) ∙ rest
-    by client token (Opened x) k =
+    by : (client token : ℕ) (came : Came) → OpenAmong (map op_in fates) came → waits after ≡ filter stay (waits asked)
+        → cons_option (waits_by client token (passes fates came)) (waits after) ≡ filter stay (cons_option (waits_by client token came) (waits asked))
+    by client token Heard k rest = absurd k
+    by client token (Refused words) k rest = ap (λ came. cons_option (waits_by client token came) (waits after)) (passes_refused fates words) ∙ rest
+    by client token (Ended x answer) k rest = ap (λ came. cons_option (waits_by client token came) (waits after)) (passes_ended fates x answer) ∙ rest
+    by client token (Opened x) k rest =
         ap (λ came. cons_option (waits_by client token came) (waits after)) (passes_opened fates x) ∙ go (told_to fates x)
         ∙ sym (ap (λ t. cond t (one_waits ∷ filter stay (waits asked)) (filter stay (waits asked))) (stays_untold fates x apart k))
       where
@@ -271,7 +272,7 @@ module _ (c : Cluster) (me : ℕ) (wish : List ℕ → Wish) where
         ap (λ notes. after_lines asked (noted me notes)) w.notes_are
         ∙ ap (after_lines asked) (noted_both w.plain (flat_map answering w.fates))
         ∙ fold-append after_line asked (noted me w.plain) (noted me (flat_map answering w.fates))
-        ∙ ap (λ those. after_lines those (noted me (flat_map answering w.fates))) (plain_lines asked w.plain w.is_plain)
+        ∙ ap (λ those. after_lines those (noted me (flat_map answering w.fates))) (plain_lines asked w.plain w.are_plain)
         ∙ answer_lines w.fates asked ∙ all_pass_each w.fates asked
 
     requests_are : requests me wish next.lines ≡ asked_then
@@ -288,7 +289,7 @@ module _ (c : Cluster) (me : ℕ) (wish : List ℕ → Wish) where
     tail_is =
         ap (flat_map (answer_line c.schema me waiting)) w.notes_are
         ∙ flat_map-append (answer_line c.schema me waiting) w.plain (flat_map answering w.fates)
-        ∙ ap (λ lines. lines ++ replies_of c.schema me waiting w.fates) (plain_silent waiting w.plain w.is_plain)
+        ∙ ap (λ lines. lines ++ replies_of c.schema me waiting w.fates) (plain_silent waiting w.plain w.are_plain)
 
     replies_are : replies next.lines ≡ replies now.lines ++ replies_of c.schema me waiting w.fates
     replies_are =
@@ -346,9 +347,9 @@ module _ (c : Cluster) (me : ℕ) (wish : List ℕ → Wish) where
 
     -- before a step at which no operation begins
     ready_still : (own : List Line) → after_lines asked_now own ≡ asked_now → replies own ≡ [] → Ready now (ids now.node.open_operations) own now.waiting asked_now
-    ready_still own are silent = record {
-      are = are;
-      silent = silent;
+    ready_still own same none = record {
+      are = same;
+      silent = none;
       counted = h.counted;
       waiting_are = h.waiting_are;
       opened = each_weaker (Standing (ids now.node.open_operations)) (OpenAmong (ids now.node.open_operations)) (opened_of (ids now.node.open_operations)) asked_now h.standing;
@@ -403,7 +404,7 @@ module _ (c : Cluster) (me : ℕ) (wish : List ℕ → Wish) where
       refusal_lines : List Line
       refusal_lines = Got from bytes ∷ reply_line me client token words ∷ []
 
-      refused_serves : after_lines asked_now (Got from bytes ∷ []) ≡ asked_now ++ one_refused ∷ [] → Serves (with_lines now (Got from bytes ∷ [] ++ reply_line me client token words ∷ []))
+      refused_serves : after_lines asked_now (Got from bytes ∷ []) ≡ asked_now ++ one_refused ∷ [] → Serves (with_lines now refusal_lines)
       refused_serves are = record {
         counted = λ test.
             ap (many test) (filter-append is_reply now.lines refusal_lines)
@@ -450,17 +451,18 @@ module _ (c : Cluster) (me : ℕ) (wish : List ℕ → Wish) where
       -- the others began before
       others_begun : (asked : List Asked) → Each (Standing open_ids) asked → map (comes_to (begun_as new)) (asked ++ one_heard ∷ []) ≡ asked ++ one_opened ∷ []
       others_begun [] k = refl
-      others_begun (one ∷ asked) k = by one.client one.token one.came (All-head (λ (one : Asked). Standing open_ids one.came) one asked k)
+      others_begun (one ∷ asked) k =
+          by one.client one.token one.came (All-head (λ (one : Asked). Standing open_ids one.came) one asked k) (others_begun asked (All-tail (λ (one : Asked). Standing open_ids one.came) one asked k))
         where
-          rest : map (comes_to (begun_as new)) (asked ++ one_heard ∷ []) ≡ asked ++ one_opened ∷ []
-          rest = others_begun asked (All-tail (λ (one : Asked). Standing open_ids one.came) one asked k)
+          before_it : List Asked
+          before_it = map (comes_to (begun_as new)) (asked ++ one_heard ∷ [])
 
-          by : (client token : ℕ) (came : Came) → Standing open_ids came
-              → ((record { client = client; token = token; came = begun_as new came }) ∷ map (comes_to (begun_as new)) (asked ++ one_heard ∷ [])) ≡ ((record { client = client; token = token; came = came }) ∷ (asked ++ one_opened ∷ []))
-          by client token Heard k = absurd k
-          by client token (Refused words) k = ap (λ those. (record { client = client; token = token; came = Refused words }) ∷ those) rest
-          by client token (Opened x) k = ap (λ those. (record { client = client; token = token; came = Opened x }) ∷ those) rest
-          by client token (Ended x answer) k = ap (λ those. (record { client = client; token = token; came = Ended x answer }) ∷ those) rest
+          by : (client token : ℕ) (came : Came) → Standing open_ids came → before_it ≡ asked ++ one_opened ∷ []
+              → ((record { client = client; token = token; came = begun_as new came }) ∷ before_it) ≡ ((record { client = client; token = token; came = came }) ∷ (asked ++ one_opened ∷ []))
+          by client token Heard k rest = absurd k
+          by client token (Refused words) k rest = ap (λ those. (record { client = client; token = token; came = Refused words }) ∷ those) rest
+          by client token (Opened x) k rest = ap (λ those. (record { client = client; token = token; came = Opened x }) ∷ those) rest
+          by client token (Ended x answer) k rest = ap (λ those. (record { client = client; token = token; came = Ended x answer }) ∷ those) rest
 
       asked_then_new : List Asked
       asked_then_new = asked_now ++ one_opened ∷ []
@@ -486,19 +488,19 @@ module _ (c : Cluster) (me : ℕ) (wish : List ℕ → Wish) where
 
       among_more : (ops : List OpId) (x : OpId) → among ops x ≡ true → among (ops ++ new ∷ []) x ≡ true
       among_more [] x k = cc
-      among_more (op ∷ ops) x k = by (same_op op x) k
+      among_more (op ∷ ops) x k = by (same_op op x) k (λ rest. among_more ops x rest)
         where
-          by : (t : Bool) → (t || among ops x) ≡ true → (t || among (ops ++ new ∷ []) x) ≡ true
-          by true k = refl
-          by false k = among_more ops x k
+          by : (t : Bool) → (t || among ops x) ≡ true → (among ops x ≡ true → among (ops ++ new ∷ []) x ≡ true) → (t || among (ops ++ new ∷ []) x) ≡ true
+          by true k rest = refl
+          by false k rest = rest k
 
       among_last : (ops : List OpId) → among (ops ++ new ∷ []) new ≡ true
       among_last [] = ap (λ t. t || false) (same_op_self new)
-      among_last (op ∷ ops) = by (same_op op new)
+      among_last (op ∷ ops) = by (same_op op new) (among_last ops)
         where
-          by : (t : Bool) → (t || among (ops ++ new ∷ []) new) ≡ true
-          by true = refl
-          by false = among_last ops
+          by : (t : Bool) → among (ops ++ new ∷ []) new ≡ true → (t || among (ops ++ new ∷ []) new) ≡ true
+          by true rest = refl
+          by false rest = rest
 
       not_among : (ops : List OpId) (x : OpId) → among ops x ≡ false → same_op new x ≡ false → among (ops ++ new ∷ []) x ≡ false
       not_among [] x k e = ap (λ t. t || false) e
@@ -507,26 +509,24 @@ module _ (c : Cluster) (me : ℕ) (wish : List ℕ → Wish) where
       -- those who wait have open operations
       waits_below : (asked : List Asked) → Each (Standing open_ids) asked → All (IsBelow new.number) (map op_awaited (waits asked))
       waits_below [] k = All-nil (IsBelow new.number)
-      waits_below (one ∷ asked) k = by one.client one.token one.came (All-head (λ (one : Asked). Standing open_ids one.came) one asked k)
+      waits_below (one ∷ asked) k =
+          by one.client one.token one.came (All-head (λ (one : Asked). Standing open_ids one.came) one asked k) (waits_below asked (All-tail (λ (one : Asked). Standing open_ids one.came) one asked k))
         where
-          rest : All (IsBelow new.number) (map op_awaited (waits asked))
-          rest = waits_below asked (All-tail (λ (one : Asked). Standing open_ids one.came) one asked k)
-
-          by : (client token : ℕ) (came : Came) → Standing open_ids came → All (IsBelow new.number) (map op_awaited (cons_option (waits_by client token came) (waits asked)))
-          by client token Heard k = absurd k
-          by client token (Refused words) k = rest
-          by client token (Opened x) k = All-cons (IsBelow new.number) x (map op_awaited (waits asked)) (among_all (IsBelow new.number) open_ids x below_new k) rest
-          by client token (Ended x answer) k = rest
+          by : (client token : ℕ) (came : Came) → Standing open_ids came → All (IsBelow new.number) (map op_awaited (waits asked)) → All (IsBelow new.number) (map op_awaited (cons_option (waits_by client token came) (waits asked)))
+          by client token Heard k rest = absurd k
+          by client token (Refused words) k rest = rest
+          by client token (Opened x) k rest = All-cons (IsBelow new.number) x (map op_awaited (waits asked)) (among_all (IsBelow new.number) open_ids x below_new k) rest
+          by client token (Ended x answer) k rest = rest
 
       waits_then : waits asked_then_new ≡ waits asked_now ++ one_waits ∷ []
       waits_then = filter_map-append waits_in asked_now (one_opened ∷ [])
 
       own_lines : List Line
-      own_lines = Got from bytes ∷ [] ++ noted me (Begins new text ∷ [])
+      own_lines = (Got from bytes ∷ []) ++ noted me (Begins new text ∷ [])
 
       ready_new : after_lines asked_now (Got from bytes ∷ []) ≡ asked_now ++ one_heard ∷ [] → Ready now (open_ids ++ new ∷ []) own_lines (now.waiting ++ one_waits ∷ []) asked_then_new
-      ready_new are = record {
-        are = ap (map (comes_to (begun_as new))) are ∙ others_begun asked_now h.standing;
+      ready_new brought = record {
+        are = ap (map (comes_to (begun_as new))) brought ∙ others_begun asked_now h.standing;
         silent = refl;
         counted = λ test. h.counted test ∙ ap (many test) (sym (filter_map-append (reply_to c.schema me) asked_now (one_opened ∷ []) ∙ append-nil (given c.schema me asked_now)));
         waiting_are = waits_then ∙ ap (λ those. those ++ one_waits ∷ []) h.waiting_are;

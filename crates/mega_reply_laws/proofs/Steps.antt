@@ -19,32 +19,11 @@ use Rattle.mega_rules.specs.Operations.{Node, Now, Operation, Setting}
 use Rattle.mega_rules.specs.Replies.{reply_to}
 use Rattle.mega_rules.specs.Steps.{Begin, Decision, Event, Heard, Step, Take, Tick, acts_in_turn, all_act, apply_notes, at_first, at_open, background, begin_step, decision_note, first_settled, hears_message, if_new, is_worn, lapse_notes, lease_notes, missing_kind, new_operation, news, onto, op_of, portion_of, refusal, step, step_of, stored_after, take_step, taken, tick_step, ticked, told_decision, told_notes, unless_missing, unless_refused}
 use Rattle.mega_rules.specs.Members.{kind_of}
-use Rattle.mega_reply_laws.proofs.Plain.{IsPlain, applies_plain, both, decision_plain, is_plain, lapses_plain, leases_plain, nothing, told_plain}
+use Rattle.mega_reply_laws.specs.Fates.{Ends, Fate, HaveFates, Stays, answering, id_of, ids, is_answer, op_in, open_at, staying}
+use Rattle.mega_reply_laws.proofs.Plain.{IsPlain, applies_plain, both, decision_plain, lapses_plain, leases_plain, nothing, told_plain}
 use Rattle.mega_reply_laws.proofs.Walk.{Walks, begun_it, heard_it, hears_id, ticked_it}
 
 -- ---- what becomes of an operation in a step
-
-pub data Fate : Type 0 where
-  Stays : (op : OpId) → Fate
-  Ends : (op : OpId) (answer : Answer) → Fate
-
-abbrev pub op_in : Fate → OpId
-op_in (Stays op) = op
-op_in (Ends op answer) = op
-
-abbrev pub staying : Fate → List OpId
-staying (Stays op) = op ∷ []
-staying (Ends op answer) = []
-
-abbrev pub answering : Fate → List Met
-answering (Stays op) = []
-answering (Ends op answer) = Answers op answer ∷ []
-
-abbrev pub id_of : Operation → OpId
-id_of o = o.id
-
-abbrev pub ids : List Operation → List OpId
-ids os = map id_of os
 
 -- while operations act: which of them are kept so far, and what is answered so far
 pub record Sofar (kept : List OpId) (answers : List Met) (now : Now) : Type 0 where
@@ -52,12 +31,12 @@ pub record Sofar (kept : List OpId) (answers : List Met) (now : Now) : Type 0 wh
   pub answers_are : now.answers ≡ answers
   pub valid : All IsPlain now.valid
 
-pub record Came (kept : List OpId) (answers : List Met) (op : OpId) (now : Now) : Type 0 where
+pub record Became (kept : List OpId) (answers : List Met) (op : OpId) (now : Now) : Type 0 where
   pub fate : Fate
   pub op_is : op_in fate ≡ op
   pub sofar : Sofar (kept ++ staying fate) (answers ++ answering fate) now
 
-comes : (kept : List OpId) (answers : List Met) → Walks (Sofar kept answers) (Came kept answers)
+comes : (kept : List OpId) (answers : List Met) → Walks (Sofar kept answers) (Became kept answers)
 comes kept answers = record {
   keeps_it = λ now o h. record {
     fate = Stays o.id;
@@ -80,20 +59,20 @@ comes kept answers = record {
 
 -- ---- all of them act, one after another
 
-pub record AllCame (kept : List OpId) (answers : List Met) (ops : List OpId) (now : Now) : Type 0 where
+pub record AllBecame (kept : List OpId) (answers : List Met) (ops : List OpId) (now : Now) : Type 0 where
   pub fates : List Fate
   pub ops_are : map op_in fates ≡ ops
   pub sofar : Sofar (kept ++ flat_map staying fates) (answers ++ flat_map answering fates) now
 
-none_came : (kept : List OpId) (answers : List Met) (now : Now) → Sofar kept answers now → AllCame kept answers [] now
+none_came : (kept : List OpId) (answers : List Met) (now : Now) → Sofar kept answers now → AllBecame kept answers [] now
 none_came kept answers now h = record {
   fates = [];
   ops_are = refl;
   sofar = record { kept_are = h.kept_are ∙ sym (append-nil kept); answers_are = h.answers_are ∙ sym (append-nil answers); valid = h.valid };
 }
 
-one_more : (kept : List OpId) (answers : List Met) (op : OpId) (mid : Now) (ops : List OpId) (now : Now) (first : Came kept answers op mid)
-    → AllCame (kept ++ staying first.fate) (answers ++ answering first.fate) ops now → AllCame kept answers (op ∷ ops) now
+one_more : (kept : List OpId) (answers : List Met) (op : OpId) (mid : Now) (ops : List OpId) (now : Now) (first : Became kept answers op mid)
+    → AllBecame (kept ++ staying first.fate) (answers ++ answering first.fate) ops now → AllBecame kept answers (op ∷ ops) now
 one_more kept answers op mid ops now first rest = record {
   fates = first.fate ∷ rest.fates;
   ops_are = λ i. first.op_is i ∷ rest.ops_are i;
@@ -104,20 +83,20 @@ one_more kept answers op mid ops now first rest = record {
   };
 }
 
-heard_op : Heard → OpId
+abbrev heard_op : Heard → OpId
 heard_op t = (t.operation).id
 
-all_heard : (s : Setting) (ts : List Heard) (kept : List OpId) (answers : List Met) (now : Now) → Sofar kept answers now → AllCame kept answers (map heard_op ts) (all_act s now ts)
+all_heard : (s : Setting) (ts : List Heard) (kept : List OpId) (answers : List Met) (now : Now) → Sofar kept answers now → AllBecame kept answers (map heard_op ts) (all_act s now ts)
 all_heard s [] kept answers now h = none_came kept answers now h
 all_heard s (t ∷ ts) kept answers now h =
-    let first = heard_it (Sofar kept answers) (Came kept answers) (comes kept answers) s now t h in
+    let first = heard_it (Sofar kept answers) (Became kept answers) (comes kept answers) s now t h in
     one_more kept answers (heard_op t) (acts_in_turn s now t) (map heard_op ts) (all_act s (acts_in_turn s now t) ts) first
     (all_heard s ts (kept ++ staying first.fate) (answers ++ answering first.fate) (acts_in_turn s now t) first.sofar)
 
-all_ticked : (s : Setting) (clock : ℕ) (os : List Operation) (kept : List OpId) (answers : List Met) (now : Now) → Sofar kept answers now → AllCame kept answers (ids os) (fold (ticked s clock) now os)
+all_ticked : (s : Setting) (clock : ℕ) (os : List Operation) (kept : List OpId) (answers : List Met) (now : Now) → Sofar kept answers now → AllBecame kept answers (ids os) (fold (ticked s clock) now os)
 all_ticked s clock [] kept answers now h = none_came kept answers now h
 all_ticked s clock (o ∷ os) kept answers now h =
-    let first = ticked_it (Sofar kept answers) (Came kept answers) (comes kept answers) s clock now o h in
+    let first = ticked_it (Sofar kept answers) (Became kept answers) (comes kept answers) s clock now o h in
     one_more kept answers o.id (ticked s clock now o) (ids os) (fold (ticked s clock) (ticked s clock now o) os) first
     (all_ticked s clock os (kept ++ staying first.fate) (answers ++ answering first.fate) (ticked s clock now o) first.sofar)
 
@@ -140,7 +119,7 @@ one_left (Starts start) met h = cc
 one_left (Begins op text) met h = cc
 one_left _ met h = refl
 
-begun_left : (items met : List Met) → All LeavesBegun items → begun_of (onto items met) ≡ begun_of met
+pub begun_left : (items met : List Met) → All LeavesBegun items → begun_of (onto items met) ≡ begun_of met
 begun_left [] met h = refl
 begun_left (one ∷ items) met h = begun_left items (one ∷ met) (All-tail LeavesBegun one items h) ∙ one_left one met (All-head LeavesBegun one items h)
 
@@ -149,7 +128,7 @@ plain_leaves (Starts start) h = h
 plain_leaves (Begins op text) h = h
 plain_leaves _ h = refl
 
-all_leave : (items : List Met) → All IsPlain items → All LeavesBegun items
+pub all_leave : (items : List Met) → All IsPlain items → All LeavesBegun items
 all_leave [] h = All-nil LeavesBegun
 all_leave (one ∷ items) h = All-cons LeavesBegun one items (plain_leaves one (All-head IsPlain one items h)) (all_leave items (All-tail IsPlain one items h))
 
@@ -169,18 +148,18 @@ pub record Went (before : List OpId) (base : List Met) (made : Step) : Type 0 wh
   pub fates : List Fate
   pub plain : List Met
   pub ops_are : map op_in fates ≡ before
-  pub is_plain : All IsPlain plain
+  pub are_plain : All IsPlain plain
   pub open_are : ids made.node.open_operations ≡ flat_map staying fates
   pub notes_are : made.notes ≡ plain ++ flat_map answering fates
   pub begun : begun_of made.node.met ≡ begun_of base
 
 went : (node : Node) (own : Met) (locks durable applies : List Met) (sends : List Message) (now : Now) (before : List OpId) → All IsPlain locks → All IsPlain durable → All IsPlain applies
-    → AllCame [] [] before now → Went before (own ∷ node.met) (step_of node own locks durable applies sends now)
+    → AllBecame [] [] before now → Went before (own ∷ node.met) (step_of node own locks durable applies sends now)
 went node own locks durable applies sends now before l d a came = record {
   fates = came.fates;
   plain = ((locks ++ durable) ++ applies) ++ now.valid;
   ops_are = came.ops_are;
-  is_plain = noted;
+  are_plain = noted;
   open_are = (came.sofar).kept_are;
   notes_are = ap (λ answers. (((locks ++ durable) ++ applies) ++ now.valid) ++ answers) (came.sofar).answers_are;
   begun = begun_left (map Sends sends) (onto ((((locks ++ durable) ++ applies) ++ now.valid) ++ now.answers) (own ∷ node.met)) (sends_leave sends)
@@ -243,7 +222,7 @@ take_went s node m = subst (λ before. Went before (Takes m ∷ node.met) (take_
     (by_told s node m (map (hears_message s (clock_of node.met) m) node.open_operations) (told_decision m.body))
 
 -- a begin: all that were open stay so, and the new operation stays or is answered at once
-stay_all : List OpId → List Fate
+abbrev stay_all : List OpId → List Fate
 stay_all ops = map Stays ops
 
 stay_ops : (ops : List OpId) (fates : List Fate) → map op_in (stay_all ops ++ fates) ≡ ops ++ map op_in fates
@@ -259,10 +238,10 @@ stay_silent [] fates = refl
 stay_silent (op ∷ ops) fates = stay_silent ops fates
 
 begin_came : (s : Setting) (open_ones : List Operation) (now : Now) (o : Operation) (refused : Option Answer) → Sofar (ids open_ones) [] now
-    → Came (ids open_ones) [] o.id (unless_refused s now o refused)
-begin_came s open_ones now o refused h = begun_it (Sofar (ids open_ones) []) (Came (ids open_ones) []) (comes (ids open_ones) []) s now o refused h
+    → Became (ids open_ones) [] o.id (unless_refused s now o refused)
+begin_came s open_ones now o refused h = begun_it (Sofar (ids open_ones) []) (Became (ids open_ones) []) (comes (ids open_ones) []) s now o refused h
 
-with_new : (open_ones : List OpId) (op : OpId) (now : Now) → Came open_ones [] op now → AllCame [] [] (open_ones ++ op ∷ []) now
+with_new : (open_ones : List OpId) (op : OpId) (now : Now) → Became open_ones [] op now → AllBecame [] [] (open_ones ++ op ∷ []) now
 with_new open_ones op now came = record {
   fates = stay_all open_ones ++ came.fate ∷ [];
   ops_are = stay_ops open_ones (came.fate ∷ []) ∙ ap (λ one. open_ones ++ one ∷ []) came.op_is;

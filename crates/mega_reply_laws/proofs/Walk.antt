@@ -44,6 +44,18 @@ pub record Walks (P : Now → Type 0) (Q : OpId → Now → Type 0) : Type 0 whe
 abbrev pub Comes : (Now → Type 0) → (OpId → Now → Type 0) → (Now → Operation → Now) → Type 0
 Comes P Q again = (now : Now) (o : Operation) → P now → Q o.id (again now o)
 
+-- an operation hears a message, or does what is due, under its own id
+module _ (s : Setting) where
+  due_id : (clock : ℕ) (id : OpId) (request : Request) (began : ℕ) (visited : List GroupId) (message : Option Enter) (phase : Phase)
+      → ((does_due s clock (record { id = id; request = request; began = began; visited = visited; message = message; phase = phase })).operation).id ≡ id
+  due_id clock id request began visited message (Reads group r) = refl
+  due_id clock id request began visited message (Proposes group n asked p promised) = refl
+
+  pub hears_id : (clock : ℕ) (m : Message) (id : OpId) (request : Request) (began : ℕ) (visited : List GroupId) (message : Option Enter) (phase : Phase)
+      → ((hears_message s clock m (record { id = id; request = request; began = began; visited = visited; message = message; phase = phase })).operation).id ≡ id
+  hears_id clock m id request began visited message (Reads group r) = refl
+  hears_id clock m id request began visited message (Proposes group n asked p promised) = refl
+
 module _ (P : Now → Type 0) (Q : OpId → Now → Type 0) (l : Walks P Q) (s : Setting) where
   either : (id : OpId) (t : Bool) (one other : Now) → Q id one → Q id other → Q id (cond t one other)
   either id true one other h k = h
@@ -142,19 +154,9 @@ module _ (P : Now → Type 0) (Q : OpId → Now → Type 0) (l : Walks P Q) (s :
   pub heard_it : (now : Now) (t : Heard) → P now → Q (t.operation).id (acts_in_turn s now t)
   heard_it now t h = goes_on_it (sends_more now t.sends) t.operation (l.sends_it now t.sends h)
 
-  due_id : (clock : ℕ) (id : OpId) (request : Request) (began : ℕ) (visited : List GroupId) (message : Option Enter) (phase : Phase)
-      → ((does_due s clock (record { id = id; request = request; began = began; visited = visited; message = message; phase = phase })).operation).id ≡ id
-  due_id clock id request began visited message (Reads group r) = refl
-  due_id clock id request began visited message (Proposes group n asked p promised) = refl
-
   pub ticked_it : (clock : ℕ) (now : Now) (o : Operation) → P now → Q o.id (ticked s clock now o)
   ticked_it clock now o h = either o.id (is_out s clock o) _ _ (l.ends_it now o.id _ h)
-      (subst (λ id. Q id (acts_in_turn s now (does_due s clock o))) (due_id clock o.id o.request o.began o.visited o.message o.phase) (heard_it now (does_due s clock o) h))
-
-  pub hears_id : (clock : ℕ) (m : Message) (id : OpId) (request : Request) (began : ℕ) (visited : List GroupId) (message : Option Enter) (phase : Phase)
-      → ((hears_message s clock m (record { id = id; request = request; began = began; visited = visited; message = message; phase = phase })).operation).id ≡ id
-  hears_id clock m id request began visited message (Reads group r) = refl
-  hears_id clock m id request began visited message (Proposes group n asked p promised) = refl
+      (subst (λ id. Q id (acts_in_turn s now (does_due s clock o))) (due_id s clock o.id o.request o.began o.visited o.message o.phase) (heard_it now (does_due s clock o) h))
 
   -- an operation that begins
   read_begins_it : (now : Now) (o : Operation) (request : ReadRequest) (mode : Mode) → P now → Q o.id (read_begins s now o request mode)

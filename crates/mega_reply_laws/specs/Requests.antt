@@ -1,5 +1,5 @@
 -- The requests of clients on the record of a node, what came of each of them, and the replies that were put out.
-use Rattle.std.specs.Prelude.{◌≡◌, ◌&&◌, ℕ, ◌==◌, Bool, true, false, if◌then◌else◌, List, [], ◌∷◌, ◌++◌, codes, decimal, filter, fold, map, Option, Some, None, Result, Ok, Err}
+use Rattle.std.specs.Prelude.{◌≡◌, ◌&&◌, ℕ, ◌==◌, Bool, true, false, if◌then◌else◌, List, [], ◌∷◌, ◌++◌, codes, decimal, filter, filter_map, fold, map, Option, Some, None, Result, Ok, Err}
 use Rattle.mega_base.specs.Reading.{whole_of}
 use Rattle.mega_base.specs.declared.names.OpId.{OpId}
 use Rattle.mega_entry.specs.Same.{same_op}
@@ -14,7 +14,7 @@ use Rattle.mega_transcript.specs.declared.item.Item.{Item}
 use Rattle.mega_transcript.specs.declared.item.Item.TheVariants.{Begin, Answer as Answered}
 use Rattle.mega_rules.specs.Operations.{Node}
 use Rattle.mega_promises.specs.Runs.{names_nothing}
-use Rattle.mega_promises.specs.Served.{Asks, Got, Line, Noted, OfClient, OfNode, Peer, Put, Refuses, Wish, is_from, is_open_at, reply_line}
+use Rattle.mega_promises.specs.Served.{Asks, Got, Line, Noted, OfClient, OfNode, Peer, Put, Refuses, Waiting, Wish, is_from, is_open_at, reply_line}
 
 -- what came of a request: its operation is to begin next, it was refused in these words, its operation is open, or that was answered
 pub data Came : Type 0 where
@@ -105,3 +105,19 @@ Agrees node (Ended op answer) = is_open_at node op ≡ false
 
 abbrev pub IsAsItStands : Node → Asked → Type 0
 IsAsItStands node one = Agrees node one.came
+
+-- the requests whose operations are open, which wait for their answers
+abbrev pub waits_by : ℕ → ℕ → Came → Option Waiting
+waits_by client token Heard = None
+waits_by client token (Refused words) = None
+waits_by client token (Opened op) = Some (record { op = op; client = client; token = token })
+waits_by client token (Ended op answer) = None
+
+abbrev pub waits_in : Asked → Option Waiting
+waits_in one = waits_by one.client one.token one.came
+
+abbrev pub waits : List Asked → List Waiting
+waits asked = filter_map waits_in asked
+
+abbrev pub op_awaited : Waiting → OpId
+op_awaited one = one.op
