@@ -3,3 +3,4 @@ pub mod Plain
 pub mod Steps
 pub mod Ending
 pub mod Serving
+pub mod Twice

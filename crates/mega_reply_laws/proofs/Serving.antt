@@ -27,9 +27,9 @@ use Rattle.mega_rules.specs.Steps.{Begin, Step, Take, Tick, begin_step, onto, op
 use Rattle.mega_promises.specs.Items.{shown}
 use Rattle.mega_promises.specs.NodeRuns.{met_of}
 use Rattle.mega_promises.specs.Runs.{names_nothing, setting}
-use Rattle.mega_promises.specs.Served.{Asks, Got, Line, Noted, OfClient, OfNode, Peer, Put, Refuses, Served, Turn, Waiting, Wish, answer_line, answered_line, given as receives, is_from, is_open_at, noted, put_out, received, recorded, reply_line, served, served_start, takes_message, ticked, turned, wished, with_lines}
+use Rattle.mega_promises.specs.Served.{Asks, Got, Line, Noted, OfClient, OfNode, Peer, Put, Refuses, Served, Turn, Waiting, Wish, answer_line, answered_line, given as receives, is_open_at, noted, put_out, received, recorded, reply_line, served, served_start, takes_message, ticked, turned, wished, with_lines}
 use Rattle.mega_reply_laws.specs.Fates.{AreApart, Ends, Fate, Stays, among, answering, ids, op_in, staying}
-use Rattle.mega_reply_laws.specs.Requests.{Asked, Came, Ended, Heard, IsAsItStands, Opened, Refused, asked_by, asked_from, asked_in, behind_item, behind_line, begun_as, comes_to, is_reply, op_awaited, replies, reply_to, requests, waits, waits_by, waits_in, wished_for}
+use Rattle.mega_reply_laws.specs.Requests.{Agrees, Asked, Came, Ended, Heard, IsAsItStands, Opened, Refused, asked_by, asked_in, behind_item, behind_line, begun_as, comes_to, is_reply, op_awaited, replies, reply_to, requests, waits, waits_by, waits_in, wished_for}
 use Rattle.mega_reply_laws.proofs.Ending.{all_end, all_pass, all_pass_each, apart_less, ends, given, many, many_both, not_first, open_or_ended, others_staying, passes, passes_ended, passes_opened, passes_refused, replies_of, staying_apart, stays_untold, told_to}
 use Rattle.mega_reply_laws.proofs.Plain.{IsPlain, start_plain}
 use Rattle.mega_reply_laws.proofs.Steps.{AreBelow, IsBelow, IsWithin, Went, all_leave, begin_went, begins_new, begun_left, below_begun, below_still, take_went, tick_went, within_still, within_with_new}
@@ -605,15 +605,15 @@ module _ (c : Cluster) (me : ℕ) (wish : List ℕ → Wish) where
       body_serves from client (Requests token json) are = wish_serves from client token (wish json) are
       body_serves from client _ are = lines_serve (got from) (are ∙ append-nil asked_now) refl
 
-      message_serves : (from : Peer) (m : Message) → after_lines asked_now (got from) ≡ asked_now ++ asked_from wish from m.body → Serves (takes_message c me wish handlers now (got from) from m)
-      message_serves (OfNode node) m are = taken_serves handlers (got (OfNode node)) m (are ∙ append-nil asked_now) refl
-      message_serves (OfClient client) m are = body_serves (OfClient client) client m.body are
-
       given_serves : (from : Peer) (read : Result Message ℕ) → after_lines asked_now (got from) ≡ asked_now ++ asked_by me wish from read → Serves (receives c me wish handlers now (got from) from read)
-      given_serves from (Err at) are = lines_serve (got from) (are ∙ append-nil asked_now) refl
-      given_serves from (Ok m) are = either (is_from from m.from && m.to == me) _ _
-          (λ e. message_serves from m (are ∙ ap (λ t. asked_now ++ cond t (asked_from wish from m.body) []) e))
-          (λ e. lines_serve (got from) (are ∙ ap (λ t. asked_now ++ cond t (asked_from wish from m.body) []) e ∙ append-nil asked_now) refl)
+      given_serves (OfNode node) (Err at) are = lines_serve (got (OfNode node)) (are ∙ append-nil asked_now) refl
+      given_serves (OfNode node) (Ok m) are = either (node == m.from && m.to == me) _ _
+          (λ e. taken_serves handlers (got (OfNode node)) m (are ∙ append-nil asked_now) refl)
+          (λ e. lines_serve (got (OfNode node)) (are ∙ append-nil asked_now) refl)
+      given_serves (OfClient client) (Err at) are = lines_serve (got (OfClient client)) (are ∙ append-nil asked_now) refl
+      given_serves (OfClient client) (Ok m) are = either (m.from == 0 && m.to == me) _ _
+          (λ e. body_serves (OfClient client) client m.body (are ∙ ap (λ t. asked_now ++ cond t (asked_in wish client m.body) []) e))
+          (λ e. lines_serve (got (OfClient client)) (are ∙ ap (λ t. asked_now ++ cond t (asked_in wish client m.body) []) e ∙ append-nil asked_now) refl)
 
     received_serves : (handlers : Meanings) (datagram : Option (Peer × List ℕ)) → Serves (received c me wish handlers now datagram)
     received_serves handlers None = h
@@ -652,3 +652,47 @@ module _ (c : Cluster) (me : ℕ) (wish : List ℕ → Wish) where
 
     pub serves : (turns : List Turn) → Serves (served c me wish first before turns)
     serves turns = turns_serve turns (served_start c me first before) start_serves
+
+-- ---- the laws
+
+module _ (c : Cluster) (me : ℕ) (wish : List ℕ → Wish) (first : Meanings) (before : List JournalItem) (turns : List Turn) where
+  at_end : Serves c me wish (served c me wish first before turns)
+  at_end = serves c me wish first before turns
+
+  pub replies_counted : (test : Line → Bool) → many test (replies (served c me wish first before turns).lines) ≡ many test (given c.schema me (requests me wish (served c me wish first before turns).lines))
+  replies_counted test = at_end.counted test
+
+  stand_at : (node : Node) (came : Came) → Standing (ids node.open_operations) came → Agrees node came
+  stand_at node Heard k = k
+  stand_at node (Refused words) k = tt
+  stand_at node (Opened x) k = any_ids c me wish node.open_operations x ∙ k
+  stand_at node (Ended x answer) k = any_ids c me wish node.open_operations x ∙ k
+
+  pub requests_stand : All (IsAsItStands (served c me wish first before turns).node) (requests me wish (served c me wish first before turns).lines)
+  requests_stand = All-weaker (λ (one : Asked). Standing (ids (served c me wish first before turns).node.open_operations) one.came) (IsAsItStands (served c me wish first before turns).node)
+      (λ one k. stand_at (served c me wish first before turns).node one.came k) (requests me wish (served c me wish first before turns).lines) at_end.standing
+
+  pub waiting_requests : (served c me wish first before turns).waiting ≡ waits (requests me wish (served c me wish first before turns).lines)
+  waiting_requests = sym at_end.waiting_are
+
+  pub waiting_apart : AreApart (map op_awaited (served c me wish first before turns).waiting)
+  waiting_apart = subst (λ those. AreApart (map op_awaited those)) at_end.waiting_are at_end.alone
+
+  pub open_apart : AreApart (ids (served c me wish first before turns).node.open_operations)
+  open_apart = at_end.apart
+
+  none_below : (ops : List OpId) (x : OpId) → All (IsBelow x.number) ops → among ops x ≡ false
+  none_below [] x low = refl
+  none_below (op ∷ ops) x low = by (same_op op x) refl (All-head (IsBelow x.number) op ops low) (none_below ops x (All-tail (IsBelow x.number) op ops low))
+    where
+      by : (t : Bool) → same_op op x ≡ t → op.number < x.number → among ops x ≡ false → (t || among ops x) ≡ false
+      by true e less rest = absurd (let is = ap (λ (y : OpId). y.number) (same_op_equal op x e) in omega (arith, is, less))
+      by false e less rest = rest
+
+  pub new_is_none : (handlers : Meanings) → is_open_at (served c me wish first before turns).node (op_of (setting c handlers me) (served c me wish first before turns).node.met) ≡ false
+  new_is_none handlers =
+      any_ids c me wish (served c me wish first before turns).node.open_operations new
+      ∙ none_below (ids (served c me wish first before turns).node.open_operations) new at_end.below
+    where
+      new : OpId
+      new = op_of (setting c handlers me) (served c me wish first before turns).node.met

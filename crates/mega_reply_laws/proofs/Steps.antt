@@ -1,9 +1,9 @@
 -- In a step each operation that was open, or begins, either stays open or is answered, in order; and nothing else is answered.
-use Rattle.std.proofs.Common.{◌≡◌, ◌⊎◌, inl, inr, ℕ, ◌+◌, ◌-◌, ◌<◌, ◌≤◌, min, nat_le, Bool, true, false, cond, List, [], ◌∷◌, ◌++◌, map, flat_map, fold, Option, Some, None, refl, sym, ap, ◌∙◌, subst, arith}
+use Rattle.std.proofs.Common.{◌≡◌, ◌⊎◌, inl, inr, ℕ, ◌+◌, ◌-◌, ◌<◌, ◌≤◌, min, nat_le, Bool, true, false, cond, List, [], ◌∷◌, ◌++◌, filter, map, flat_map, fold, Option, Some, None, refl, sym, ap, ◌∙◌, subst, arith}
 use Rattle.std.specs.List.{All}
 use Rattle.std.proofs.lemmas.Bool.Decides.{nat_tests}
 use Rattle.std.proofs.lemmas.List.{append_assoc, append-nil, map-append}
-use Rattle.std.proofs.lemmas.List.Elements.{All-append, All-cons, All-head, All-nil, All-push, All-tail, All-weaker}
+use Rattle.std.proofs.lemmas.List.Elements.{All-append, All-cons, All-head, All-nil, All-push, All-tail, All-weaker, filter-append}
 use Rattle.mega_base.specs.declared.names.GroupId.{GroupId}
 use Rattle.mega_base.specs.declared.names.OpId.{OpId}
 use Rattle.mega_coordinator.specs.declared.answers.NotValid.{NotValid}
@@ -360,3 +360,31 @@ begins_new s node request text = by (is_worn node.met) refl
     by : (t : Bool) → is_worn node.met ≡ t → ((begin_step s node request text).node.open_operations ≡ node.open_operations) ⊎ (begun_of node.met < (op_of s node.met).number)
     by true worn = inl (worn_open s node request text worn)
     by false h = inr (fresh (begun_of node.met) last_number h)
+
+-- ---- what is answered in a step
+
+plain_unanswered : (notes : List Met) → All IsPlain notes → filter is_answer notes ≡ []
+plain_unanswered [] h = refl
+plain_unanswered (one ∷ notes) h = by one (All-head IsPlain one notes h) (plain_unanswered notes (All-tail IsPlain one notes h))
+  where
+    by : (one : Met) → IsPlain one → filter is_answer notes ≡ [] → filter is_answer (one ∷ notes) ≡ []
+    by (Answers op answer) k rest = cc
+    by _ k rest = rest
+
+all_answers : (fates : List Fate) → filter is_answer (flat_map answering fates) ≡ flat_map answering fates
+all_answers [] = refl
+all_answers (Stays op ∷ fates) = all_answers fates
+all_answers (Ends op answer ∷ fates) = ap (λ those. Answers op answer ∷ those) (all_answers fates)
+
+fates_of : (before : List OpId) (base : List Met) (made : Step) → Went before base made → HaveFates before made
+fates_of before base made w = record {
+  fates = w.fates;
+  ops_are = w.ops_are;
+  open_are = w.open_are;
+  answers_are = ap (filter is_answer) w.notes_are ∙ filter-append is_answer w.plain (flat_map answering w.fates) ∙ (λ i. plain_unanswered w.plain w.are_plain i ++ all_answers w.fates i);
+}
+
+pub step_fates : (s : Setting) (node : Node) (event : Event) → HaveFates (open_at s node event) (step s node event)
+step_fates s node (Tick now) = fates_of (ids node.open_operations) (Ticks now ∷ node.met) (tick_step s node now) (tick_went s node now)
+step_fates s node (Take m) = fates_of (ids node.open_operations) (Takes m ∷ node.met) (take_step s node m) (take_went s node m)
+step_fates s node (Begin request text) = fates_of (ids node.open_operations ++ op_of s node.met ∷ []) (Begins (op_of s node.met) text ∷ node.met) (begin_step s node request text) (begin_went s node request text)

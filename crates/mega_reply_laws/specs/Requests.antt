@@ -14,7 +14,7 @@ use Rattle.mega_transcript.specs.declared.item.Item.{Item}
 use Rattle.mega_transcript.specs.declared.item.Item.TheVariants.{Begin, Answer as Answered}
 use Rattle.mega_rules.specs.Operations.{Node}
 use Rattle.mega_promises.specs.Runs.{names_nothing}
-use Rattle.mega_promises.specs.Served.{Asks, Got, Line, Noted, OfClient, OfNode, Peer, Put, Refuses, Waiting, Wish, is_from, is_open_at, reply_line}
+use Rattle.mega_promises.specs.Served.{Asks, Got, Line, Noted, OfClient, OfNode, Peer, Put, Refuses, Waiting, Wish, is_open_at, reply_line}
 
 -- what came of a request: its operation is to begin next, it was refused in these words, its operation is open, or that was answered
 pub data Came : Type 0 where
@@ -38,13 +38,10 @@ abbrev pub asked_in : (List ℕ → Wish) → ℕ → Body → List Asked
 asked_in wish client (Requests token json) = (record { client = client; token = token; came = wished_for (wish json) }) ∷ []
 asked_in wish client _ = []
 
-abbrev pub asked_from : (List ℕ → Wish) → Peer → Body → List Asked
-asked_from wish (OfNode node) body = []
-asked_from wish (OfClient client) body = asked_in wish client body
-
 abbrev pub asked_by : ℕ → (List ℕ → Wish) → Peer → Result Message ℕ → List Asked
-asked_by me wish from (Err at) = []
-asked_by me wish from (Ok m) = if is_from from m.from && m.to == me then asked_from wish from m.body else []
+asked_by me wish (OfNode node) read = []
+asked_by me wish (OfClient client) (Err at) = []
+asked_by me wish (OfClient client) (Ok m) = if m.from == 0 && m.to == me then asked_in wish client m.body else []
 
 -- an operation begins for the request before it, and its answer ends it
 abbrev pub begun_as : OpId → Came → Came

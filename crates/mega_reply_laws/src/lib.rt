@@ -1,5 +1,5 @@
 //! Laws of a served node and its clients: each request gets one reply at most. No code stands here.
 #![tactic(auto)]
 
-/// Nothing.
-pub fn nothing() {}
+pub mod examples;
+pub mod laws;
