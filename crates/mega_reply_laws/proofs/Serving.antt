@@ -37,33 +37,33 @@ use Rattle.mega_reply_laws.proofs.Steps.{AreBelow, IsBelow, IsWithin, Went, all_
 -- ---- what is said of each request
 
 -- an operation that is open is among these
-abbrev OpenAmong : List OpId → Came → Type 0
+abbrev pub OpenAmong : List OpId → Came → Type 0
 OpenAmong ops Heard = ⊥
 OpenAmong ops (Refused words) = Unit {0}
 OpenAmong ops (Opened x) = among ops x ≡ true
 OpenAmong ops (Ended x answer) = Unit {0}
 
 -- and one that ended is not
-abbrev EndedOut : List OpId → Came → Type 0
+abbrev pub EndedOut : List OpId → Came → Type 0
 EndedOut ops Heard = Unit {0}
 EndedOut ops (Refused words) = Unit {0}
 EndedOut ops (Opened x) = Unit {0}
 EndedOut ops (Ended x answer) = among ops x ≡ false
 
-abbrev Standing : List OpId → Came → Type 0
+abbrev pub Standing : List OpId → Came → Type 0
 Standing ops Heard = ⊥
 Standing ops (Refused words) = Unit {0}
 Standing ops (Opened x) = among ops x ≡ true
 Standing ops (Ended x answer) = among ops x ≡ false
 
 -- one that ended was begun by now
-abbrev Past : ℕ → Came → Type 0
+abbrev pub Past : ℕ → Came → Type 0
 Past n Heard = Unit {0}
 Past n (Refused words) = Unit {0}
 Past n (Opened x) = Unit {0}
 Past n (Ended x answer) = x.number ≤ n
 
-abbrev Each : (Came → Type 0) → List Asked → Type 0
+abbrev pub Each : (Came → Type 0) → List Asked → Type 0
 Each P asked = All (λ (one : Asked). P one.came) asked
 
 each_weaker : (P Q : Came → Type 0) → ((came : Came) → P came → Q came) → (asked : List Asked) → Each P asked → Each Q asked
@@ -158,10 +158,10 @@ still_waits fates apart (one ∷ asked) h =
 -- ---- the lines of a step
 
 module _ (c : Cluster) (me : ℕ) (wish : List ℕ → Wish) where
-  abbrev after_line : List Asked → Line → List Asked
+  abbrev pub after_line : List Asked → Line → List Asked
   after_line asked line = behind_line me wish asked line
 
-  abbrev after_lines : List Asked → List Line → List Asked
+  abbrev pub after_lines : List Asked → List Line → List Asked
   after_lines asked lines = fold after_line asked lines
 
   one_plain : (asked : List Asked) (one : Met) (rest : List Line) → IsPlain one → after_lines asked (map Noted (shown me one) ++ rest) ≡ after_lines asked rest
@@ -245,26 +245,23 @@ module _ (c : Cluster) (me : ℕ) (wish : List ℕ → Wish) where
     pub past : Each (Past (begun_of now.node.met)) (requests me wish now.lines)
 
   -- what holds of the requests as a step is made, with the operations that are open then
-  record Ready (now : Served) (before : List OpId) (own : List Line) (waiting : List Waiting) (asked : List Asked) : Type 0 where
-    are : after_lines (requests me wish now.lines) own ≡ asked
-    silent : replies own ≡ []
-    counted : (test : Line → Bool) → many test (replies now.lines) ≡ many test (given c.schema me asked)
-    waiting_are : waits asked ≡ waiting
-    opened : Each (OpenAmong before) asked
-    apart : AreApart before
-    alone : AreApart (map op_awaited (waits asked))
+  pub record Ready (now : Served) (before : List OpId) (own : List Line) (waiting : List Waiting) (asked : List Asked) : Type 0 where
+    pub are : after_lines (requests me wish now.lines) own ≡ asked
+    pub silent : replies own ≡ []
+    pub counted : (test : Line → Bool) → many test (replies now.lines) ≡ many test (given c.schema me asked)
+    pub waiting_are : waits asked ≡ waiting
+    pub opened : Each (OpenAmong before) asked
+    pub apart : AreApart before
+    pub alone : AreApart (map op_awaited (waits asked))
 
   module _ (now : Served) (before : List OpId) (base : List Met) (made : Step) (own : List Line) (waiting : List Waiting) (asked : List Asked) (w : Went before base made) (r : Ready now before own waiting asked) where
-    next : Served
+    abbrev pub next : Served
     next = recorded c me now own waiting made
 
-    fates : List Fate
-    fates = w.fates
-
-    asked_then : List Asked
+    abbrev asked_then : List Asked
     asked_then = map (comes_to (passes w.fates)) asked
 
-    tail_lines : List Line
+    abbrev tail_lines : List Line
     tail_lines = flat_map (answer_line c.schema me waiting) made.notes
 
     notes_lines : after_lines asked (noted me made.notes) ≡ asked_then
@@ -342,7 +339,7 @@ module _ (c : Cluster) (me : ℕ) (wish : List ℕ → Wish) where
   -- ---- ticks and messages
 
   module _ (now : Served) (h : Serves now) where
-    asked_now : List Asked
+    abbrev asked_now : List Asked
     asked_now = requests me wish now.lines
 
     -- before a step at which no operation begins
@@ -398,10 +395,10 @@ module _ (c : Cluster) (me : ℕ) (wish : List ℕ → Wish) where
     -- ---- a request that is refused
 
     module _ (from : Peer) (bytes : List ℕ) (client token : ℕ) (words : List (List ℕ)) where
-      one_refused : Asked
+      abbrev one_refused : Asked
       one_refused = record { client = client; token = token; came = Refused words }
 
-      refusal_lines : List Line
+      abbrev refusal_lines : List Line
       refusal_lines = Got from bytes ∷ reply_line me client token words ∷ []
 
       refused_serves : after_lines asked_now (Got from bytes ∷ []) ≡ asked_now ++ one_refused ∷ [] → Serves (with_lines now refusal_lines)
@@ -430,22 +427,22 @@ module _ (c : Cluster) (me : ℕ) (wish : List ℕ → Wish) where
     -- ---- a request whose operation begins
 
     module _ (handlers : Meanings) (request : Request) (text : List ℕ) (from : Peer) (bytes : List ℕ) (client token : ℕ) where
-      s : Setting
+      abbrev s : Setting
       s = setting c handlers me
 
-      new : OpId
+      abbrev new : OpId
       new = op_of s now.node.met
 
-      open_ids : List OpId
+      abbrev open_ids : List OpId
       open_ids = ids now.node.open_operations
 
-      one_heard : Asked
+      abbrev one_heard : Asked
       one_heard = record { client = client; token = token; came = Heard }
 
-      one_opened : Asked
+      abbrev one_opened : Asked
       one_opened = record { client = client; token = token; came = Opened new }
 
-      one_waits : Waiting
+      abbrev one_waits : Waiting
       one_waits = record { op = new; client = client; token = token }
 
       -- the others began before
@@ -464,7 +461,7 @@ module _ (c : Cluster) (me : ℕ) (wish : List ℕ → Wish) where
           by client token (Opened x) k rest = ap (λ those. (record { client = client; token = token; came = Opened x }) ∷ those) rest
           by client token (Ended x answer) k rest = ap (λ those. (record { client = client; token = token; came = Ended x answer }) ∷ those) rest
 
-      asked_then_new : List Asked
+      abbrev asked_then_new : List Asked
       asked_then_new = asked_now ++ one_opened ∷ []
 
       -- it is none of those that are open
@@ -521,7 +518,7 @@ module _ (c : Cluster) (me : ℕ) (wish : List ℕ → Wish) where
       waits_then : waits asked_then_new ≡ waits asked_now ++ one_waits ∷ []
       waits_then = filter_map-append waits_in asked_now (one_opened ∷ [])
 
-      own_lines : List Line
+      abbrev own_lines : List Line
       own_lines = (Got from bytes ∷ []) ++ noted me (Begins new text ∷ [])
 
       ready_new : after_lines asked_now (Got from bytes ∷ []) ≡ asked_now ++ one_heard ∷ [] → Ready now (open_ids ++ new ∷ []) own_lines (now.waiting ++ one_waits ∷ []) asked_then_new
@@ -541,7 +538,7 @@ module _ (c : Cluster) (me : ℕ) (wish : List ℕ → Wish) where
           more (Opened x) k = among_more open_ids x k
           more (Ended x answer) k = tt
 
-      made : Step
+      abbrev made : Step
       made = step s now.node (Begin request text)
 
       w : Went (open_ids ++ new ∷ []) (Begins new text ∷ now.node.met) made
@@ -630,7 +627,7 @@ module _ (c : Cluster) (me : ℕ) (wish : List ℕ → Wish) where
     abbrev number : ℕ
     number = starts_of before + 1
 
-    notes : List Met
+    abbrev notes : List Met
     notes = start_notes (setting c first me) (Starts number ∷ met_of me before)
 
     start_asked : requests me wish (served_start c me first before).lines ≡ []
@@ -694,5 +691,5 @@ module _ (c : Cluster) (me : ℕ) (wish : List ℕ → Wish) (first : Meanings) 
       any_ids c me wish (served c me wish first before turns).node.open_operations new
       ∙ none_below (ids (served c me wish first before turns).node.open_operations) new at_end.below
     where
-      new : OpId
+      abbrev new : OpId
       new = op_of (setting c handlers me) (served c me wish first before turns).node.met
