@@ -691,5 +691,5 @@ module _ (c : Cluster) (me : ℕ) (wish : List ℕ → Wish) (first : Meanings) 
       any_ids c me wish (served c me wish first before turns).node.open_operations new
       ∙ none_below (ids (served c me wish first before turns).node.open_operations) new at_end.below
     where
-      abbrev new : OpId
+      new : OpId
       new = op_of (setting c handlers me) (served c me wish first before turns).node.met
