@@ -8,8 +8,8 @@ use Rattle.mega_entry.specs.Same.{same_op}
 use Rattle.mega_entry.proofs.Sames.{same_op_equal, same_op_self}
 use Rattle.mega_schema.specs.declared.schema.Schema.{Schema}
 use Rattle.mega_outcome.specs.declared.answer.Answer.{Answer}
-use Rattle.mega_transcript.specs.Answers.{answer_words}
-use Rattle.mega_rules.specs.Met.{Met, Answers}
+use Rattle.mega_promises.specs.of_transcript.Answers.{answer_words}
+use Rattle.mega_promises.specs.of_rules.Met.{Met, Answers}
 use Rattle.mega_promises.specs.Served.{Line, Waiting, answer_line, answered_line, reply_line}
 use Rattle.mega_reply_laws.specs.Requests.{Asked, Came, Ended, Heard, Opened, Refused, comes_to, ended_as, op_awaited, reply_by, reply_to, waits, waits_by}
 use Rattle.mega_reply_laws.specs.Fates.{AreApart, Ends, Fate, Stays, among, answering, op_in, staying}

@@ -12,14 +12,14 @@ use Rattle.mega_locks.specs.declared.asked.Asked.{Asked}
 use Rattle.mega_locks.specs.declared.asked.Asked.TheVariants.{Granted as Grant, Renewed, GreaterHeld, Over}
 use Rattle.mega_wire.specs.declared.message.Body.{Body}
 use Rattle.mega_wire.specs.declared.message.Body.TheVariants.{Acquire, Granted, Invalidate}
-use Rattle.mega_rules.specs.Met.{Met, Answers, Applies, Begins, Counts, Decides, Forgets, Grants, Invalidates, Lapses, Loses, Serves, Starts}
-use Rattle.mega_rules.specs.Clock.{start_of}
-use Rattle.mega_rules.specs.Coordinators.{coordinator_calls, counts_notes, forget_notes, grant_notes, is_cell_in, lost_note, tick_notes, tick_told}
-use Rattle.mega_rules.specs.Locks.{asked_for, cell_calls, grant_note, lapse_note, lapses_at}
-use Rattle.mega_rules.specs.Logs.{groups_of, prefix_of}
-use Rattle.mega_rules.specs.Members.{cells, has_rows, is_full, keep_of}
-use Rattle.mega_rules.specs.Operations.{Setting}
-use Rattle.mega_rules.specs.Steps.{Decision, applied_at, apply_note, apply_notes, decision_note, lapse_notes, lease_notes, start_note, start_notes, told_notes}
+use Rattle.mega_promises.specs.of_rules.Met.{Met, Answers, Applies, Begins, Counts, Decides, Forgets, Grants, Invalidates, Lapses, Loses, Serves, Starts}
+use Rattle.mega_promises.specs.of_rules.Clock.{start_of}
+use Rattle.mega_promises.specs.of_rules.Coordinators.{coordinator_calls, counts_notes, forget_notes, grant_notes, is_cell_in, lost_note, tick_notes, tick_told}
+use Rattle.mega_promises.specs.of_rules.Locks.{asked_for, cell_calls, grant_note, lapse_note, lapses_at}
+use Rattle.mega_promises.specs.of_rules.Logs.{groups_of, prefix_of}
+use Rattle.mega_promises.specs.of_rules.Members.{cells, has_rows, is_full, keep_of}
+use Rattle.mega_promises.specs.of_rules.Operations.{Setting}
+use Rattle.mega_promises.specs.of_rules.Steps.{Decision, applied_at, apply_note, apply_notes, decision_note, lapse_notes, lease_notes, start_note, start_notes, told_notes}
 
 abbrev pub is_plain : Met → Bool
 is_plain (Starts start) = false

@@ -19,11 +19,11 @@ use Rattle.mega_wire.specs.declared.message.Body.TheVariants.{Request as Request
 use Rattle.mega_wire.specs.declared.message.Message.{Message}
 use Rattle.mega_outcome.specs.declared.answer.Answer.{Answer}
 use Rattle.mega_outcome.specs.declared.request.Request.{Request}
-use Rattle.mega_transcript.specs.declared.item.Item.{Item}
-use Rattle.mega_rules.specs.Clock.{begun_of, last_number}
-use Rattle.mega_rules.specs.Met.{Met, Answers, Begins, Starts, Takes, Ticks}
-use Rattle.mega_rules.specs.Operations.{Node, Operation, Setting}
-use Rattle.mega_rules.specs.Steps.{Begin, Step, Take, Tick, begin_step, onto, op_of, start_items, start_notes, step}
+use Rattle.mega_promises.specs.of_transcript.declared.item.Item.{Item}
+use Rattle.mega_promises.specs.of_rules.Clock.{begun_of, last_number}
+use Rattle.mega_promises.specs.of_rules.Met.{Met, Answers, Begins, Starts, Takes, Ticks}
+use Rattle.mega_promises.specs.of_rules.Operations.{Node, Operation, Setting}
+use Rattle.mega_promises.specs.of_rules.Steps.{Begin, Step, Take, Tick, begin_step, onto, op_of, start_items, start_notes, step}
 use Rattle.mega_promises.specs.Items.{shown}
 use Rattle.mega_promises.specs.NodeRuns.{met_of}
 use Rattle.mega_promises.specs.Runs.{names_nothing, setting}

@@ -11,14 +11,14 @@ use Rattle.mega_wire.specs.declared.message.Message.{Message}
 use Rattle.mega_outcome.specs.declared.answer.Answer.{Answer}
 use Rattle.mega_outcome.specs.declared.answer.Answer.TheVariants.{Worn}
 use Rattle.mega_outcome.specs.declared.request.Request.{Request}
-use Rattle.mega_rules.specs.Met.{Met, Answers, Begins, Sends, Starts, Takes, Ticks, Validates}
-use Rattle.mega_rules.specs.Acting.{validated_by}
-use Rattle.mega_rules.specs.Clock.{begun_of, clock_of, last_number, next_number}
-use Rattle.mega_rules.specs.Coordinators.{acquires_at}
-use Rattle.mega_rules.specs.Operations.{Node, Now, Operation, Setting}
-use Rattle.mega_rules.specs.Replies.{reply_to}
-use Rattle.mega_rules.specs.Steps.{Begin, Decision, Event, Heard, Step, Take, Tick, acts_in_turn, all_act, apply_notes, at_first, at_open, background, begin_step, decision_note, first_settled, hears_message, if_new, is_worn, lapse_notes, lease_notes, missing_kind, new_operation, news, onto, op_of, portion_of, refusal, step, step_of, stored_after, take_step, taken, tick_step, ticked, told_decision, told_notes, unless_missing, unless_refused}
-use Rattle.mega_rules.specs.Members.{kind_of}
+use Rattle.mega_promises.specs.of_rules.Met.{Met, Answers, Begins, Sends, Starts, Takes, Ticks, Validates}
+use Rattle.mega_promises.specs.of_rules.Acting.{validated_by}
+use Rattle.mega_promises.specs.of_rules.Clock.{begun_of, clock_of, last_number, next_number}
+use Rattle.mega_promises.specs.of_rules.Coordinators.{acquires_at}
+use Rattle.mega_promises.specs.of_rules.Operations.{Node, Now, Operation, Setting}
+use Rattle.mega_promises.specs.of_rules.Replies.{reply_to}
+use Rattle.mega_promises.specs.of_rules.Steps.{Begin, Decision, Event, Heard, Step, Take, Tick, acts_in_turn, all_act, apply_notes, at_first, at_open, background, begin_step, decision_note, first_settled, hears_message, if_new, is_worn, lapse_notes, lease_notes, missing_kind, new_operation, news, onto, op_of, portion_of, refusal, step, step_of, stored_after, take_step, taken, tick_step, ticked, told_decision, told_notes, unless_missing, unless_refused}
+use Rattle.mega_promises.specs.of_rules.Members.{kind_of}
 use Rattle.mega_reply_laws.specs.Fates.{Ends, Fate, HaveFates, Stays, answering, id_of, ids, is_answer, op_in, open_at, staying}
 use Rattle.mega_reply_laws.proofs.Plain.{IsPlain, applies_plain, both, decision_plain, lapses_plain, leases_plain, nothing, told_plain}
 use Rattle.mega_reply_laws.proofs.Walk.{Walks, begun_it, heard_it, hears_id, ticked_it}

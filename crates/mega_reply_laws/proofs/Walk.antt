@@ -20,18 +20,18 @@ use Rattle.mega_outcome.specs.declared.request.Request.TheVariants.{Txn, Batch a
 use Rattle.mega_outcome.specs.declared.request.ReadRequest.{ReadRequest}
 use Rattle.mega_outcome.specs.declared.request.FindRequest.{FindRequest}
 use Rattle.mega_outcome.specs.Outcome.{batch_outcome, entry_of_batch, entry_of_done, outcome}
-use Rattle.mega_rules.specs.of_read.declared.reading.Reading.{Reading}
-use Rattle.mega_rules.specs.of_read.declared.reading.Stage.{Stage}
-use Rattle.mega_rules.specs.of_read.declared.reading.Stage.TheVariants.{Polling, Catching}
-use Rattle.mega_rules.specs.of_read.Catching.{asked_by, seeks, site}
-use Rattle.mega_rules.specs.of_read.of_propose.Rounds.{asks}
-use Rattle.mega_rules.specs.Clock.{clock_of}
-use Rattle.mega_rules.specs.Logs.{decided, groups_of, log_of, prefix_of}
-use Rattle.mega_rules.specs.Coordinators.{refused_at}
-use Rattle.mega_rules.specs.Queues.{Posted, enter_entry, is_named, names_entered, next_to_enter, next_to_handle, oldest_unhandled}
-use Rattle.mega_rules.specs.Operations.{Now, Operation, Phase, Promised, Proposes, Reads, Replies, Results, Setting}
-use Rattle.mega_rules.specs.Acting.{acts, acts_within, applied_logs, batch_sealed, begins_read, completes_read, ends, enters, finishes, goes_on, handles, in_phase, is_taken, keeps, leader_after, listed_at, handling, picks_group, picks_message, proposes, proposes_by, read_begun, reader_of, reads_on, rows_at, sealed, sends_more, table_rows, unless_decided, unless_full, validated_by, validates, visiting}
-use Rattle.mega_rules.specs.Steps.{acts_in_turn, Heard, begins, read_begins, local_find_begins, find_begins, hears_message, ticked, is_out, does_due, unless_refused}
+use Rattle.mega_promises.specs.of_read.declared.reading.Reading.{Reading}
+use Rattle.mega_promises.specs.of_read.declared.reading.Stage.{Stage}
+use Rattle.mega_promises.specs.of_read.declared.reading.Stage.TheVariants.{Polling, Catching}
+use Rattle.mega_promises.specs.of_read.Catching.{asked_by, seeks, site}
+use Rattle.mega_promises.specs.of_read.of_propose.Rounds.{asks}
+use Rattle.mega_promises.specs.of_rules.Clock.{clock_of}
+use Rattle.mega_promises.specs.of_rules.Logs.{decided, groups_of, log_of, prefix_of}
+use Rattle.mega_promises.specs.of_rules.Coordinators.{refused_at}
+use Rattle.mega_promises.specs.of_rules.Queues.{Posted, enter_entry, is_named, names_entered, next_to_enter, next_to_handle, oldest_unhandled}
+use Rattle.mega_promises.specs.of_rules.Operations.{Now, Operation, Phase, Promised, Proposes, Reads, Replies, Results, Setting}
+use Rattle.mega_promises.specs.of_rules.Acting.{acts, acts_within, applied_logs, batch_sealed, begins_read, completes_read, ends, enters, finishes, goes_on, handles, in_phase, is_taken, keeps, leader_after, listed_at, handling, picks_group, picks_message, proposes, proposes_by, read_begun, reader_of, reads_on, rows_at, sealed, sends_more, table_rows, unless_decided, unless_full, validated_by, validates, visiting}
+use Rattle.mega_promises.specs.of_rules.Steps.{acts_in_turn, Heard, begins, read_begins, local_find_begins, find_begins, hears_message, ticked, is_out, does_due, unless_refused}
 
 -- what holds of a node within a step while an operation acts, and what holds once that operation stays open or was answered
 pub record Walks (P : Now → Type 0) (Q : OpId → Now → Type 0) : Type 0 where

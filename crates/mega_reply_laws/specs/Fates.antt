@@ -4,9 +4,9 @@ use Rattle.std.specs.List.{list_any}
 use Rattle.mega_base.specs.declared.names.OpId.{OpId}
 use Rattle.mega_entry.specs.Same.{same_op}
 use Rattle.mega_outcome.specs.declared.answer.Answer.{Answer}
-use Rattle.mega_rules.specs.Met.{Met, Answers}
-use Rattle.mega_rules.specs.Operations.{Node, Operation, Setting}
-use Rattle.mega_rules.specs.Steps.{Begin, Event, Step, Take, Tick, op_of}
+use Rattle.mega_promises.specs.of_rules.Met.{Met, Answers}
+use Rattle.mega_promises.specs.of_rules.Operations.{Node, Operation, Setting}
+use Rattle.mega_promises.specs.of_rules.Steps.{Begin, Event, Step, Take, Tick, op_of}
 
 pub data Fate : Type 0 where
   Stays : (op : OpId) → Fate

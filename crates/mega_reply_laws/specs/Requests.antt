@@ -9,10 +9,10 @@ use Rattle.mega_wire.specs.declared.message.Body.{Body}
 use Rattle.mega_wire.specs.declared.message.Body.TheVariants.{Request as Requests}
 use Rattle.mega_wire.specs.declared.message.Message.{Message}
 use Rattle.mega_outcome.specs.declared.answer.Answer.{Answer}
-use Rattle.mega_transcript.specs.Answers.{answer_words}
-use Rattle.mega_transcript.specs.declared.item.Item.{Item}
-use Rattle.mega_transcript.specs.declared.item.Item.TheVariants.{Begin, Answer as Answered}
-use Rattle.mega_rules.specs.Operations.{Node}
+use Rattle.mega_promises.specs.of_transcript.Answers.{answer_words}
+use Rattle.mega_promises.specs.of_transcript.declared.item.Item.{Item}
+use Rattle.mega_promises.specs.of_transcript.declared.item.Item.TheVariants.{Begin, Answer as Answered}
+use Rattle.mega_promises.specs.of_rules.Operations.{Node}
 use Rattle.mega_promises.specs.Runs.{names_nothing}
 use Rattle.mega_promises.specs.Served.{Asks, Got, Line, Noted, OfClient, OfNode, Peer, Put, Refuses, Waiting, Wish, is_open_at, reply_line}
 

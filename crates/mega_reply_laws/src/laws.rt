@@ -4,8 +4,8 @@ ghost use Rattle.std.specs.Prelude.{◌≡◌, Bool, false, ℕ, List, All, coun
 ghost use Rattle.mega_cluster.specs.declared.cluster.Cluster.{Cluster};
 ghost use Rattle.mega_handler.specs.Named.{Meanings};
 ghost use Rattle.mega_wal.specs.declared.item.JournalItem.{JournalItem};
-ghost use Rattle.mega_rules.specs.Operations.{Node, Setting};
-ghost use Rattle.mega_rules.specs.Steps.{Event, op_of, step};
+ghost use Rattle.mega_promises.specs.of_rules.Operations.{Node, Setting};
+ghost use Rattle.mega_promises.specs.of_rules.Steps.{Event, op_of, step};
 ghost use Rattle.mega_promises.specs.Runs.{setting};
 ghost use Rattle.mega_promises.specs.Served.{Line, Turn, Wish, is_open_at, served};
 ghost use Rattle.mega_reply_laws.specs.Fates.{AreApart, HaveFates, ids, open_at};
