@@ -29,7 +29,7 @@ use Rattle.mega_promises.specs.NodeRuns.{met_of}
 use Rattle.mega_promises.specs.Runs.{names_nothing, setting}
 use Rattle.mega_promises.specs.Served.{Asks, Got, Line, Noted, OfClient, OfNode, Peer, Put, Refuses, Served, Turn, Waiting, Wish, answer_line, answered_line, given as receives, is_open_at, noted, put_out, received, recorded, reply_line, served, served_start, takes_message, ticked, turned, wished, with_lines}
 use Rattle.mega_reply_laws.specs.Fates.{AreApart, Ends, Fate, Stays, among, answering, ids, op_in, staying}
-use Rattle.mega_reply_laws.specs.Requests.{Agrees, Asked, Came, Ended, Heard, IsAsItStands, Opened, Refused, asked_by, asked_in, behind_item, behind_line, begun_as, comes_to, is_reply, op_awaited, replies, reply_to, requests, waits, waits_by, waits_in, wished_for}
+use Rattle.mega_reply_laws.specs.Requests.{Agrees, AreReplied, Asked, Came, Ended, Heard, IsAsItStands, Opened, Refused, asked_by, asked_in, behind_item, behind_line, begun_as, comes_to, is_reply, op_awaited, replies, reply_to, requests, waits, waits_by, waits_in, wished_for}
 use Rattle.mega_reply_laws.proofs.Ending.{all_end, all_pass, all_pass_each, apart_less, ends, given, many, many_both, not_first, open_or_ended, others_staying, passes, passes_ended, passes_opened, passes_refused, replies_of, staying_apart, stays_untold, told_to}
 use Rattle.mega_reply_laws.proofs.Plain.{IsPlain, start_plain}
 use Rattle.mega_reply_laws.proofs.Steps.{AreBelow, IsBelow, IsWithin, Went, all_leave, begin_went, begins_new, begun_left, below_begun, below_still, take_went, tick_went, within_still, within_with_new}
@@ -656,18 +656,18 @@ module _ (c : Cluster) (me : ℕ) (wish : List ℕ → Wish) (first : Meanings) 
   at_end : Serves c me wish (served c me wish first before turns)
   at_end = serves c me wish first before turns
 
-  pub replies_counted : (test : Line → Bool) → many test (replies (served c me wish first before turns).lines) ≡ many test (given c.schema me (requests me wish (served c me wish first before turns).lines))
-  replies_counted test = at_end.counted test
-
   stand_at : (node : Node) (came : Came) → Standing (ids node.open_operations) came → Agrees node came
   stand_at node Heard k = k
   stand_at node (Refused words) k = tt
   stand_at node (Opened x) k = any_ids c me wish node.open_operations x ∙ k
   stand_at node (Ended x answer) k = any_ids c me wish node.open_operations x ∙ k
 
-  pub requests_stand : All (IsAsItStands (served c me wish first before turns).node) (requests me wish (served c me wish first before turns).lines)
-  requests_stand = All-weaker (λ (one : Asked). Standing (ids (served c me wish first before turns).node.open_operations) one.came) (IsAsItStands (served c me wish first before turns).node)
-      (λ one k. stand_at (served c me wish first before turns).node one.came k) (requests me wish (served c me wish first before turns).lines) at_end.standing
+  pub are_replied : AreReplied c me wish (served c me wish first before turns)
+  are_replied = record {
+    once = at_end.counted;
+    stand = All-weaker (λ (one : Asked). Standing (ids (served c me wish first before turns).node.open_operations) one.came) (IsAsItStands (served c me wish first before turns).node)
+        (λ one k. stand_at (served c me wish first before turns).node one.came k) (requests me wish (served c me wish first before turns).lines) at_end.standing;
+  }
 
   pub waiting_requests : (served c me wish first before turns).waiting ≡ waits (requests me wish (served c me wish first before turns).lines)
   waiting_requests = sym at_end.waiting_are

@@ -1,7 +1,8 @@
 -- The requests of clients on the record of a node, what came of each of them, and the replies that were put out.
-use Rattle.std.specs.Prelude.{◌≡◌, ◌&&◌, ℕ, ◌==◌, Bool, true, false, if◌then◌else◌, List, [], ◌∷◌, ◌++◌, codes, decimal, filter, filter_map, fold, map, Option, Some, None, Result, Ok, Err}
+use Rattle.std.specs.Prelude.{◌≡◌, ◌&&◌, ℕ, ◌==◌, Bool, true, false, if◌then◌else◌, List, [], ◌∷◌, ◌++◌, All, codes, count_by, decimal, filter, filter_map, fold, map, Option, Some, None, Result, Ok, Err}
 use Rattle.mega_base.specs.Reading.{whole_of}
 use Rattle.mega_base.specs.declared.names.OpId.{OpId}
+use Rattle.mega_cluster.specs.declared.cluster.Cluster.{Cluster}
 use Rattle.mega_entry.specs.Same.{same_op}
 use Rattle.mega_schema.specs.declared.schema.Schema.{Schema}
 use Rattle.mega_wire.specs.Messages.{message_at}
@@ -14,7 +15,7 @@ use Rattle.mega_promises.specs.of_transcript.declared.item.Item.{Item}
 use Rattle.mega_promises.specs.of_transcript.declared.item.Item.TheVariants.{Begin, Answer as Answered}
 use Rattle.mega_promises.specs.of_rules.Operations.{Node}
 use Rattle.mega_promises.specs.Runs.{names_nothing}
-use Rattle.mega_promises.specs.Served.{Asks, Got, Line, Noted, OfClient, OfNode, Peer, Put, Refuses, Waiting, Wish, is_open_at, reply_line}
+use Rattle.mega_promises.specs.Served.{Asks, Got, Line, Noted, OfClient, OfNode, Peer, Put, Refuses, Served, Waiting, Wish, is_open_at, reply_line}
 
 -- what came of a request: its operation is to begin next, it was refused in these words, its operation is open, or that was answered
 pub data Came : Type 0 where
@@ -118,3 +119,9 @@ waits asked = filter_map waits_in asked
 
 abbrev pub op_awaited : Waiting → OpId
 op_awaited one = one.op
+
+-- each request got one reply at most: the replies are, in some order, those of the requests that were refused or have ended, since as many of the
+-- ones as of the others pass any test; and what came of each request agrees with the node
+pub record AreReplied (c : Cluster) (me : ℕ) (wish : List ℕ → Wish) (now : Served) : Type 0 where
+  pub once : (test : Line → Bool) → count_by test (replies now.lines) ≡ count_by test (filter_map (reply_to c.schema me) (requests me wish now.lines))
+  pub stand : All (IsAsItStands now.node) (requests me wish now.lines)

@@ -1,25 +1,21 @@
 //! Laws of the requests that clients send to a node, as contracts of functions that do nothing.
 
-ghost use Rattle.std.specs.Prelude.{◌≡◌, Bool, false, ℕ, List, All, count_by, filter_map, map};
+ghost use Rattle.std.specs.Prelude.{◌≡◌, false, ℕ, List, map};
 ghost use Rattle.mega_cluster.specs.declared.cluster.Cluster.{Cluster};
 ghost use Rattle.mega_handler.specs.Named.{Meanings};
 ghost use Rattle.mega_wal.specs.declared.item.JournalItem.{JournalItem};
 ghost use Rattle.mega_promises.specs.of_rules.Operations.{Node, Setting};
 ghost use Rattle.mega_promises.specs.of_rules.Steps.{Event, op_of, step};
 ghost use Rattle.mega_promises.specs.Runs.{setting};
-ghost use Rattle.mega_promises.specs.Served.{Line, Turn, Wish, is_open_at, served};
+ghost use Rattle.mega_promises.specs.Served.{Turn, Wish, is_open_at, served};
 ghost use Rattle.mega_reply_laws.specs.Fates.{AreApart, HaveFates, ids, open_at};
-ghost use Rattle.mega_reply_laws.specs.Requests.{IsAsItStands, op_awaited, replies, reply_to, requests, waits};
+ghost use Rattle.mega_reply_laws.specs.Requests.{AreReplied, op_awaited, requests, waits};
 
 /// Each request of a client on the record of a node gets one reply at most: one where it was refused or its operation was answered, and none
-/// while its operation is open. So the replies on the record are, in some order, those of the requests: as many of the ones as of the others
-/// pass any test. As the front of a run is a run, this holds behind each turn: a reply stands behind its request, in the turn in which that was
-/// refused or answered.
+/// while its operation is open. As the front of a run is a run, this holds behind each turn: a reply stands behind its request, in the turn in
+/// which that was refused or answered.
 pub fn each_request_gets_one_reply()
-    ensures replies { (c : Cluster) (me : ℕ) (wish : List ℕ → Wish) (first : Meanings) (before : List JournalItem) (turns : List Turn) (test : Line → Bool) →
-        count_by test (replies (served c me wish first before turns).lines) ≡ count_by test (filter_map (reply_to c.schema me) (requests me wish (served c me wish first before turns).lines)) }
-    ensures stands { (c : Cluster) (me : ℕ) (wish : List ℕ → Wish) (first : Meanings) (before : List JournalItem) (turns : List Turn) →
-        All (IsAsItStands (served c me wish first before turns).node) (requests me wish (served c me wish first before turns).lines) }
+    ensures { (c : Cluster) (me : ℕ) (wish : List ℕ → Wish) (first : Meanings) (before : List JournalItem) (turns : List Turn) → AreReplied c me wish (served c me wish first before turns) }
 {}
 
 /// Those who wait at a served node are the clients whose requests have open operations, and no two of them wait for one operation.
