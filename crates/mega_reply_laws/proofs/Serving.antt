@@ -32,6 +32,7 @@ use Rattle.mega_reply_laws.specs.Fates.{AreApart, Ends, Fate, Stays, among, answ
 use Rattle.mega_reply_laws.specs.Requests.{Agrees, AreReplied, Asked, Came, Ended, Heard, IsAsItStands, Opened, Refused, asked_by, asked_in, behind_item, behind_line, begun_as, comes_to, is_reply, op_awaited, replies, reply_to, requests, waits, waits_by, waits_in, wished_for}
 use Rattle.mega_reply_laws.proofs.Ending.{all_end, all_pass, all_pass_each, apart_less, ends, given, many, many_both, not_first, open_or_ended, others_staying, passes, passes_ended, passes_opened, passes_refused, replies_of, staying_apart, stays_untold, told_to}
 use Rattle.mega_reply_laws.proofs.Plain.{IsPlain, start_plain}
+use Rattle.mega_reply_laws.proofs.Told.{refused_at_once}
 use Rattle.mega_reply_laws.proofs.Steps.{AreBelow, IsBelow, IsWithin, Went, all_leave, begin_went, begins_new, begun_left, below_begun, below_still, take_went, tick_went, within_still, within_with_new}
 
 -- ---- what is said of each request
@@ -667,6 +668,7 @@ module _ (c : Cluster) (me : ℕ) (wish : List ℕ → Wish) (first : Meanings) 
     once = at_end.counted;
     stand = All-weaker (λ (one : Asked). Standing (ids (served c me wish first before turns).node.open_operations) one.came) (IsAsItStands (served c me wish first before turns).node)
         (λ one k. stand_at (served c me wish first before turns).node one.came k) (requests me wish (served c me wish first before turns).lines) at_end.standing;
+    at_once = refused_at_once c me wish first before turns;
   }
 
   pub waiting_requests : (served c me wish first before turns).waiting ≡ waits (requests me wish (served c me wish first before turns).lines)

@@ -120,8 +120,29 @@ waits asked = filter_map waits_in asked
 abbrev pub op_awaited : Waiting → OpId
 op_awaited one = one.op
 
+-- the reply of a refused request stands directly behind it
+abbrev pub IsFirst : Line → List Line → Type 0
+IsFirst line [] = ⊥
+IsFirst line (next ∷ behind) = next ≡ line
+
+abbrev pub TellsBy : ℕ → ℕ → ℕ → Came → List Line → Type 0
+TellsBy me client token Heard behind = Unit {0}
+TellsBy me client token (Refused words) behind = IsFirst (reply_line me client token words) behind
+TellsBy me client token (Opened op) behind = Unit {0}
+TellsBy me client token (Ended op answer) behind = Unit {0}
+
+abbrev pub TellsNext : ℕ → List Line → Asked → Type 0
+TellsNext me behind one = TellsBy me one.client one.token one.came behind
+
+abbrev pub AreToldAtOnce : ℕ → (List ℕ → Wish) → List Line → Type 0
+AreToldAtOnce me wish [] = Unit {0}
+AreToldAtOnce me wish (Noted item ∷ behind) = AreToldAtOnce me wish behind
+AreToldAtOnce me wish (Got from bytes ∷ behind) = All (TellsNext me behind) (asked_by me wish from (whole_of message_at bytes)) × AreToldAtOnce me wish behind
+AreToldAtOnce me wish (Put to bytes ∷ behind) = AreToldAtOnce me wish behind
+
 -- each request got one reply at most: the replies are, in some order, those of the requests that were refused or have ended, since as many of the
--- ones as of the others pass any test; and what came of each request agrees with the node
+-- ones as of the others pass any test; what came of each request agrees with the node; and refusals stand directly behind what they refuse
 pub record AreReplied (c : Cluster) (me : ℕ) (wish : List ℕ → Wish) (now : Served) : Type 0 where
   pub once : (test : Line → Bool) → count_by test (replies now.lines) ≡ count_by test (filter_map (reply_to c.schema me) (requests me wish now.lines))
   pub stand : All (IsAsItStands now.node) (requests me wish now.lines)
+  pub at_once : AreToldAtOnce me wish now.lines
