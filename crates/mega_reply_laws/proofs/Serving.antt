@@ -293,11 +293,11 @@ module _ (c : Cluster) (me : ℕ) (wish : List ℕ → Wish) where
     replies_are =
         filter-append is_reply now.lines (((own ++ noted me made.notes) ++ put_out made.sends) ++ tail_lines)
         ∙ ap (λ lines. replies now.lines ++ lines) (
-            filter-append is_reply ((own ++ noted me made.notes) ++ put_out made.sends) tail_lines
-            ∙ ap (λ lines. lines ++ replies tail_lines) (
-                filter-append is_reply (own ++ noted me made.notes) (put_out made.sends)
-                ∙ (λ i. (filter-append is_reply own (noted me made.notes) ∙ (λ j. r.silent j ++ none_noted (flat_map (shown me) made.notes) j)) i ++ none_put made.sends i))
-            ∙ all_replies waiting made.notes ∙ tail_is)
+        filter-append is_reply ((own ++ noted me made.notes) ++ put_out made.sends) tail_lines
+        ∙ ap (λ lines. lines ++ replies tail_lines) (
+        filter-append is_reply (own ++ noted me made.notes) (put_out made.sends)
+        ∙ (λ i. (filter-append is_reply own (noted me made.notes) ∙ (λ j. r.silent j ++ none_noted (flat_map (shown me) made.notes) j)) i ++ none_put made.sends i))
+        ∙ all_replies waiting made.notes ∙ tail_is)
 
     apart_fates : AreApart (map op_in w.fates)
     apart_fates = subst AreApart (sym w.ops_are) r.apart
