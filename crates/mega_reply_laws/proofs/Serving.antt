@@ -29,7 +29,7 @@ use Rattle.mega_promises.specs.NodeRuns.{met_of}
 use Rattle.mega_promises.specs.Runs.{names_nothing, setting}
 use Rattle.mega_promises.specs.Served.{Asks, Got, Line, Noted, OfClient, OfNode, Peer, Put, Refuses, Served, Turn, Waiting, Wish, answer_line, answered_line, given as receives, is_open_at, noted, put_out, received, recorded, reply_line, served, served_start, takes_message, ticked, turned, wished, with_lines}
 use Rattle.mega_reply_laws.specs.Fates.{AreApart, Ends, Fate, Stays, among, answering, ids, op_in, staying}
-use Rattle.mega_reply_laws.specs.Requests.{Agrees, AreReplied, Asked, Came, Ended, Heard, IsAsItStands, Opened, Refused, asked_by, asked_in, behind_item, behind_line, begun_as, comes_to, is_reply, op_awaited, replies, reply_to, requests, waits, waits_by, waits_in, wished_for}
+use Rattle.mega_reply_laws.specs.Requests.{Agrees, AreReplied, Asked, Came, Ended, HasOpen, Heard, IsAsItStands, Opened, Refused, asked_by, asked_in, behind_item, behind_line, begun_as, comes_to, is_reply, op_awaited, replies, reply_to, requests, waits, waits_by, waits_in, wished_for}
 use Rattle.mega_reply_laws.proofs.Ending.{all_end, all_pass, all_pass_each, apart_less, ends, given, many, many_both, not_first, open_or_ended, others_staying, passes, passes_ended, passes_opened, passes_refused, replies_of, staying_apart, stays_untold, told_to}
 use Rattle.mega_reply_laws.proofs.Plain.{IsPlain, start_plain}
 use Rattle.mega_reply_laws.proofs.Told.{refused_at_once}
@@ -673,6 +673,21 @@ module _ (c : Cluster) (me : ℕ) (wish : List ℕ → Wish) (first : Meanings) 
 
   pub waiting_requests : (served c me wish first before turns).waiting ≡ waits (requests me wish (served c me wish first before turns).lines)
   waiting_requests = sym at_end.waiting_are
+
+  waits_open : (node : Node) (asked : List Asked) → Each (Agrees node) asked → All (HasOpen node) (waits asked)
+  waits_open node [] k = All-nil (HasOpen node)
+  waits_open node (one ∷ asked) k =
+      by one.client one.token one.came (All-head (λ (one : Asked). Agrees node one.came) one asked k) (waits_open node asked (All-tail (λ (one : Asked). Agrees node one.came) one asked k))
+    where
+      by : (client token : ℕ) (came : Came) → Agrees node came → All (HasOpen node) (waits asked) → All (HasOpen node) (cons_option (waits_by client token came) (waits asked))
+      by client token Heard k rest = absurd k
+      by client token (Refused words) k rest = rest
+      by client token (Opened x) k rest = All-cons (HasOpen node) (record { op = x; client = client; token = token }) (waits asked) k rest
+      by client token (Ended x answer) k rest = rest
+
+  pub waiting_open : All (HasOpen (served c me wish first before turns).node) (served c me wish first before turns).waiting
+  waiting_open = subst (All (HasOpen (served c me wish first before turns).node)) at_end.waiting_are
+      (waits_open (served c me wish first before turns).node (requests me wish (served c me wish first before turns).lines) are_replied.stand)
 
   pub waiting_apart : AreApart (map op_awaited (served c me wish first before turns).waiting)
   waiting_apart = subst (λ those. AreApart (map op_awaited those)) at_end.waiting_are at_end.alone

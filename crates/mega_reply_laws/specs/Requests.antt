@@ -120,6 +120,9 @@ waits asked = filter_map waits_in asked
 abbrev pub op_awaited : Waiting → OpId
 op_awaited one = one.op
 
+abbrev pub HasOpen : Node → Waiting → Type 0
+HasOpen node one = is_open_at node one.op ≡ true
+
 -- the reply of a refused request stands directly behind it
 abbrev pub IsFirst : Line → List Line → Type 0
 IsFirst line [] = ⊥

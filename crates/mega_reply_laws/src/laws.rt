@@ -1,6 +1,6 @@
 //! Laws of the requests that clients send to a node, as contracts of functions that do nothing.
 
-ghost use Rattle.std.specs.Prelude.{◌≡◌, false, ℕ, List, map};
+ghost use Rattle.std.specs.Prelude.{◌≡◌, false, ℕ, List, All, map};
 ghost use Rattle.mega_cluster.specs.declared.cluster.Cluster.{Cluster};
 ghost use Rattle.mega_handler.specs.Named.{Meanings};
 ghost use Rattle.mega_wal.specs.declared.item.JournalItem.{JournalItem};
@@ -9,7 +9,7 @@ ghost use Rattle.mega_promises.specs.of_rules.Steps.{Event, op_of, step};
 ghost use Rattle.mega_promises.specs.Runs.{setting};
 ghost use Rattle.mega_promises.specs.Served.{Turn, Wish, is_open_at, served};
 ghost use Rattle.mega_reply_laws.specs.Fates.{AreApart, HaveFates, ids, open_at};
-ghost use Rattle.mega_reply_laws.specs.Requests.{AreReplied, op_awaited, requests, waits};
+ghost use Rattle.mega_reply_laws.specs.Requests.{AreReplied, HasOpen, op_awaited, requests, waits};
 
 /// Each request of a client on the record of a node gets one reply at most: one where it was refused or its operation was answered, and none
 /// while its operation is open. As the front of a run is a run, this holds behind each turn: a reply stands behind its request, in the turn in
@@ -18,10 +18,12 @@ pub fn each_request_gets_one_reply()
     ensures { (c : Cluster) (me : ℕ) (wish : List ℕ → Wish) (first : Meanings) (before : List JournalItem) (turns : List Turn) → AreReplied c me wish (served c me wish first before turns) }
 {}
 
-/// Those who wait at a served node are the clients whose requests have open operations, and no two of them wait for one operation.
+/// Those who wait at a served node are the clients whose requests have open operations. The operation of each is open, and no two of them wait for one.
 pub fn each_waits_for_an_operation_of_its_own()
     ensures waits { (c : Cluster) (me : ℕ) (wish : List ℕ → Wish) (first : Meanings) (before : List JournalItem) (turns : List Turn) →
         (served c me wish first before turns).waiting ≡ waits (requests me wish (served c me wish first before turns).lines) }
+    ensures open { (c : Cluster) (me : ℕ) (wish : List ℕ → Wish) (first : Meanings) (before : List JournalItem) (turns : List Turn) →
+        All (HasOpen (served c me wish first before turns).node) (served c me wish first before turns).waiting }
     ensures apart { (c : Cluster) (me : ℕ) (wish : List ℕ → Wish) (first : Meanings) (before : List JournalItem) (turns : List Turn) →
         AreApart (map op_awaited (served c me wish first before turns).waiting) }
 {}
