@@ -1,7 +1,6 @@
 -- The requests whose operations end in a step get one reply each, and all others none.
-use Rattle.std.proofs.Common.{◌≡◌, ℕ, ◌+◌, ◌&&◌, ◌||◌, not, Bool, true, false, cond, List, [], ◌∷◌, ◌++◌, map, filter, filter_map, flat_map, find, count_by, Option, Some, None, is_none, refl, sym, ap, ◌∙◌, subst, arith}
-use Rattle.std.specs.List.{All, cons_option, list_any}
-use Rattle.std.proofs.lemmas.List.Elements.{All-cons, All-head, All-nil, All-tail}
+use Rattle.std.proofs.Common.{◌≡◌, ℕ, ◌+◌, ◌||◌, not, Bool, true, false, cond, List, [], ◌∷◌, ◌++◌, map, filter, filter_map, flat_map, find, count_by, Option, Some, None, is_none, refl, sym, ap, ◌∙◌, subst, arith}
+use Rattle.std.specs.List.{cons_option}
 use Rattle.std.proofs.lemmas.List.Sums.{sum_by-append, sum_by-cons}
 use Rattle.mega_base.specs.declared.names.OpId.{OpId}
 use Rattle.mega_entry.specs.Same.{same_op}
@@ -9,7 +8,6 @@ use Rattle.mega_entry.proofs.Sames.{same_op_equal, same_op_self}
 use Rattle.mega_schema.specs.declared.schema.Schema.{Schema}
 use Rattle.mega_outcome.specs.declared.answer.Answer.{Answer}
 use Rattle.mega_promises.specs.of_transcript.Answers.{answer_words}
-use Rattle.mega_promises.specs.of_rules.Met.{Met, Answers}
 use Rattle.mega_promises.specs.Served.{Line, Waiting, answer_line, answered_line, reply_line}
 use Rattle.mega_reply_laws.specs.Requests.{Asked, Came, Ended, Heard, Opened, Refused, comes_to, ended_as, op_awaited, reply_by, reply_to, waits, waits_by}
 use Rattle.mega_reply_laws.specs.Fates.{AreApart, Ends, Fate, Stays, among, answering, op_in, staying}

@@ -1,7 +1,7 @@
 -- A served node answers each request once: what holds of its record is kept by each turn.
-use Rattle.std.proofs.Common.{◌≡◌, ◌⊎◌, inl, inr, ℕ, ◌+◌, ◌<◌, ◌≤◌, ◌==◌, ◌&&◌, ◌||◌, min, Bool, true, false, cond, List, [], ◌∷◌, ◌++◌, codes, decimal, map, filter, filter_map, find, flat_map, fold, Option, Some, None, is_none, Result, Ok, Err, refl, sym, ap, ◌∙◌, subst, arith}
+use Rattle.std.proofs.Common.{◌≡◌, ◌⊎◌, inl, inr, ℕ, ◌+◌, ◌<◌, ◌≤◌, ◌==◌, ◌&&◌, ◌||◌, min, Bool, true, false, cond, List, [], ◌∷◌, ◌++◌, codes, decimal, map, filter, find, flat_map, fold, Option, Some, None, is_none, Result, Ok, Err, refl, sym, ap, ◌∙◌, subst, arith}
 use Rattle.std.specs.List.{All, cons_option, list_any}
-use Rattle.std.proofs.lemmas.List.{append_assoc, append-nil, map-append}
+use Rattle.std.proofs.lemmas.List.{append-nil, map-append}
 use Rattle.std.proofs.lemmas.List.Concat.{flat_map-append}
 use Rattle.std.proofs.lemmas.List.Elements.{All-cons, All-head, All-map, All-nil, All-push, All-tail, All-weaker, filter-append, filter_agree, filter_map-append}
 use Rattle.std.proofs.lemmas.List.Sums.{fold-append}
@@ -23,13 +23,13 @@ use Rattle.mega_promises.specs.of_transcript.declared.item.Item.{Item}
 use Rattle.mega_promises.specs.of_rules.Clock.{begun_of, last_number}
 use Rattle.mega_promises.specs.of_rules.Met.{Met, Answers, Begins, Starts, Takes, Ticks}
 use Rattle.mega_promises.specs.of_rules.Operations.{Node, Operation, Setting}
-use Rattle.mega_promises.specs.of_rules.Steps.{Begin, Step, Take, Tick, begin_step, onto, op_of, start_items, start_notes, step}
+use Rattle.mega_promises.specs.of_rules.Steps.{Begin, Step, Take, Tick, op_of, start_items, start_notes, step}
 use Rattle.mega_promises.specs.Items.{shown}
 use Rattle.mega_promises.specs.NodeRuns.{met_of}
 use Rattle.mega_promises.specs.Runs.{names_nothing, setting}
-use Rattle.mega_promises.specs.Served.{Asks, Got, Line, Noted, OfClient, OfNode, Peer, Put, Refuses, Served, Turn, Waiting, Wish, answer_line, answered_line, given as receives, is_open_at, noted, put_out, received, recorded, reply_line, served, served_start, takes_message, ticked, turned, wished, with_lines}
+use Rattle.mega_promises.specs.Served.{Asks, Got, Line, Noted, OfClient, OfNode, Peer, Refuses, Served, Turn, Waiting, Wish, answer_line, answered_line, given as receives, is_open_at, noted, put_out, received, recorded, reply_line, served, served_start, ticked, turned, wished, with_lines}
 use Rattle.mega_reply_laws.specs.Fates.{AreApart, Ends, Fate, Stays, among, answering, ids, op_in, staying}
-use Rattle.mega_reply_laws.specs.Requests.{Agrees, AreReplied, Asked, Came, Ended, HasOpen, Heard, IsAsItStands, Opened, Refused, asked_by, asked_in, behind_item, behind_line, begun_as, comes_to, is_reply, op_awaited, replies, reply_to, requests, waits, waits_by, waits_in, wished_for}
+use Rattle.mega_reply_laws.specs.Requests.{Agrees, AreReplied, Asked, Came, Ended, HasOpen, Heard, IsAsItStands, Opened, Refused, asked_by, asked_in, behind_line, begun_as, comes_to, is_reply, op_awaited, replies, reply_to, requests, waits, waits_by, waits_in, wished_for}
 use Rattle.mega_reply_laws.proofs.Ending.{all_end, all_pass, all_pass_each, apart_less, ends, given, many, many_both, not_first, open_or_ended, others_staying, passes, passes_ended, passes_opened, passes_refused, replies_of, staying_apart, stays_untold, told_to}
 use Rattle.mega_reply_laws.proofs.Plain.{IsPlain, start_plain}
 use Rattle.mega_reply_laws.proofs.Told.{refused_at_once}

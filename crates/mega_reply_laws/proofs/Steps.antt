@@ -13,7 +13,7 @@ use Rattle.mega_outcome.specs.declared.answer.Answer.TheVariants.{Worn}
 use Rattle.mega_outcome.specs.declared.request.Request.{Request}
 use Rattle.mega_promises.specs.of_rules.Met.{Met, Answers, Begins, Sends, Starts, Takes, Ticks, Validates}
 use Rattle.mega_promises.specs.of_rules.Acting.{validated_by}
-use Rattle.mega_promises.specs.of_rules.Clock.{begun_of, clock_of, last_number, next_number}
+use Rattle.mega_promises.specs.of_rules.Clock.{begun_of, clock_of, last_number}
 use Rattle.mega_promises.specs.of_rules.Coordinators.{acquires_at}
 use Rattle.mega_promises.specs.of_rules.Operations.{Node, Now, Operation, Setting}
 use Rattle.mega_promises.specs.of_rules.Replies.{reply_to}

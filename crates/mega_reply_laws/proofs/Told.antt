@@ -12,7 +12,6 @@ use Rattle.mega_wire.specs.Messages.{message_at}
 use Rattle.mega_wire.specs.declared.message.Body.{Body}
 use Rattle.mega_wire.specs.declared.message.Body.TheVariants.{Request as Requests}
 use Rattle.mega_wire.specs.declared.message.Message.{Message}
-use Rattle.mega_outcome.specs.declared.answer.Answer.{Answer}
 use Rattle.mega_promises.specs.of_transcript.declared.item.Item.{Item}
 use Rattle.mega_promises.specs.of_rules.Met.{Met, Answers, Begins, Ticks}
 use Rattle.mega_promises.specs.of_rules.Steps.{Begin, Step, Take, Tick, op_of, start_items, step}

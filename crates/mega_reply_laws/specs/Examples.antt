@@ -1,12 +1,11 @@
 -- A client that asks twice under one token, at a node alone to which nothing else comes.
-use Rattle.std.specs.Prelude.{ℕ, List, [], ◌∷◌, ◌++◌, Some, codes}
-use Rattle.mega_base.specs.declared.names.OpId.{OpId}
+use Rattle.std.specs.Prelude.{ℕ, List, [], ◌∷◌, Some}
 use Rattle.mega_wire.specs.Messages.{message_text}
 use Rattle.mega_outcome.specs.declared.answer.Answer.TheVariants.{TimedOut}
 use Rattle.mega_promises.specs.of_transcript.Answers.{answer_words}
 use Rattle.mega_promises.specs.of_rules.Examples.{schema}
 use Rattle.mega_promises.specs.Served.{Line, OfClient, Served, Turn, reply_line, served}
-use Rattle.mega_promises.specs.Worked.{asked_by, op, quiet, short_log, wish_put}
+use Rattle.mega_promises.specs.Worked.{asked_by, op, short_log, wish_put}
 use Rattle.mega_reply_laws.specs.Requests.{Asked, Came, Ended, Opened}
 
 -- a turn that brings a request of the first client, under token 7
