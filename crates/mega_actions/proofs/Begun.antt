@@ -16,10 +16,10 @@ use Rattle.mega_rules.specs.Finding.{refreshed_marks}
 use Rattle.mega_rules.specs.Operations.{Now, Reads, Setting}
 use Rattle.mega_rules.specs.Acting.{begins_read, ends, goes_on, read_begun}
 use Rattle.mega_rules.specs.Steps.{Heard, acts_in_turn, begins, find_begins, is_current, local_find_begins, new_operation, read_begins}
-use Rattle.mega_finishing.specs.of_node_laws.About.{IsOf}
-use Rattle.mega_finishing.specs.of_proposing.Servable.{is_at_once, is_indexed, is_plain}
-use Rattle.mega_finishing.specs.Indexing.{by_index, found_by_index, marks_then}
-use Rattle.mega_finishing.specs.Showing.{at_once, looks, looks_in}
+use Rattle.mega_answers.specs.of_node_laws.About.{IsOf}
+use Rattle.mega_answers.specs.of_step_work.Servable.{is_at_once, is_indexed, is_plain}
+use Rattle.mega_answers.specs.Indexing.{by_index, found_by_index, marks_then}
+use Rattle.mega_answers.specs.Showing.{at_once, looks, looks_in}
 
 module _ (s : Setting) (now : Now) (op : OpId) where
   -- a read that is not answered at once asks for current rows

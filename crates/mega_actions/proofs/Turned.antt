@@ -2,15 +2,15 @@
 use Rattle.std.proofs.Common.{◌≡◌, ◌∙◌, ℕ, suc, ◌+◌, ◌-◌, ◌<◌, ◌≤◌, Some, None, ap, subst, sym, arith}
 use Rattle.mega_disk.specs.VersionMaps.{Versions}
 use Rattle.mega_handler.specs.Named.{Meanings}
-use Rattle.mega_finishing.specs.of_node_laws.About.{IsAbout}
+use Rattle.mega_answers.specs.of_node_laws.About.{IsAbout}
 use Rattle.mega_rules.specs.Acting.{acts, acts_within, goes_on, keeps}
 use Rattle.mega_rules.specs.Operations.{Now, Operation, Setting}
 use Rattle.mega_actions.specs.declared.replica.Replica.{Replica}
-use Rattle.mega_finishing.specs.of_proposing.declared.work.Work.{Work}
+use Rattle.mega_answers.specs.of_step_work.declared.work.Work.{Work}
 use Rattle.mega_actions.specs.Acted.{Acted}
 use Rattle.mega_actions.specs.IsAt.{IsAt}
 use Rattle.mega_actions.specs.Later.{later}
-use Rattle.mega_finishing.specs.of_proposing.Working.{work_of}
+use Rattle.mega_answers.specs.of_step_work.Working.{work_of}
 use Rattle.mega_actions.proofs.Within.{goes_on_acts}
 
 -- a moment at which the replica and the work are, from which the turns that are left lead where all led

@@ -5,11 +5,11 @@ use Rattle.mega_disk.specs.VersionMaps.{Versions}
 use Rattle.mega_handler.specs.Named.{Meanings}
 use Rattle.mega_rules.specs.Operations.{Now, Operation}
 use Rattle.mega_actions.specs.declared.replica.Replica.{Replica}
-use Rattle.mega_finishing.specs.of_proposing.declared.work.Work.{Work}
+use Rattle.mega_answers.specs.of_step_work.declared.work.Work.{Work}
 use Rattle.mega_actions.specs.IsAt.{IsAt}
-use Rattle.mega_finishing.specs.Asked.{IsNextAbout}
-use Rattle.mega_finishing.specs.Pumping.{then_again}
-use Rattle.mega_finishing.specs.of_proposing.Working.{work_of}
+use Rattle.mega_answers.specs.Asked.{IsNextAbout}
+use Rattle.mega_answers.specs.Pumping.{then_again}
+use Rattle.mega_answers.specs.of_step_work.Working.{work_of}
 
 pub record Acted {R V : Type 0} (version : V → Versions) (h : Meanings) (new : Replica R V) (before made : Work) (now : Now) (rule : (Now → Operation → Now) → Now) (next : Option Operation) : Type 0 where
   pub after : Now

@@ -8,7 +8,7 @@ use Rattle.mega_rules.specs.Operations.{Setting}
 use Rattle.mega_replica.specs.Following.{progress_at}
 use Rattle.mega_actions.specs.declared.replica.Replica.{Replica}
 use Rattle.mega_actions.specs.StandsAt.{StandsAt}
-use Rattle.mega_finishing.specs.of_proposing.Settings.{setting}
+use Rattle.mega_answers.specs.of_step_work.Settings.{setting}
 
 -- its node, with handlers
 abbrev pub setting_of : {R V : Type 0} → Replica R V → Meanings → Setting

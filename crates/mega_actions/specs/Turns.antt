@@ -2,8 +2,8 @@
 use Rattle.std.specs.Prelude.{◌≡◌, true}
 use Rattle.mega_rules.specs.Operations.{Operation}
 use Rattle.mega_rules.specs.Steps.{Heard}
-use Rattle.mega_finishing.specs.of_node_laws.About.{IsAbout}
-use Rattle.mega_finishing.specs.of_proposing.Servable.{is_open}
+use Rattle.mega_answers.specs.of_node_laws.About.{IsAbout}
+use Rattle.mega_answers.specs.of_step_work.Servable.{is_open}
 
 abbrev pub IsHeardAbout : Heard → Type 0
 IsHeardAbout t = IsAbout t.operation

@@ -2,9 +2,9 @@
 ghost use Rattle.std.specs.Prelude.{◌≡◌, ◌≤◌, ◌+◌, ◌<◌, ◌^◌, nat_le, IfOk, OnOk, OnErr, Err, None, false, true};
 ghost use Rattle.mega_handler.specs.Named.{Meanings};
 ghost use Rattle.mega_meanings.specs.Means.{Means};
-ghost use Rattle.mega_finishing.specs.of_node_laws.About.{IsAbout, IsOf};
-ghost use Rattle.mega_finishing.specs.of_operations.Whole.{whole};
-ghost use Rattle.mega_finishing.specs.of_operations.Phases.{promised_of};
+ghost use Rattle.mega_answers.specs.of_node_laws.About.{IsAbout, IsOf};
+ghost use Rattle.mega_answers.specs.of_operations.Whole.{whole};
+ghost use Rattle.mega_answers.specs.of_operations.Phases.{promised_of};
 ghost use Rattle.mega_rules.specs.Clock.{clock_of};
 ghost use Rattle.mega_rules.specs.Logs.{decided, log_of, prefix_of};
 ghost use Rattle.mega_rules.specs.Operations.{Now, Operation as OpenOne, Proposes, Reads, Setting};
@@ -12,28 +12,28 @@ ghost use Rattle.mega_rules.specs.Acting.{acts, acts_within, completes_read, fin
 ghost use Rattle.mega_replica.specs.Applying.{applied};
 ghost use Rattle.mega_read.specs.Catching.{seeks};
 ghost use Rattle.mega_replica.specs.Used.{StoreUsed};
-ghost use Rattle.mega_finishing.specs.declared.fault.ActFault.TheVariants.{NoMemory as OutOfMemory, Unserved};
-ghost use Rattle.mega_finishing.specs.of_voter.Telling.{Tells};
+ghost use Rattle.mega_answers.specs.declared.fault.ActFault.TheVariants.{NoMemory as OutOfMemory, Unserved};
+ghost use Rattle.mega_answers.specs.of_voter.Telling.{Tells};
 ghost use Rattle.mega_actions.specs.Acted.{Acted};
-ghost use Rattle.mega_finishing.specs.Asked.{IsNextAsked};
-ghost use Rattle.mega_finishing.specs.of_proposing.Servable.{is_open, is_pump};
+ghost use Rattle.mega_answers.specs.Asked.{IsNextAsked};
+ghost use Rattle.mega_answers.specs.of_step_work.Servable.{is_open, is_pump};
 ghost use Rattle.mega_actions.specs.Later.{later};
-ghost use Rattle.mega_finishing.specs.Faults.{failed_by};
+ghost use Rattle.mega_answers.specs.Faults.{failed_by};
 ghost use Rattle.mega_actions.specs.IsAt.{IsAt, setting_of};
-ghost use Rattle.mega_finishing.specs.of_proposing.Actions.{does};
-ghost use Rattle.mega_finishing.specs.of_proposing.Reaching.{operation_of};
-ghost use Rattle.mega_finishing.specs.of_proposing.Settings.{setting};
-ghost use Rattle.mega_finishing.specs.of_proposing.Working.{work_of};
+ghost use Rattle.mega_answers.specs.of_step_work.Actions.{does};
+ghost use Rattle.mega_answers.specs.of_step_work.Reaching.{operation_of};
+ghost use Rattle.mega_answers.specs.of_step_work.Settings.{setting};
+ghost use Rattle.mega_answers.specs.of_step_work.Working.{work_of};
 
 use crate::replica::Replica;
-use mega_base::{GroupId, NoMemory, OpId, Position};
-use mega_disk::{Records, Versions};
-use mega_finishing::mega_operations::{Kept, Members, Operation, Phase};
-use mega_finishing::mega_proposing::{
+use mega_answers::mega_operations::{Members, Operation, OperationBase, Phase};
+use mega_answers::mega_step_work::{
     Action, CompleteRead, End, Proposing, Work, is_pump, unless_decided,
 };
-use mega_finishing::mega_voter::Voter;
-use mega_finishing::{ActFault, goes, pumps, reads_through, takes};
+use mega_answers::mega_voter::Voter;
+use mega_answers::{ActFault, goes, pumps, reads_through, takes};
+use mega_base::{GroupId, NoMemory, OpId, Position};
+use mega_disk::{Records, Versions};
 use mega_meanings::QueueHandlers;
 use mega_read::Reading;
 use std::alloc::Global;
@@ -67,7 +67,7 @@ fn seeks(
     alloc: Global,
     members: &Members,
     clock: u64,
-    kept: Kept,
+    kept: OperationBase,
     group: GroupId,
     reading: Reading,
     least: u64,
@@ -110,7 +110,7 @@ fn stays<R: Records>(voter: &Voter<R>, operation: &Operation) -> bool
 fn checks<R: Records>(
     voter: &Voter<R>,
     work: &mut Work,
-    kept: Kept,
+    kept: OperationBase,
     own: Proposing,
 ) -> Result<(), ActFault>
     ensures work { OnOk result ((now : Now) → Tells voter.now.logs.kept now.met → work.old ≡ work_of now →
@@ -134,7 +134,7 @@ fn is_reached(through: u64, prefix: u64) -> bool
 
 impl<R: Records, V: Versions> Replica<R, V> {
     /// A pump whose read is complete goes on to what it asks; where it picks again, its operation comes back.
-    #[tactic(auto, using(mega_finishing::proofs::Refused::used_unkept))]
+    #[tactic(auto, using(mega_answers::proofs::Refused::used_unkept))]
     fn pumps<H: QueueHandlers>(
         &mut self,
         alloc: Global,
@@ -244,13 +244,13 @@ impl<R: Records, V: Versions> Replica<R, V> {
     }
 
     /// An operation reads on.
-    #[tactic(auto, using(mega_replica::proofs::Using::used_here, mega_finishing::proofs::Refused::used_unkept))]
+    #[tactic(auto, using(mega_replica::proofs::Using::used_here, mega_answers::proofs::Refused::used_unkept))]
     fn reads_on<H: QueueHandlers>(
         &mut self,
         alloc: Global,
         handlers: &mut H,
         work: &mut Work,
-        kept: Kept,
+        kept: OperationBase,
         group: GroupId,
         reading: Reading,
     ) -> Result<Option<Operation>, ActFault>
@@ -300,7 +300,7 @@ impl<R: Records, V: Versions> Replica<R, V> {
 
     /// An operation acts once: one whose position is decided ends, and one that reads completes its read, or seeks what is not
     /// decided. A pump that picks again comes back, to act again in the same step.
-    #[tactic(auto, using(mega_replica::proofs::Using::used_here, mega_finishing::proofs::Refused::used_unkept))]
+    #[tactic(auto, using(mega_replica::proofs::Using::used_here, mega_answers::proofs::Refused::used_unkept))]
     fn acts_once<H: QueueHandlers>(
         &mut self,
         alloc: Global,

@@ -2,30 +2,30 @@
 ghost use Rattle.std.specs.Prelude.{◌≡◌, IfOk, OnOk, Err, None, [], ◌∷◌, false, true};
 ghost use Rattle.mega_handler.specs.Named.{Meanings};
 ghost use Rattle.mega_meanings.specs.Means.{Means};
-ghost use Rattle.mega_finishing.specs.of_leases.Tells.{Tells as TellsLeases};
+ghost use Rattle.mega_answers.specs.of_leases.Tells.{Tells as TellsLeases};
 ghost use Rattle.mega_rules.specs.Clock.{clock_of};
 ghost use Rattle.mega_rules.specs.Operations.{Now, Operation as Open};
 ghost use Rattle.mega_rules.specs.Acting.{read_begun};
-ghost use Rattle.mega_finishing.specs.of_node_laws.About.{IsOf};
+ghost use Rattle.mega_answers.specs.of_node_laws.About.{IsOf};
 ghost use Rattle.mega_rules.specs.Steps.{begins, new_operation};
 ghost use Rattle.mega_replica.specs.Used.{StoreUsed};
-ghost use Rattle.mega_finishing.specs.of_voter.Telling.{Tells};
-ghost use Rattle.mega_finishing.specs.declared.fault.ActFault.TheVariants.{Unserved};
-ghost use Rattle.mega_finishing.specs.of_proposing.Servable.{is_at_once, is_served, is_indexed, is_plain, is_pump};
-ghost use Rattle.mega_finishing.specs.Indexing.{marks_then};
-ghost use Rattle.mega_finishing.specs.of_marks.AreMarked.{AreMarked, IsIndexed};
-ghost use Rattle.mega_finishing.specs.Faults.{failed_by};
+ghost use Rattle.mega_answers.specs.of_voter.Telling.{Tells};
+ghost use Rattle.mega_answers.specs.declared.fault.ActFault.TheVariants.{Unserved};
+ghost use Rattle.mega_answers.specs.of_step_work.Servable.{is_at_once, is_served, is_indexed, is_plain, is_pump};
+ghost use Rattle.mega_answers.specs.Indexing.{marks_then};
+ghost use Rattle.mega_answers.specs.of_marks.AreMarked.{AreMarked, IsIndexed};
+ghost use Rattle.mega_answers.specs.Faults.{failed_by};
 ghost use Rattle.mega_actions.specs.IsAt.{IsAt, setting_of};
-ghost use Rattle.mega_finishing.specs.of_proposing.Working.{work_of};
+ghost use Rattle.mega_answers.specs.of_step_work.Working.{work_of};
 
 use crate::replica::Replica;
-use mega_base::{Copied, GroupId, Items, NoMemory, OpId};
-use mega_disk::{Records, Versions};
-use mega_finishing::mega_operations::{Heard, Kept, Operation, Phase};
-use mega_finishing::mega_proposing::{
+use mega_answers::mega_operations::{Heard, Operation, OperationBase, Phase};
+use mega_answers::mega_step_work::{
     Action, End, Work, group_asked, is_at_once, is_indexed, is_pump, read_begun,
 };
-use mega_finishing::{ActFault, Pumped, answer_now, indexed_answer, is_entering, picks};
+use mega_answers::{ActFault, Pumped, answer_now, indexed_answer, is_entering, picks};
+use mega_base::{Copied, GroupId, Items, NoMemory, OpId};
+use mega_disk::{Records, Versions};
 use mega_meanings::QueueHandlers;
 use mega_outcome::Request;
 use std::alloc::Global;
@@ -65,7 +65,7 @@ struct FirstRead {
 impl<R: Records, V: Versions> Replica<R, V> {
     /// A request begins: a find in no group, a refresh, and a read or find that asks for no current rows are answered
     /// at once; any other reads its group, and goes on in the same step where that read is local.
-    #[tactic(auto, using(mega_replica::proofs::Using::used_here, mega_finishing::proofs::Refused::used_apart))]
+    #[tactic(auto, using(mega_replica::proofs::Using::used_here, mega_answers::proofs::Refused::used_apart))]
     pub fn begins<H: QueueHandlers>(
         &mut self,
         alloc: Global,
@@ -124,7 +124,7 @@ impl<R: Records, V: Versions> Replica<R, V> {
     }
 
     /// A pump begins: it picks, and reads the group of that in the same step where that read is local.
-    #[tactic(auto, using(mega_replica::proofs::Using::used_here, mega_finishing::proofs::Refused::used_apart))]
+    #[tactic(auto, using(mega_replica::proofs::Using::used_here, mega_answers::proofs::Refused::used_apart))]
     fn begins_pump<H: QueueHandlers>(
         &mut self,
         alloc: Global,
@@ -151,7 +151,7 @@ impl<R: Records, V: Versions> Replica<R, V> {
         let entering = is_entering(&request);
         let began = self.leases.now();
         let visited = Items::new(alloc);
-        let kept = Kept {
+        let kept = OperationBase {
             id: op,
             request,
             began,
@@ -252,7 +252,7 @@ impl<R: Records, V: Versions> Replica<R, V> {
     }
 
     /// An operation begins with a current read of its group.
-    #[tactic(auto, using(mega_replica::proofs::Using::used_here, mega_finishing::proofs::Refused::used_apart))]
+    #[tactic(auto, using(mega_replica::proofs::Using::used_here, mega_answers::proofs::Refused::used_apart))]
     fn begins_read<H: QueueHandlers>(
         &mut self,
         alloc: Global,

@@ -7,8 +7,8 @@ mod beginning;
 mod replica;
 mod turning;
 
-pub use mega_finishing;
-pub use mega_finishing::{
-    mega_leases, mega_marks, mega_operations, mega_proposing, mega_pumps, mega_voter,
+pub use mega_answers;
+pub use mega_answers::{
+    mega_leases, mega_marks, mega_operations, mega_pumps, mega_step_work, mega_voter,
 };
 pub use replica::Replica;

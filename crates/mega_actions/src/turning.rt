@@ -2,29 +2,29 @@
 ghost use Rattle.std.specs.Prelude.{◌≡◌, OnOk, Err, false, true, All, fold};
 ghost use Rattle.mega_handler.specs.Named.{Meanings};
 ghost use Rattle.mega_meanings.specs.Means.{Means};
-ghost use Rattle.mega_finishing.specs.of_node_laws.About.{IsAbout};
+ghost use Rattle.mega_answers.specs.of_node_laws.About.{IsAbout};
 ghost use Rattle.mega_rules.specs.Operations.{Now};
 ghost use Rattle.mega_rules.specs.Steps.{acts_in_turn, all_act, ticked};
 ghost use Rattle.mega_replica.specs.Used.{StoreUsed};
-ghost use Rattle.mega_finishing.specs.declared.fault.ActFault.TheVariants.{Unserved};
-ghost use Rattle.mega_finishing.specs.of_proposing.Servable.{is_open};
-ghost use Rattle.mega_finishing.specs.Faults.{failed_by};
+ghost use Rattle.mega_answers.specs.declared.fault.ActFault.TheVariants.{Unserved};
+ghost use Rattle.mega_answers.specs.of_step_work.Servable.{is_open};
+ghost use Rattle.mega_answers.specs.Faults.{failed_by};
 ghost use Rattle.mega_actions.specs.IsAt.{IsAt, setting_of};
 ghost use Rattle.mega_actions.specs.Turns.{IsServable, IsServableHeard, IsHeardAbout};
-ghost use Rattle.mega_finishing.specs.of_proposing.Working.{work_of};
+ghost use Rattle.mega_answers.specs.of_step_work.Working.{work_of};
 
 use crate::replica::Replica;
+use mega_answers::ActFault;
+use mega_answers::mega_operations::{Heard, Operation};
+use mega_answers::mega_step_work::{Action, End, Work};
 use mega_base::Items;
 use mega_disk::{Records, Versions};
-use mega_finishing::ActFault;
-use mega_finishing::mega_operations::{Heard, Operation};
-use mega_finishing::mega_proposing::{Action, End, Work};
 use mega_meanings::QueueHandlers;
 use std::alloc::Global;
 
 impl<R: Records, V: Versions> Replica<R, V> {
     /// An operation acts that comes to something: what it sends for that goes out first.
-    #[tactic(auto, using(mega_replica::proofs::Using::used_here, mega_finishing::proofs::Refused::used_unkept))]
+    #[tactic(auto, using(mega_replica::proofs::Using::used_here, mega_answers::proofs::Refused::used_unkept))]
     pub fn acts_in_turn<H: QueueHandlers>(
         &mut self,
         alloc: Global,
@@ -91,7 +91,7 @@ impl<R: Records, V: Versions> Replica<R, V> {
     }
 
     /// An operation at a tick: it ends where its patience has ended, and else does what is due.
-    #[tactic(auto, using(mega_replica::proofs::Using::used_here, mega_finishing::proofs::Refused::used_unkept))]
+    #[tactic(auto, using(mega_replica::proofs::Using::used_here, mega_answers::proofs::Refused::used_unkept))]
     pub fn ticked<H: QueueHandlers>(
         &mut self,
         alloc: Global,

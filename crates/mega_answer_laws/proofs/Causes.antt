@@ -36,8 +36,8 @@ use Rattle.mega_cause_laws.specs.of_run_laws.of_tape_laws.Lawful.{Lawful}
 use Rattle.mega_cause_laws.specs.of_run_laws.of_tape_laws.Writes.{IsFront, Usage}
 use Rattle.mega_cause_laws.proofs.of_run_laws.of_tape_laws.Complete.{known_is_front}
 use Rattle.mega_cause_laws.proofs.of_run_laws.Owned.{KnowsAll, front_length, knows_front}
-use Rattle.mega_cause_laws.specs.Told.{is_told}
-use Rattle.mega_cause_laws.proofs.Told.{told_causes}
+use Rattle.mega_cause_laws.specs.LogTells.{is_told}
+use Rattle.mega_cause_laws.proofs.LogTells.{told_causes}
 use Rattle.mega_answer_laws.proofs.Reasons.{FindMet, FullAt, IsMet, ReadMet, Within, logs_at}
 
 -- a tape shows what a node decided

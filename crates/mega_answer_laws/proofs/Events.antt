@@ -75,9 +75,9 @@ use Rattle.mega_answer_laws.proofs.Once.{Moment, once_cause}
 use Rattle.mega_answer_laws.proofs.Ops.{Beside, in_filter}
 use Rattle.mega_answer_laws.proofs.Since.{Since, since_more, since_none}
 use Rattle.mega_answer_laws.proofs.Steps.{Amid, Caused, Fit, OfOp, OwnTold, Parts, applied_mid, beside_mid, caused_by, each_silent, final, knowing_mid, made, marks_base, mid, mid_view, node_end, others_end, silent, step_since}
-use Rattle.mega_answer_laws.proofs.Told.{NodeTold, NoteMarks, OpenOn, Spoken}
+use Rattle.mega_answer_laws.proofs.OnTape.{NodeTold, NoteMarks, OpenOn, Spoken}
 use Rattle.mega_answer_laws.proofs.Views.{LeavesRest, Rest, View, next, one_told, rest_after, view}
-use Rattle.mega_answer_laws.proofs.Walk.{Acting, Kept, SaidBelow, Spoken as SpokenAt, ends_at, in_behind}
+use Rattle.mega_answer_laws.proofs.Walk.{Acting, OpenBelow, SaidBelow, Spoken as SpokenAt, ends_at, in_behind}
 
 -- whoever uses a store so that texts mean their requests
 abbrev pub those_of : Usage → Users
@@ -655,7 +655,7 @@ module _ (c : Cluster) (usage : Usage) (h : Meanings) (now : Standing) (me : ℕ
     }
 
     module _ (Other : OpId → Request → ℕ → Answer → Type 0) where
-      kept_open : (os : List Operation) → Each (Ready (BeginItem id text)) os → Each (λ (o : Operation). (o.id).number < id.number) os → Each (Kept s begin_base node.stored BeginOf BeginSpoke Other id.number [] []) os
+      kept_open : (os : List Operation) → Each (Ready (BeginItem id text)) os → Each (λ (o : Operation). (o.id).number < id.number) os → Each (OpenBelow s begin_base node.stored BeginOf BeginSpoke Other id.number [] []) os
       kept_open [] r less = tt
       kept_open (o ∷ os) r less = (
         record {

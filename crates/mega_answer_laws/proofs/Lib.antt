@@ -10,7 +10,7 @@ pub mod Causes
 pub mod Acts
 pub mod Once
 pub mod Placing
-pub mod Told
+pub mod OnTape
 pub mod Steps
 pub mod Events
 pub mod Starts

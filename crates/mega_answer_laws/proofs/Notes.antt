@@ -8,7 +8,7 @@ use Rattle.mega_coordinator.specs.declared.answers.Counted.TheVariants.{No, Yes,
 use Rattle.mega_coordinator.specs.Lease.{counted_by, granted_answer}
 use Rattle.mega_coordinator.specs.History.{epoch_after, lease_of}
 use Rattle.mega_locks.specs.declared.asked.Asked.{Asked}
-use Rattle.mega_locks.specs.declared.asked.Asked.TheVariants.{Granted as AnswerGranted, Renewed, Taken as AnswerTaken, Over}
+use Rattle.mega_locks.specs.declared.asked.Asked.TheVariants.{Granted as AnswerGranted, Renewed, GreaterHeld, Over}
 use Rattle.mega_locks.specs.History.{lapse_for, nodes as lock_nodes}
 use Rattle.mega_wire.specs.declared.message.Body.{Body}
 use Rattle.mega_wire.specs.declared.message.Body.TheVariants.{Acquire, Granted, Invalidate}
@@ -113,7 +113,7 @@ each_flat P f h (x ∷ xs) = each_both P (f x) (flat_map f xs) (h x) (each_flat 
 grant_quiet : (node : ℕ) (epoch : Epoch) (a : Asked) → Each IsQuiet (grant_note node epoch a)
 grant_quiet node epoch AnswerGranted = (tt, tt)
 grant_quiet node epoch Renewed = tt
-grant_quiet node epoch (AnswerTaken greatest) = tt
+grant_quiet node epoch (GreaterHeld greatest) = tt
 grant_quiet node epoch (Over greatest) = tt
 
 counts_quiet : (cell : ℕ) (epoch : Epoch) (was : Bool) (a : Counted) → Each IsQuiet (counts_notes cell epoch was a)

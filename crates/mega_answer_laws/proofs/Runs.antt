@@ -39,7 +39,7 @@ use Rattle.mega_answer_laws.proofs.Ops.{Beside}
 use Rattle.mega_answer_laws.proofs.Since.{Answered, Over, Since, quiet_holds, since_more, since_none, since_then}
 use Rattle.mega_answer_laws.proofs.Starts.{cut_mine, cut_other, falls_mine, falls_other, owed_if, owes_owed, start_mine, start_other, start_since}
 use Rattle.mega_answer_laws.proofs.Steps.{Caused, OwnTold}
-use Rattle.mega_answer_laws.proofs.Told.{AllTold, IsOwed, NodeTold, other_told}
+use Rattle.mega_answer_laws.proofs.OnTape.{AllTold, IsOwed, NodeTold, other_told}
 use Rattle.mega_answer_laws.proofs.Views.{view}
 
 -- ---- what an event leads to

@@ -31,7 +31,7 @@ use Rattle.mega_answer_laws.proofs.Notes.{IsApplied, applied_leaves, applied_min
 use Rattle.mega_answer_laws.proofs.Ops.{Beside, Leaves, beside_then, notes_beside}
 use Rattle.mega_answer_laws.proofs.Since.{Since, since_notes}
 use Rattle.mega_answer_laws.proofs.Steps.{OwnTold}
-use Rattle.mega_answer_laws.proofs.Told.{IsNoDecide, IsOwed, NodeTold, NoteMarks, marks_after, other_told, same_each, started_log, within_more}
+use Rattle.mega_answer_laws.proofs.OnTape.{IsNoDecide, IsOwed, NodeTold, NoteMarks, marks_after, other_told, same_each, started_log, within_more}
 use Rattle.mega_answer_laws.proofs.Views.{Agrees, IsMine, LeavesApplied, View, after, after_append, agrees_after, agrees_one, applied_after, next, notes_told, view}
 use Rattle.mega_answer_laws.proofs.Walk.{each_both}
 

@@ -48,9 +48,9 @@ use Rattle.mega_answer_laws.proofs.Reasons.{IsMet, Within}
 use Rattle.mega_answer_laws.proofs.Notes.{IsApplied, IsQuiet, applied_leaves, applied_mine, applied_silent, quiet_applied, quiet_leaves, quiet_mine, quiet_silent, valid_quiet}
 use Rattle.mega_answer_laws.proofs.Ops.{Beside, Leaves, beside_then, notes_beside, notes_unsent, sends_beside, stands_among}
 use Rattle.mega_answer_laws.proofs.Since.{IsQuiet as IsQuietItem, Since, quiet_holds, since_more, since_none, since_notes, since_sent, since_then}
-use Rattle.mega_answer_laws.proofs.Told.{IsNoDecide, NodeTold, NoteMarks, OpenOn, Spoken, marks_after, other_told, same_each, within_more}
+use Rattle.mega_answer_laws.proofs.OnTape.{IsNoDecide, NodeTold, NoteMarks, OpenOn, Spoken, marks_after, other_told, same_each, within_more}
 use Rattle.mega_answer_laws.proofs.Views.{Agrees, IsMine, LeavesApplied, View, after, after_append, agrees_after, agrees_one, agrees_sent, applied_after, next, notes_told, sends_told, view}
-use Rattle.mega_answer_laws.proofs.Walk.{Acting, IsValid, Kept, Said, SaidBelow, Spoken as SpokenAt, each_both}
+use Rattle.mega_answer_laws.proofs.Walk.{Acting, IsValid, OpenBelow, Said, SaidBelow, Spoken as SpokenAt, each_both}
 
 -- ---- what is lawful of a longer tape is of a shorter one
 
@@ -426,7 +426,7 @@ module _ (c : Cluster) (usage : Usage) (h : Meanings) (me : ℕ) (tape : List It
     speaks o (Proposes group n asked proposal promised) b (inr says) =
         let there = stands_among _ count s.sends noted (f.among _ says.among) in record { number = there.0; to = says.to; group = says.group; n = says.n; own = says.own; is_own = says.is_own; stands = there.1 }
 
-    opens_end : (o : Operation) → Kept (setting c h me) base first Of Spoke Other k s.acc.sends s.acc.answers o → OpenOn final me o
+    opens_end : (o : Operation) → OpenBelow (setting c h me) base first Of Spoke Other k s.acc.sends s.acc.answers o → OpenOn final me o
     opens_end o kept = let b = beside_final me o.id kept.apart in record {
       node = (kept.of).node;
       sound = kept.sound;
@@ -437,7 +437,7 @@ module _ (c : Cluster) (usage : Usage) (h : Meanings) (me : ℕ) (tape : List It
 
     pub node_end : NodeTold c final me made.node
     node_end = record {
-      opens = each_on (Kept (setting c h me) base first Of Spoke Other k s.acc.sends s.acc.answers) (OpenOn final me) opens_end s.acc.kept f.acting.kept;
+      opens = each_on (OpenBelow (setting c h me) base first Of Spoke Other k s.acc.sends s.acc.answers) (OpenOn final me) opens_end s.acc.kept f.acting.kept;
       agrees = agrees_end;
       applies = applies_end;
       stored = λ group. subst (λ log. s.acc.stored group ≤ length (writes_of log)) (sym (same_end.logs group)) (f.acting.stored.within group);

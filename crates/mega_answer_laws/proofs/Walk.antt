@@ -140,7 +140,7 @@ module _ (s : Setting) (base : List Met) (first : GroupId → ℕ) (Of : OpId �
   Spoken sends op (Reads group r) = Unit {0}
   Spoken sends op (Proposes group n asked proposal promised) = Spoke op ⊎ Says sends op
 
-  pub record Kept (k : ℕ) (sends : List Message) (answers : List Met) (o : Operation) : Type 0 where
+  pub record OpenBelow (k : ℕ) (sends : List Message) (answers : List Met) (o : Operation) : Type 0 where
     pub of : Of o.id o.request o.began
     pub sound : IsSound o.request o.phase
     pub spoke : Spoken sends o.id o.phase
@@ -157,7 +157,7 @@ module _ (s : Setting) (base : List Met) (first : GroupId → ℕ) (Of : OpId �
     pub stored : Holds now.stored
     pub valid : Each IsValid now.valid
     pub answers : Each (SaidBelow k) now.answers
-    pub kept : Each (Kept k now.sends now.answers) now.kept
+    pub kept : Each (OpenBelow k now.sends now.answers) now.kept
 
   -- an operation that acts
   pub record Turn (now : Now) (o : Operation) : Type 0 where
@@ -175,7 +175,7 @@ module _ (s : Setting) (base : List Met) (first : GroupId → ℕ) (Of : OpId �
   said_up k l le (Answers op answer) h = record { request = h.request; began = h.began; of = h.of; below = (let less = h.below in omega (arith, less, le)); cause = h.cause }
   said_up k l le _ h = absurd h
 
-  kept_up : (k l : ℕ) (sends : List Message) (answers : List Met) → k ≤ l → (o : Operation) → Kept k sends answers o → Kept l sends answers o
+  kept_up : (k l : ℕ) (sends : List Message) (answers : List Met) → k ≤ l → (o : Operation) → OpenBelow k sends answers o → OpenBelow l sends answers o
   kept_up k l sends answers le o h = record { of = h.of; sound = h.sound; spoke = h.spoke; below = (let less = h.below in omega (arith, less, le)); apart = h.apart }
 
   pub acting_up : (k l : ℕ) (now : Now) → k ≤ l → Acting k now → Acting l now
@@ -184,7 +184,7 @@ module _ (s : Setting) (base : List Met) (first : GroupId → ℕ) (Of : OpId �
     stored = a.stored;
     valid = a.valid;
     answers = each_on (SaidBelow k) (SaidBelow l) (said_up k l le) now.answers a.answers;
-    kept = each_on (Kept k now.sends now.answers) (Kept l now.sends now.answers) (kept_up k l now.sends now.answers le) now.kept a.kept;
+    kept = each_on (OpenBelow k now.sends now.answers) (OpenBelow l now.sends now.answers) (kept_up k l now.sends now.answers le) now.kept a.kept;
   }
 
   said_apart : (x : OpId) (one : Met) → SaidBelow x.number one → IsApart x one
@@ -198,7 +198,7 @@ module _ (s : Setting) (base : List Met) (first : GroupId → ℕ) (Of : OpId �
   spoken_more sends more op (Proposes group n asked proposal promised) (inl before) = inl before
   spoken_more sends more op (Proposes group n asked proposal promised) (inr says) = inr (says_more sends more op says)
 
-  kept_sends : (k : ℕ) (sends more : List Message) (answers : List Met) (o : Operation) → Kept k sends answers o → Kept k (sends ++ more) answers o
+  kept_sends : (k : ℕ) (sends more : List Message) (answers : List Met) (o : Operation) → OpenBelow k sends answers o → OpenBelow k (sends ++ more) answers o
   kept_sends k sends more answers o h = record { of = h.of; sound = h.sound; spoke = spoken_more sends more o.id o.phase h.spoke; below = h.below; apart = h.apart }
 
   pub acting_sends : (k : ℕ) (now : Now) (ms : List Message) → Acting k now → Acting k (sends_more now ms)
@@ -207,7 +207,7 @@ module _ (s : Setting) (base : List Met) (first : GroupId → ℕ) (Of : OpId �
     stored = a.stored;
     valid = a.valid;
     answers = a.answers;
-    kept = each_on (Kept k now.sends now.answers) (Kept k (now.sends ++ ms) now.answers) (kept_sends k now.sends ms now.answers) now.kept a.kept;
+    kept = each_on (OpenBelow k now.sends now.answers) (OpenBelow k (now.sends ++ ms) now.answers) (kept_sends k now.sends ms now.answers) now.kept a.kept;
   }
 
   -- ---- it stays open, or ends
@@ -224,7 +224,7 @@ module _ (s : Setting) (base : List Met) (first : GroupId → ℕ) (Of : OpId �
     stored = a.stored;
     valid = a.valid;
     answers = a.answers;
-    kept = each_push (Kept ((o.id).number + 1) now.sends now.answers) now.kept o a.kept (record {
+    kept = each_push (OpenBelow ((o.id).number + 1) now.sends now.answers) now.kept o a.kept (record {
       of = t.of;
       sound = t.sound;
       spoke = t.spoke;
@@ -233,7 +233,7 @@ module _ (s : Setting) (base : List Met) (first : GroupId → ℕ) (Of : OpId �
     });
   }
 
-  kept_ends : (op : OpId) (answer : Answer) (sends : List Message) (answers : List Met) (o : Operation) → Kept op.number sends answers o → Kept (op.number + 1) sends (answers ++ Answers op answer ∷ []) o
+  kept_ends : (op : OpId) (answer : Answer) (sends : List Message) (answers : List Met) (o : Operation) → OpenBelow op.number sends answers o → OpenBelow (op.number + 1) sends (answers ++ Answers op answer ∷ []) o
   kept_ends op answer sends answers o h = record {
     of = h.of;
     sound = h.sound;
@@ -252,7 +252,7 @@ module _ (s : Setting) (base : List Met) (first : GroupId → ℕ) (Of : OpId �
     valid = a.valid;
     answers = each_both (SaidBelow (op.number + 1)) now.answers (Answers op answer ∷ []) (each_on (SaidBelow op.number) (SaidBelow (op.number + 1)) (said_up op.number (op.number + 1) (next_up op.number)) now.answers a.answers)
         (record { request = request; began = began; of = of; below = next_of op.number; cause = cause }, tt);
-    kept = each_on (Kept op.number now.sends now.answers) (Kept (op.number + 1) now.sends (now.answers ++ Answers op answer ∷ [])) (kept_ends op answer now.sends now.answers) now.kept a.kept;
+    kept = each_on (OpenBelow op.number now.sends now.answers) (OpenBelow (op.number + 1) now.sends (now.answers ++ Answers op answer ∷ [])) (kept_ends op answer now.sends now.answers) now.kept a.kept;
   }
 
   ends_it : (now : Now) (o : Operation) (answer : Answer) → Turn now o → IsMet s base o.id o.request answer → P o.id (ends now o.id answer)

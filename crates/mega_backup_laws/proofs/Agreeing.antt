@@ -17,7 +17,7 @@ use Rattle.mega_tape_laws.specs.Writes.{LawfulWrites, Usage}
 use Rattle.mega_tape_laws.specs.Indexed.{AllPutValues, AskValues, IsDeclared, PutValues}
 use Rattle.mega_tape_laws.proofs.Placed.{Ascends, after-ascends, after_is}
 use Rattle.mega_tape_laws.proofs.RowKeys.{Standing, OfTable, of_table}
-use Rattle.mega_tape_laws.proofs.IndexKept.{Kept, Owner}
+use Rattle.mega_tape_laws.proofs.IndexKept.{IndexExact, Owner}
 use Rattle.mega_tape_laws.proofs.LogSteps.{log_keeps}
 use Rattle.mega_tape_laws.proofs.IndexLogs.{kept_keeps, none_kept}
 use Rattle.mega_backup.specs.declared.fault.BackupFault.TheVariants.{Short}
@@ -41,7 +41,7 @@ moved_owner s group one two agree key stored o = record {
   entry = o.entry;
 }
 
-kept_agree : (s : Schema) (group : List ℕ) (one two : Rows) → Kept s group one → Kept s group two → ((at : List ℕ) (n : ℕ) → table_of s group at ≡ Some n → one at ≡ two at) → (key : List ℕ) → one key ≡ two key
+kept_agree : (s : Schema) (group : List ℕ) (one two : Rows) → IndexExact s group one → IndexExact s group two → ((at : List ℕ) (n : ℕ) → table_of s group at ≡ Some n → one at ≡ two at) → (key : List ℕ) → one key ≡ two key
 kept_agree s group one two kept other agree key = by (table_of s group key) refl
   where
     none_key : table_of s group key ≡ None → (a b : Option Row) → one key ≡ a → two key ≡ b → one key ≡ two key
@@ -53,7 +53,7 @@ kept_agree s group one two kept other agree key = by (table_of s group key) refl
     by (Some n) is = agree key n is
     by None is = none_key is (one key) (two key) refl refl
 
-module _ (s : Schema) (d : IsDeclared s) (group : GroupId) (listed : Listed) (up : Ascends listed) (kept : Kept s group.key (row_under listed)) (txns : List Transaction) (h : puts_of s group listed ≡ Ok txns) where
+module _ (s : Schema) (d : IsDeclared s) (group : GroupId) (listed : Listed) (up : Ascends listed) (kept : IndexExact s group.key (row_under listed)) (txns : List Transaction) (h : puts_of s group listed ≡ Ok txns) where
   stand : (k : List ℕ) (n : ℕ) (row : Row) → table_of s group.key k ≡ Some n → row_under listed k ≡ Some row → (t : Table) × (numbered s.tables n ≡ Some t) × Standing s n t k row
   stand k n row of is = let t = of_table s group.key k n d.most of in (t.table, t.numbered_is, kept.fit k n t.table row of t.numbered_is is)
 
@@ -84,10 +84,10 @@ small_puts (Ok found) txns h = let same : found ≡ txns = cc in ap Ok same
 small_puts (Err key) txns h = absurd (cc)
 
 -- of any entries after which the rows are kept
-listed_back : (s : Schema) → IsDeclared s → (group : GroupId) (log : List Content) → Kept s group.key (after log no_rows) → (txns : List Transaction) → unless_large (puts_of s group (list_after log [])) ≡ Ok txns
+listed_back : (s : Schema) → IsDeclared s → (group : GroupId) (log : List Content) → IndexExact s group.key (after log no_rows) → (txns : List Transaction) → unless_large (puts_of s group (list_after log [])) ≡ Ok txns
     → (key : List ℕ) → restored s txns key ≡ after log no_rows key
 listed_back s d group log kept txns h key =
-    all_agree s d group (list_after log []) (after-ascends log [] tt) (subst (Kept s group.key) (sym (after_is log [] tt)) kept) txns (small_puts (puts_of s group (list_after log [])) txns h) key
+    all_agree s d group (list_after log []) (after-ascends log [] tt) (subst (IndexExact s group.key) (sym (after_is log [] tt)) kept) txns (small_puts (puts_of s group (list_after log [])) txns h) key
     ∙ ap (λ (R : Rows). R key) (after_is log [] tt)
 
 pub made_back : (s : Schema) → IsDeclared s → (group : GroupId) (entries : List Content) → AreMade s group no_rows entries → (q : ℕ) (txns : List Transaction) → restoring s group entries q ≡ Ok txns
@@ -107,6 +107,6 @@ pub brought_back : (c : Cluster) (usage : Usage) (tape : List Item) → LawfulWr
     → restoring c.schema group (log_of tape group) entries ≡ Ok txns → (key : List ℕ) → restored c.schema txns key ≡ after (take entries (log_of tape group)) no_rows key
 brought_back c usage tape l d ask group entries txns h =
     let s = c.schema in
-    let kept = log_keeps c usage tape group (Kept s group.key) (λ (t : Transaction). PutValues t.writes) AllPutValues l (kept_keeps s d.most group.key)
+    let kept = log_keeps c usage tape group (IndexExact s group.key) (λ (t : Transaction). PutValues t.writes) AllPutValues l (kept_keeps s d.most group.key)
     (λ op transaction asked. ask op _ asked) (λ op transactions asked. ask op _ asked) entries in
     listed_back s d group (take entries (log_of tape group)) kept txns h

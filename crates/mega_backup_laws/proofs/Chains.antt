@@ -19,7 +19,7 @@ use Rattle.mega_tape_laws.specs.Indexed.{IsDeclared}
 use Rattle.mega_tape_laws.proofs.Placed.{same_self, same_or_not, not_key, key_apart, under, Below, Ascends, in_under, under_in}
 use Rattle.mega_tape_laws.proofs.RowKeys.{Standing, stands}
 use Rattle.mega_tape_laws.proofs.RootKeys.{no_entry}
-use Rattle.mega_tape_laws.proofs.IndexKept.{Kept, key_of_table, turned_leaves, replaced_kept}
+use Rattle.mega_tape_laws.proofs.IndexKept.{IndexExact, key_of_table, turned_leaves, replaced_kept}
 use Rattle.mega_backup.specs.Restoring.{put_of, put_at, put_before, is_large, with_put, puts_of, after_one}
 use Rattle.mega_backup_laws.proofs.Puts.{one_put}
 
@@ -59,7 +59,7 @@ module _ (s : Schema) (d : IsDeclared s) (group : GroupId) where
 
   -- the rows are kept, and under each row key stands the listed row, or what stood there
   pub record Chain (rows : Rows) (listed : Listed) (final : Rows) : Type 0 where
-    pub kept : Kept s group.key final
+    pub kept : IndexExact s group.key final
     pub at : (m k_table : ℕ) (u : Table) (values : List Value) (k : List ℕ) → table_of s group.key k ≡ Some k_table → numbered s.tables m ≡ Some u → key_of s m u values ≡ Ok k → final k ≡ or_old (under listed k) (rows k)
 
   -- what stands under a row key once a row of a table is put
@@ -86,9 +86,9 @@ module _ (s : Schema) (d : IsDeclared s) (group : GroupId) where
 
   -- what the puts of rows leave, over any rows
   abbrev On : Listed → Type 0
-  On listed = (txns : List Transaction) (rows : Rows) → Kept s group.key rows → Stand listed → Free listed rows → puts_of s group listed ≡ Ok txns → Chain rows listed (fold (after_one s) rows txns)
+  On listed = (txns : List Transaction) (rows : Rows) → IndexExact s group.key rows → Stand listed → Free listed rows → puts_of s group listed ≡ Ok txns → Chain rows listed (fold (after_one s) rows txns)
 
-  pub chain : (listed : Listed) (txns : List Transaction) (rows : Rows) → Ascends listed → Kept s group.key rows → Stand listed → Free listed rows → puts_of s group listed ≡ Ok txns → Chain rows listed (fold (after_one s) rows txns)
+  pub chain : (listed : Listed) (txns : List Transaction) (rows : Rows) → Ascends listed → IndexExact s group.key rows → Stand listed → Free listed rows → puts_of s group listed ≡ Ok txns → Chain rows listed (fold (after_one s) rows txns)
   chain [] txns rows up kept stand free h =
       let none : [] ≡ txns = cc in
       subst (λ (ts : List Transaction). Chain rows [] (fold (after_one s) rows ts)) none (record { kept = kept; at = λ m n u values k of there own. refl })
@@ -133,7 +133,7 @@ module _ (s : Schema) (d : IsDeclared s) (group : GroupId) where
           fits : (row : Row) → Some one.1 ≡ Some row → Standing s n st.0 one.0 row
           fits row e = let same : one.1 ≡ row = cc in subst (Standing s n st.0 one.0) same st.2
 
-          kept_now : Kept s group.key (written (replaced s n one.0 (rows one.0) (Some one.1)) rows)
+          kept_now : IndexExact s group.key (written (replaced s n one.0 (rows one.0) (Some one.1)) rows)
           kept_now = replaced_kept s d.most group.key rows kept one.0 n st.0 of st.1 (Some one.1) fits
 
           free_now : Free more (written (replaced s n one.0 (rows one.0) (Some one.1)) rows)

@@ -19,7 +19,7 @@ use Rattle.mega_outcome.specs.Changes.{all_changes}
 use Rattle.mega_outcome.specs.Outcome.{all_sends, longest, unless_large, first_read, first_change, first_send, outcome_in, no_batch, left_out, taken, batch_length, with_result, with_next}
 use Rattle.mega_tape_laws.specs.Indexed.{AllPutValues, PutValues}
 use Rattle.mega_tape_laws.proofs.Replacing.{bind_turn}
-use Rattle.mega_tape_laws.proofs.IndexKept.{Kept}
+use Rattle.mega_tape_laws.proofs.IndexKept.{IndexExact}
 use Rattle.mega_tape_laws.proofs.IndexSteps.{changes_kept, fitted_kept}
 use Rattle.mega_backup_laws.specs.Made.{IsMade, AreMade, nothing, by_transaction, by_batch, by_handler}
 
@@ -43,38 +43,38 @@ changes_of s group rows t done h =
     small false n d e g = cc
 
 module _ (s : Schema) (most : length s.tables ≤ 64) (group : GroupId) where
-  outcome_kept : (rows : Rows) → Kept s group.key rows → (t : Transaction) (done : Done) → PutValues t.writes → outcome_in s group.key t rows ≡ Ok done → Kept s group.key (written done.writes rows)
+  outcome_kept : (rows : Rows) → IndexExact s group.key rows → (t : Transaction) (done : Done) → PutValues t.writes → outcome_in s group.key t rows ≡ Ok done → IndexExact s group.key (written done.writes rows)
   outcome_kept rows kept t done held h = changes_kept s most group.key rows kept (first_change t) t.writes done.writes held (changes_of s group.key rows t done h)
 
-  next_kept : (rows : Rows) (b : Batch) → Kept s group.key (written b.writes rows) → (t : Transaction) → PutValues t.writes → Kept s group.key (written (with_next s group.key rows b t).writes rows)
+  next_kept : (rows : Rows) (b : Batch) → IndexExact s group.key (written b.writes rows) → (t : Transaction) → PutValues t.writes → IndexExact s group.key (written (with_next s group.key rows b t).writes rows)
   next_kept rows b kept t held = by (outcome_in s group.key t (written b.writes rows)) refl
     where
-      by : (r : Result Done Turn) → outcome_in s group.key t (written b.writes rows) ≡ r → Kept s group.key (written (with_result b r).writes rows)
+      by : (r : Result Done Turn) → outcome_in s group.key t (written b.writes rows) ≡ r → IndexExact s group.key (written (with_result b r).writes rows)
       by (Err turn) is = kept
       by (Ok done) is = tested (nat_lt most_bytes (batch_length (taken b done)))
         where
-          more : Kept s group.key (written (b.writes ++ done.writes) rows)
-          more = subst (Kept s group.key) (sym (fold-append changed rows b.writes done.writes)) (outcome_kept (written b.writes rows) kept t done held is)
+          more : IndexExact s group.key (written (b.writes ++ done.writes) rows)
+          more = subst (IndexExact s group.key) (sym (fold-append changed rows b.writes done.writes)) (outcome_kept (written b.writes rows) kept t done held is)
 
-          tested : (t : Bool) → Kept s group.key (written (if t then left_out b (TooLarge (batch_length (taken b done))) else taken b done).writes rows)
+          tested : (t : Bool) → IndexExact s group.key (written (if t then left_out b (TooLarge (batch_length (taken b done))) else taken b done).writes rows)
           tested true = kept
           tested false = more
 
-  batch_kept : (rows : Rows) (ts : List Transaction) (b : Batch) → Kept s group.key (written b.writes rows) → AllPutValues ts → Kept s group.key (written (fold (with_next s group.key rows) b ts).writes rows)
+  batch_kept : (rows : Rows) (ts : List Transaction) (b : Batch) → IndexExact s group.key (written b.writes rows) → AllPutValues ts → IndexExact s group.key (written (fold (with_next s group.key rows) b ts).writes rows)
   batch_kept rows [] b kept held = kept
   batch_kept rows (t ∷ ts) b kept held = batch_kept rows ts (with_next s group.key rows b t) (next_kept rows b kept t held.0) held.1
 
-  made_kept : (rows : Rows) → Kept s group.key rows → (writes : List Write) → IsMade s group rows writes → Kept s group.key (written writes rows)
-  made_kept rows kept writes (nothing none) = subst (λ (ws : List Write). Kept s group.key (written ws rows)) (sym none) kept
+  made_kept : (rows : Rows) → IndexExact s group.key rows → (writes : List Write) → IsMade s group rows writes → IndexExact s group.key (written writes rows)
+  made_kept rows kept writes (nothing none) = subst (λ (ws : List Write). IndexExact s group.key (written ws rows)) (sym none) kept
   made_kept rows kept writes (by_transaction t done held at comes is) =
-      subst (λ (ws : List Write). Kept s group.key (written ws rows)) (sym is)
+      subst (λ (ws : List Write). IndexExact s group.key (written ws rows)) (sym is)
       (outcome_kept rows kept t done held (ap (λ (g : GroupId). outcome_in s g.key t rows) (sym at) ∙ comes))
   made_kept rows kept writes (by_batch ts held is) =
-      subst (λ (ws : List Write). Kept s group.key (written ws rows)) (sym is) (batch_kept rows ts no_batch kept held)
+      subst (λ (ws : List Write). IndexExact s group.key (written ws rows)) (sym is) (batch_kept rows ts no_batch kept held)
   made_kept rows kept writes (by_handler seen agree wanted is) =
-      subst (λ (ws : List Write). Kept s group.key (written ws rows)) (sym is) (fitted_kept s most group.key wanted rows seen kept agree)
+      subst (λ (ws : List Write). IndexExact s group.key (written ws rows)) (sym is) (fitted_kept s most group.key wanted rows seen kept agree)
 
-  pub entries_kept : (entries : List Content) (q : ℕ) (rows : Rows) → Kept s group.key rows → AreMade s group rows entries → Kept s group.key (after (take q entries) rows)
+  pub entries_kept : (entries : List Content) (q : ℕ) (rows : Rows) → IndexExact s group.key rows → AreMade s group rows entries → IndexExact s group.key (after (take q entries) rows)
   entries_kept [] zero rows kept made = kept
   entries_kept [] (suc q) rows kept made = kept
   entries_kept (e ∷ entries) zero rows kept made = kept

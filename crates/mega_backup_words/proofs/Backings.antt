@@ -9,8 +9,8 @@ use Rattle.mega_base.specs.declared.names.Position.{Position}
 use Rattle.mega_cluster.specs.declared.cluster.Cluster.{Cluster}
 use Rattle.mega_io.specs.Pieces.{AppendsFront}
 use Rattle.mega_checkpoint.specs.Format.{list_of}
-use Rattle.mega_heading.specs.Parts.{cluster_in}
-use Rattle.mega_heading.specs.Known.{Breaks, Told}
+use Rattle.mega_header.specs.Parts.{cluster_in}
+use Rattle.mega_header.specs.Known.{Breaks, IfKnown}
 use Rattle.mega_wal.specs.declared.item.JournalItem.{JournalItem}
 use Rattle.mega_wal.specs.History.{prefix_of}
 use Rattle.mega_wal.specs.Records.{first_bad, history_of}
@@ -90,13 +90,13 @@ unopened_ends group p told seen old (TooLarge key) only bad = absurd only
 
 -- ---- the whole
 
-pub log_backs : (group : GroupId) (p least : ℕ) (known : Option (List ℕ)) (told : Bool) (seen : List ℕ) (old new : Option (List ℕ)) (r : Result (Unit {0}) Stop) → (cluster : Cluster) × Told known (λ input. cluster_in least input ≡ Ok cluster)
+pub log_backs : (group : GroupId) (p least : ℕ) (known : Option (List ℕ)) (told : Bool) (seen : List ℕ) (old new : Option (List ℕ)) (r : Result (Unit {0}) Stop) → (cluster : Cluster) × IfKnown known (λ input. cluster_in least input ≡ Ok cluster)
     → LogEnds group p told seen old new r → BacksUp group p least known told seen (λ ending. Ends ending old new r)
 log_backs group p least known told seen old new r (cluster, reads) (records, held, ends) =
     record { header = Ok cluster; headed = reads; records = records; held = held; said = ends }
 
 -- a header of which nothing is told
-any_header : (least : ℕ) (known : Option (List ℕ)) → (header : Result Cluster ℕ) × Told known (λ input. cluster_in least input ≡ header)
+any_header : (least : ℕ) (known : Option (List ℕ)) → (header : Result Cluster ℕ) × IfKnown known (λ input. cluster_in least input ≡ header)
 any_header least None = (Err 0, tt)
 any_header least (Some input) = (cluster_in least input, refl)
 

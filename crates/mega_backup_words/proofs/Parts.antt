@@ -8,8 +8,8 @@ use Rattle.std.proofs.KnownBytes.{prepend_known-nil}
 use Rattle.mega_cluster.specs.declared.cluster.Cluster.{Cluster}
 use Rattle.mega_cluster.specs.Header.{◌>>=◌, document_of, header_of, read_of}
 use Rattle.mega_io.specs.TextLines.{ended_lines, lines_of}
-use Rattle.mega_heading.specs.Parts.{cluster_in, header_before, is_mark, lines_behind}
-use Rattle.mega_heading.specs.Known.{AreParted, Breaks, HasHeader, HasNoMark, Takes, Told}
+use Rattle.mega_header.specs.Parts.{cluster_in, header_before, is_mark, lines_behind}
+use Rattle.mega_header.specs.Known.{AreParted, Breaks, HasHeader, HasNoMark, Takes, IfKnown}
 use Rattle.mega_backup_words.specs.declared.stop.Stop.{Stop}
 use Rattle.mega_backup_words.specs.declared.stop.Stop.TheVariants.{Header, Source, Sink, Device, NoMemory, Malformed, Short, TooLarge, BadRecord}
 use Rattle.mega_backup_words.specs.Stops.{IsHeaderStop, IsReadStop}
@@ -27,12 +27,12 @@ pub all_headed : (least : ℕ) (first : List ℕ) (text : List ℕ) (c : Cluster
 all_headed least first text c none reads =
     ap (λ (behind : Option (List (List ℕ))). read_of least (header_before first (lines_of first) behind)) none.1 ∙ ap (read_of least) none.0 ∙ reads
 
-pub header_read : (least : ℕ) (first left : Option (List ℕ)) (c : Cluster) (text : List ℕ) → read_of least text ≡ Ok c → HasHeader first left text → Told first (λ input. cluster_in least input ≡ Ok c)
+pub header_read : (least : ℕ) (first left : Option (List ℕ)) (c : Cluster) (text : List ℕ) → read_of least text ≡ Ok c → HasHeader first left text → IfKnown first (λ input. cluster_in least input ≡ Ok c)
 header_read least None left c text reads header = tt
 header_read least (Some first) None c text reads header = absurd header
 header_read least (Some first) (Some left) c text reads header = headed least first text (lines_of left) c header.0 reads
 
-pub whole_read : (least : ℕ) (first : Option (List ℕ)) (c : Cluster) (text : List ℕ) → read_of least text ≡ Ok c → HasNoMark first text → Told first (λ input. cluster_in least input ≡ Ok c)
+pub whole_read : (least : ℕ) (first : Option (List ℕ)) (c : Cluster) (text : List ℕ) → read_of least text ≡ Ok c → HasNoMark first text → IfKnown first (λ input. cluster_in least input ≡ Ok c)
 whole_read least None c text reads none = tt
 whole_read least (Some first) c text reads none = all_headed least first text c none reads
 
@@ -73,7 +73,7 @@ behind_within most taken first left text few header (inl count) = go (decided (l
     go (inr long) (inr none) = absurd (let gone = ap length none in omega (arith, long, count, few, gone))
 
 pub parts_read : (most taken : ℕ) (first left : Option (List ℕ)) (c : Cluster) (lines : List (List ℕ)) (text : List ℕ) → taken ≤ most → read_of 1 text ≡ Ok c → HasHeader first left text → Takes first left taken
-    → Told left (λ left. lines_within (most - taken) left ≡ lines) → Told first (λ input. (cluster_in 1 input ≡ Ok c) × (lines_behind (lines_within most input) ≡ Some lines))
+    → IfKnown left (λ left. lines_within (most - taken) left ≡ lines) → IfKnown first (λ input. (cluster_in 1 input ≡ Ok c) × (lines_behind (lines_within most input) ≡ Some lines))
 parts_read most taken None left c lines text few reads header takes read = tt
 parts_read most taken (Some first) None c lines text few reads header takes read = absurd header
 parts_read most taken (Some first) (Some left) c lines text few reads header takes read =
@@ -81,7 +81,7 @@ parts_read most taken (Some first) (Some left) c lines text few reads header tak
 
 -- ---- a header that breaks a rule
 
-pub rule_broken : (first : Option (List ℕ)) (rule : ℕ) → Breaks 1 first rule → Told first (λ input. (at : ℕ) → restore_of at input ≡ ending_of (Header rule))
+pub rule_broken : (first : Option (List ℕ)) (rule : ℕ) → Breaks 1 first rule → IfKnown first (λ input. (at : ℕ) → restore_of at input ≡ ending_of (Header rule))
 rule_broken None rule breaks = tt
 rule_broken (Some first) rule breaks = λ at. ap (λ (header : Result Cluster ℕ). parts_ending at header (lines_behind (lines_within most_bytes first))) breaks
 
@@ -105,7 +105,7 @@ enough = omega arith
 pub taken_few : (taken : ℕ) → taken ≤ 262149 → taken ≤ most_bytes
 taken_few taken few = let more = enough in omega (arith, few, more)
 
-pub unmarked_broken : (first : Option (List ℕ)) (c : Cluster) (text : List ℕ) → read_of 1 text ≡ Ok c → HasNoMark first text → Told first (λ input. (at : ℕ) → restore_of at input ≡ ending_of (Header 9))
+pub unmarked_broken : (first : Option (List ℕ)) (c : Cluster) (text : List ℕ) → read_of 1 text ≡ Ok c → HasNoMark first text → IfKnown first (λ input. (at : ℕ) → restore_of at input ≡ ending_of (Header 9))
 unmarked_broken None c text reads none = tt
 unmarked_broken (Some first) c text reads none = λ at.
     let few : length first ≤ most_bytes = (let short = short_header 1 text c reads in let more = enough in omega (arith, short, more, ap length none.0)) in
@@ -118,20 +118,20 @@ known_is : (reader : List ℕ) (known : Option (List ℕ)) → reader ≡ [] →
 known_is reader known none = ap (λ (xs : List ℕ). prepend_known xs known) none ∙ prepend_known-nil known
 
 pub all_parts : (reader : List ℕ) (known left : Option (List ℕ)) (taken : ℕ) (c d : Cluster) (lines : List (List ℕ)) → reader ≡ [] → taken ≤ 262149 → d ≡ c
-    → (text : List ℕ) × (read_of 1 text ≡ Ok c) × HasHeader (prepend_known reader known) left text → Takes (prepend_known reader known) left taken → Told left (λ left. lines_within (1073741824 - taken) left ≡ lines)
-    → Told known (λ input. (cluster_in 1 input ≡ Ok d) × (lines_behind (lines_within most_bytes input) ≡ Some lines))
+    → (text : List ℕ) × (read_of 1 text ≡ Ok c) × HasHeader (prepend_known reader known) left text → Takes (prepend_known reader known) left taken → IfKnown left (λ left. lines_within (1073741824 - taken) left ≡ lines)
+    → IfKnown known (λ input. (cluster_in 1 input ≡ Ok d) × (lines_behind (lines_within most_bytes input) ≡ Some lines))
 unfolding most_bytes
 all_parts reader known left taken c d lines none few same (text, reads, header) takes read =
     parts_read 1073741824 taken known left d lines text (omega (arith, few)) (reads ∙ ap Ok (sym same))
     (subst (λ (first : Option (List ℕ)). HasHeader first left text) (known_is reader known none) header) (subst (λ (first : Option (List ℕ)). Takes first left taken) (known_is reader known none) takes) read
 
-pub new_broken : (reader : List ℕ) (known : Option (List ℕ)) (rule : ℕ) → reader ≡ [] → Breaks 1 (prepend_known reader known) rule → Told known (λ input. (at : ℕ) → restore_of at input ≡ ending_of (Header rule))
+pub new_broken : (reader : List ℕ) (known : Option (List ℕ)) (rule : ℕ) → reader ≡ [] → Breaks 1 (prepend_known reader known) rule → IfKnown known (λ input. (at : ℕ) → restore_of at input ≡ ending_of (Header rule))
 new_broken reader known rule none breaks = rule_broken known rule (subst (λ (first : Option (List ℕ)). Breaks 1 first rule) (known_is reader known none) breaks)
 
 pub new_unmarked : (reader : List ℕ) (known : Option (List ℕ)) (c : Cluster) (rule : ℕ) → reader ≡ [] → rule ≡ 9 → (text : List ℕ) × (read_of 1 text ≡ Ok c) × HasNoMark (prepend_known reader known) text
-    → Told known (λ input. (at : ℕ) → restore_of at input ≡ ending_of (Header rule))
+    → IfKnown known (λ input. (at : ℕ) → restore_of at input ≡ ending_of (Header rule))
 new_unmarked reader known c rule none nine (text, reads, whole) =
-    subst (λ (n : ℕ). Told known (λ input. (at : ℕ) → restore_of at input ≡ ending_of (Header n))) (sym nine)
+    subst (λ (n : ℕ). IfKnown known (λ input. (at : ℕ) → restore_of at input ≡ ending_of (Header n))) (sym nine)
     (unmarked_broken known c text reads (subst (λ (first : Option (List ℕ)). HasNoMark first text) (known_is reader known none) whole))
 
 pub new_breaks : (least : ℕ) (reader : List ℕ) (known : Option (List ℕ)) (rule : ℕ) → reader ≡ [] → Breaks least (prepend_known reader known) rule → Breaks least known rule
@@ -139,13 +139,13 @@ new_breaks least reader known rule none breaks = subst (λ (first : Option (List
 
 pub new_read : (least : ℕ) (reader : List ℕ) (known left : Option (List ℕ)) (c : Cluster) (marked : Bool) → reader ≡ []
     → (marked ≡ true → (text : List ℕ) × (read_of least text ≡ Ok c) × HasHeader (prepend_known reader known) left text)
-    → (marked ≡ false → (text : List ℕ) × (read_of least text ≡ Ok c) × HasNoMark (prepend_known reader known) text) → Told known (λ input. cluster_in least input ≡ Ok c)
+    → (marked ≡ false → (text : List ℕ) × (read_of least text ≡ Ok c) × HasNoMark (prepend_known reader known) text) → IfKnown known (λ input. cluster_in least input ≡ Ok c)
 new_read least reader known left c true none there missing =
     let found = there refl in
-    subst (λ (first : Option (List ℕ)). Told first (λ input. cluster_in least input ≡ Ok c)) (known_is reader known none) (header_read least (prepend_known reader known) left c found.0 found.1 found.2)
+    subst (λ (first : Option (List ℕ)). IfKnown first (λ input. cluster_in least input ≡ Ok c)) (known_is reader known none) (header_read least (prepend_known reader known) left c found.0 found.1 found.2)
 new_read least reader known left c false none there missing =
     let found = missing refl in
-    subst (λ (first : Option (List ℕ)). Told first (λ input. cluster_in least input ≡ Ok c)) (known_is reader known none) (whole_read least (prepend_known reader known) c found.0 found.1 found.2)
+    subst (λ (first : Option (List ℕ)). IfKnown first (λ input. cluster_in least input ≡ Ok c)) (known_is reader known none) (whole_read least (prepend_known reader known) c found.0 found.1 found.2)
 
 pub read_stop : (stop : Stop) → IsReadStop stop → IsHeaderStop stop
 read_stop (Header rule) only = absurd only

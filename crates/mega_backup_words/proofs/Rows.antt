@@ -10,8 +10,8 @@ use Rattle.mega_io.proofs.Writing.{Written}
 use Rattle.mega_schema.specs.declared.schema.Schema.{Schema}
 use Rattle.mega_outcome.specs.declared.transaction.Transaction.{Transaction}
 use Rattle.mega_cluster.specs.declared.cluster.Cluster.{Cluster}
-use Rattle.mega_heading.specs.Parts.{cluster_in, lines_behind}
-use Rattle.mega_heading.specs.Known.{Told}
+use Rattle.mega_header.specs.Parts.{cluster_in, lines_behind}
+use Rattle.mega_header.specs.Known.{IfKnown}
 use Rattle.mega_backup.specs.Restoring.{read_of}
 use Rattle.mega_backup.specs.declared.fault.BackupFault.{BackupFault}
 use Rattle.mega_backup.specs.declared.fault.BackupFault.TheVariants as fault
@@ -85,15 +85,15 @@ no_sink answer fault.NoMemory is sinks = cc
 
 -- ---- where the input is told
 
-pub restored_so : (known old new : Option (List ℕ)) (at : ℕ) (c : Cluster) (lines : List (List ℕ)) (r : Result (Unit {0}) Stop) → Told known (λ input. (cluster_in 1 input ≡ Ok c) × (lines_behind (lines_within most_bytes input) ≡ Some lines))
-    → Ends (read_ending c.schema (read_of c.schema lines at)) old new r → Told known (λ input. Ends (restore_of at input) old new r)
+pub restored_so : (known old new : Option (List ℕ)) (at : ℕ) (c : Cluster) (lines : List (List ℕ)) (r : Result (Unit {0}) Stop) → IfKnown known (λ input. (cluster_in 1 input ≡ Ok c) × (lines_behind (lines_within most_bytes input) ≡ Some lines))
+    → Ends (read_ending c.schema (read_of c.schema lines at)) old new r → IfKnown known (λ input. Ends (restore_of at input) old new r)
 restored_so None old new at c lines r read ends = tt
 restored_so (Some input) old new at c lines r read ends =
     subst (λ (e : Ending). Ends e old new r)
     (sym (ap (λ (header : Result Cluster ℕ). parts_ending at header (lines_behind (lines_within most_bytes input))) read.0 ∙ ap (parts_ending at (Ok c)) read.1)) ends
 
-pub unread_so : (known old : Option (List ℕ)) (at : ℕ) (stop : Stop) → IsHeaderStop stop → ((rule : ℕ) → stop ≡ Header rule → Told known (λ input. (q : ℕ) → restore_of q input ≡ ending_of (Header rule)))
-    → Told known (λ input. Ends (restore_of at input) old old (Err stop))
+pub unread_so : (known old : Option (List ℕ)) (at : ℕ) (stop : Stop) → IsHeaderStop stop → ((rule : ℕ) → stop ≡ Header rule → IfKnown known (λ input. (q : ℕ) → restore_of q input ≡ ending_of (Header rule)))
+    → IfKnown known (λ input. Ends (restore_of at input) old old (Err stop))
 unread_so None old at stop only broken = tt
 unread_so (Some input) old at (Header rule) only broken = (broken rule refl at, Keeps-refl old)
 unread_so (Some input) old at Source only broken = unwritten old (restore_of at input).text
@@ -105,7 +105,7 @@ unread_so (Some input) old at (Short has) only broken = absurd only
 unread_so (Some input) old at (TooLarge key) only broken = absurd only
 unread_so (Some input) old at BadRecord only broken = absurd only
 
-pub told_so : (known : Option (List ℕ)) (IsSo More : List ℕ → Type 0) → ((input : List ℕ) → IsSo input → More input) → Told known IsSo → Told known More
+pub told_so : (known : Option (List ℕ)) (IsSo More : List ℕ → Type 0) → ((input : List ℕ) → IsSo input → More input) → IfKnown known IsSo → IfKnown known More
 told_so None IsSo More so told = tt
 told_so (Some input) IsSo More so told = so input told
 

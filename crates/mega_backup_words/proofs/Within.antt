@@ -7,8 +7,8 @@ use Rattle.std.proofs.Math.Seq.{take-append-add}
 use Rattle.std.proofs.lemmas.List.{take-append-le}
 use Rattle.mega_io.specs.declared.lines.Ended.TheVariants.{Feed, Input, Long}
 use Rattle.mega_io.specs.TextLines.{IsUnbroken, ReadsLine, close_line, ended_lines, lines_of}
-use Rattle.mega_heading.specs.Known.{Passes, Told}
-use Rattle.mega_heading.proofs.Inputs.{ended_line, ended_none, lines_on}
+use Rattle.mega_header.specs.Known.{Passes, IfKnown}
+use Rattle.mega_header.proofs.Inputs.{ended_line, ended_none, lines_on}
 use Rattle.mega_backup_words.specs.Inputs.{lines_within}
 
 is_most : (m n : ℕ) → m ≤ n → nat_le m n ≡ true
@@ -71,13 +71,13 @@ feed_reads most None new line reads few = tt
 feed_reads most (Some old) None line reads few = reads.0
 feed_reads most (Some old) (Some new) line reads few = ap (lines_within most) reads.0 ∙ feed_within most line new reads.1 few
 
-pub feed_past : (most : ℕ) (old new : Option (List ℕ)) (line : List ℕ) → ReadsLine most old new line Feed → most ≤ length line → Told old (λ old. lines_within most old ≡ [] ∷ [])
+pub feed_past : (most : ℕ) (old new : Option (List ℕ)) (line : List ℕ) → ReadsLine most old new line Feed → most ≤ length line → IfKnown old (λ old. lines_within most old ≡ [] ∷ [])
 feed_past most None new line reads long = tt
 feed_past most (Some old) None line reads long = absurd reads.0
 feed_past most (Some old) (Some new) line reads long =
     ap (lines_within most) (reads.0 ∙ append_assoc line (10 ∷ []) new) ∙ past_within most line (10 ∷ new) reads.1 long (omega (arith, long, length-append line (10 ∷ new)))
 
-pub long_past : (most : ℕ) (old new : Option (List ℕ)) (line : List ℕ) → ReadsLine most old new line Long → Told old (λ old. lines_within most old ≡ [] ∷ [])
+pub long_past : (most : ℕ) (old new : Option (List ℕ)) (line : List ℕ) → ReadsLine most old new line Long → IfKnown old (λ old. lines_within most old ≡ [] ∷ [])
 long_past most None new line reads = tt
 long_past most (Some old) None line reads = absurd reads.0.1
 long_past most (Some old) (Some new) line reads =
@@ -96,12 +96,12 @@ some_line : (line : List ℕ) → line ≢ [] → close_line line ≡ line ∷ [
 some_line [] some = absurd (some refl)
 some_line (byte ∷ line) some = refl
 
-pub last_reads : (most : ℕ) (old new : Option (List ℕ)) (line : List ℕ) → ReadsLine most old new line Input → line ≢ [] → Told old (λ old. lines_within most old ≡ line ∷ [])
+pub last_reads : (most : ℕ) (old new : Option (List ℕ)) (line : List ℕ) → ReadsLine most old new line Input → line ≢ [] → IfKnown old (λ old. lines_within most old ≡ line ∷ [])
 last_reads most None new line reads some = tt
 last_reads most (Some old) None line reads some = absurd reads.0
 last_reads most (Some old) (Some new) line reads some = last_within most old new line reads.0 reads.1 reads.2 reads.3 ∙ some_line line some
 
-pub none_reads : (most : ℕ) (old new : Option (List ℕ)) (line : List ℕ) → ReadsLine most old new line Input → line ≡ [] → Told old (λ old. lines_within most old ≡ [])
+pub none_reads : (most : ℕ) (old new : Option (List ℕ)) (line : List ℕ) → ReadsLine most old new line Input → line ≡ [] → IfKnown old (λ old. lines_within most old ≡ [])
 none_reads most None new line reads none = tt
 none_reads most (Some old) None line reads none = absurd reads.0
 none_reads most (Some old) (Some new) line reads none = last_within most old new line reads.0 reads.1 reads.2 reads.3 ∙ ap close_line none
@@ -125,13 +125,13 @@ gathers_more most room rest (Some first) (Some old) (Some new) lines more line g
     ∙ ap (λ ls. ls ++ lines_within (room - (length line + 1)) new) (sym adds) ∙ ap (λ n. more ++ lines_within n new) (sym left)
 
 pub gathers_last : (most room : ℕ) (first old : Option (List ℕ)) (lines more : List (List ℕ)) (line : List ℕ) → Gathers most first lines room old
-    → Told old (λ old. lines_within room old ≡ line ∷ []) → more ≡ lines ++ line ∷ [] → Told first (λ first. lines_within most first ≡ more)
+    → IfKnown old (λ old. lines_within room old ≡ line ∷ []) → more ≡ lines ++ line ∷ [] → IfKnown first (λ first. lines_within most first ≡ more)
 gathers_last most room None old lines more line gathers reads adds = tt
 gathers_last most room (Some first) None lines more line gathers reads adds = absurd gathers
 gathers_last most room (Some first) (Some old) lines more line gathers reads adds = gathers ∙ ap (λ ls. lines ++ ls) reads ∙ sym adds
 
 pub gathers_all : (most room : ℕ) (first old : Option (List ℕ)) (lines : List (List ℕ)) → Gathers most first lines room old
-    → Told old (λ old. lines_within room old ≡ []) → Told first (λ first. lines_within most first ≡ lines)
+    → IfKnown old (λ old. lines_within room old ≡ []) → IfKnown first (λ first. lines_within most first ≡ lines)
 gathers_all most room None old lines gathers reads = tt
 gathers_all most room (Some first) None lines gathers reads = absurd gathers
 gathers_all most room (Some first) (Some old) lines gathers reads = gathers ∙ ap (λ ls. lines ++ ls) reads ∙ append-nil lines

@@ -2,8 +2,8 @@
 use Rattle.std.specs.Prelude.{◌≡◌, ℕ, nat_le, Bool, true, if◌then◌else◌, List, take, Option, Some, None, Result, Ok, Err}
 use Rattle.mega_base.specs.declared.names.GroupId.{GroupId}
 use Rattle.mega_cluster.specs.declared.cluster.Cluster.{Cluster}
-use Rattle.mega_heading.specs.Parts.{cluster_in}
-use Rattle.mega_heading.specs.Known.{Told}
+use Rattle.mega_header.specs.Parts.{cluster_in}
+use Rattle.mega_header.specs.Known.{IfKnown}
 use Rattle.mega_checkpoint.specs.Format.{list_of}
 use Rattle.mega_wal.specs.declared.item.JournalItem.{JournalItem}
 use Rattle.mega_wal.specs.History.{prefix_of}
@@ -36,7 +36,7 @@ AreHeld told seen records = told ≡ true → records ≡ list_of seen
 -- this is said of what a backup comes to, by the header of an input, for at least so many nodes, and by the records of a log
 pub record BacksUp (group : GroupId) (p : ℕ) (least : ℕ) (known : Option (List ℕ)) (told : Bool) (seen : List ℕ) (Says : Ending → Type 0) : Type 0 where
   pub header : Result Cluster ℕ
-  pub headed : Told known (λ input. cluster_in least input ≡ header)
+  pub headed : IfKnown known (λ input. cluster_in least input ≡ header)
   pub records : List (List ℕ)
   pub held : AreHeld told seen records
   pub said : Says (backup_of group p header records)

@@ -4,7 +4,7 @@ use Rattle.mega_io.specs.TextLines.{ended_lines, lines_of}
 use Rattle.mega_cluster.specs.declared.cluster.Cluster.{Cluster}
 use Rattle.mega_schema.specs.declared.schema.Schema.{Schema}
 use Rattle.mega_outcome.specs.declared.transaction.Transaction.{Transaction}
-use Rattle.mega_heading.specs.Parts.{cluster_in, lines_behind}
+use Rattle.mega_header.specs.Parts.{cluster_in, lines_behind}
 use Rattle.mega_backup.specs.declared.fault.BackupFault.{BackupFault}
 use Rattle.mega_backup.specs.Restoring.{read_of}
 use Rattle.mega_backup.specs.Spelling.{line_of}

@@ -3,8 +3,8 @@ ghost use Rattle.std.specs.Prelude.{◌≡◌, ◌≤◌, ◌-◌, ℕ, Some, Ok
 ghost use Rattle.std.specs.Io.KnownBytes.{prepend_known};
 ghost use Rattle.mega_base.specs.Causes.{Rose};
 ghost use Rattle.mega_cluster.specs.declared.cluster.Cluster.{Cluster as Members};
-ghost use Rattle.mega_heading.specs.Known.{Breaks, Told};
-ghost use Rattle.mega_heading.specs.Parts.{cluster_in, lines_behind};
+ghost use Rattle.mega_header.specs.Known.{Breaks, IfKnown};
+ghost use Rattle.mega_header.specs.Parts.{cluster_in, lines_behind};
 ghost use Rattle.mega_backup_words.specs.Endings.{ending_of};
 ghost use Rattle.mega_backup_words.specs.Inputs.{lines_within, most_bytes, restore_of};
 ghost use Rattle.mega_backup_words.specs.Stops.{IsHeaderStop};
@@ -13,7 +13,7 @@ use crate::lines::read_lines;
 use crate::stop::Stop;
 use mega_base::Bytes;
 use mega_cluster::Cluster;
-use mega_heading::{Heading, HeadingFault, read_heading};
+use mega_header::{Heading, HeadingFault, read_heading};
 use mega_io::{LineReader, Source};
 use std::alloc::Global;
 
@@ -42,7 +42,7 @@ fn stop_of(fault: HeadingFault) -> Stop
 
 /// Reads a header of at least so many nodes, which ends with the line `---` or with the input.
 pub fn read_header<I: Source>(alloc: Global, least: u8, input: &mut I) -> Result<(), Stop>
-    ensures read { OnOk result ((cluster : Members) × Told (I.left input.old) (λ input. cluster_in least input ≡ Ok cluster)) }
+    ensures read { OnOk result ((cluster : Members) × IfKnown (I.left input.old) (λ input. cluster_in least input ≡ Ok cluster)) }
     ensures broken { (rule : ℕ) → result ≡ Err (Stop.Header rule) → Breaks least (I.left input.old) rule }
     ensures source { result ≡ Err Stop.Source → Rose (I.faults input.old) (I.faults input.new) }
     ensures only { IfErr result IsHeaderStop }
@@ -61,8 +61,8 @@ pub fn read_header<I: Source>(alloc: Global, least: u8, input: &mut I) -> Result
 
 /// Reads a header, the line `---` and the lines behind it.
 pub fn read_parts<I: Source>(alloc: Global, input: &mut I) -> Result<Parts, Stop>
-    ensures read { IfOk result (λ parts. Told (I.left input.old) (λ input. (cluster_in 1 input ≡ Ok parts.cluster) × (lines_behind (lines_within most_bytes input) ≡ Some parts.lines.items))) }
-    ensures broken { (rule : ℕ) → result ≡ Err (Stop.Header rule) → Told (I.left input.old) (λ input. (at : ℕ) → restore_of at input ≡ ending_of (Stop.Header rule)) }
+    ensures read { IfOk result (λ parts. IfKnown (I.left input.old) (λ input. (cluster_in 1 input ≡ Ok parts.cluster) × (lines_behind (lines_within most_bytes input) ≡ Some parts.lines.items))) }
+    ensures broken { (rule : ℕ) → result ≡ Err (Stop.Header rule) → IfKnown (I.left input.old) (λ input. (at : ℕ) → restore_of at input ≡ ending_of (Stop.Header rule)) }
     ensures source { result ≡ Err Stop.Source → Rose (I.faults input.old) (I.faults input.new) }
     ensures only { IfErr result IsHeaderStop }
     ensures count { I.faults input.old ≤ I.faults input.new }
@@ -85,7 +85,7 @@ fn read_behind<I: Source>(
 ) -> Result<Parts, Stop>
     requires { heading.marked ≡ true → heading.taken ≤ most }
     ensures marked { IfOk result (λ parts. (heading.marked ≡ true) × (parts.cluster ≡ heading.cluster)) }
-    ensures read { IfOk result (λ parts. Told (prepend_known reader.old (I.left input.old)) (λ left. lines_within (most - heading.taken) left ≡ parts.lines.items)) }
+    ensures read { IfOk result (λ parts. IfKnown (prepend_known reader.old (I.left input.old)) (λ left. lines_within (most - heading.taken) left ≡ parts.lines.items)) }
     ensures unmarked { (rule : ℕ) → result ≡ Err (Stop.Header rule) → (rule ≡ 9) × (heading.marked ≡ false) }
     ensures source { result ≡ Err Stop.Source → Rose (I.faults input.old) (I.faults input.new) }
     ensures only { IfErr result IsHeaderStop }

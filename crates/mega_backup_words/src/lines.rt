@@ -2,7 +2,7 @@
 ghost use Rattle.std.specs.Prelude.{◌≡◌, ◌≢◌, ◌+◌, ◌-◌, ◌≤◌, ◌++◌, ◌∷◌, [], Ok, Err, IfOk, IfErr, OnOk, length};
 ghost use Rattle.std.specs.Io.KnownBytes.{prepend_known};
 ghost use Rattle.mega_base.specs.Causes.{Rose};
-ghost use Rattle.mega_heading.specs.Known.{Passes, Told};
+ghost use Rattle.mega_header.specs.Known.{Passes, IfKnown};
 ghost use Rattle.mega_backup_words.specs.Inputs.{lines_within};
 ghost use Rattle.mega_backup_words.specs.Stops.{IsReadStop};
 
@@ -57,8 +57,8 @@ fn next_line<I: Source>(
     room: usize,
 ) -> Result<Next, Stop>
     ensures line { result ≡ Ok Next.Line → (length line.new + 1 ≤ room) × Passes (prepend_known reader.old (I.left input.old)) (prepend_known reader.new (I.left input.new)) (λ old new. lines_within room old ≡ line.new ∷ lines_within (room - (length line.new + 1)) new) }
-    ensures last { result ≡ Ok Next.Last → Told (prepend_known reader.old (I.left input.old)) (λ old. lines_within room old ≡ line.new ∷ []) }
-    ensures end { result ≡ Ok Next.End → Told (prepend_known reader.old (I.left input.old)) (λ old. lines_within room old ≡ []) }
+    ensures last { result ≡ Ok Next.Last → IfKnown (prepend_known reader.old (I.left input.old)) (λ old. lines_within room old ≡ line.new ∷ []) }
+    ensures end { result ≡ Ok Next.End → IfKnown (prepend_known reader.old (I.left input.old)) (λ old. lines_within room old ≡ []) }
     ensures source { result ≡ Err Stop.Source → Rose (I.faults input.old) (I.faults input.new) }
     ensures only { IfErr result IsReadStop }
     ensures count { I.faults input.old ≤ I.faults input.new }
@@ -95,7 +95,7 @@ pub fn read_lines<I: Source>(
     input: &mut I,
     most: usize,
 ) -> Result<Vec<Bytes>, Stop>
-    ensures read { IfOk result (λ lines. Told (prepend_known reader.old (I.left input.old)) (λ old. lines_within most old ≡ lines.items)) }
+    ensures read { IfOk result (λ lines. IfKnown (prepend_known reader.old (I.left input.old)) (λ old. lines_within most old ≡ lines.items)) }
     ensures source { result ≡ Err Stop.Source → Rose (I.faults input.old) (I.faults input.new) }
     ensures only { IfErr result IsReadStop }
     ensures count { I.faults input.old ≤ I.faults input.new }

@@ -2,7 +2,7 @@
 ghost use Rattle.std.specs.Prelude.{◌≡◌, ◌≤◌, ◌++◌, ◌∷◌, [], Err, IfOk, IfErr, OnOk, OnErr, false};
 ghost use Rattle.std.specs.Io.KnownBytes.{Appends};
 ghost use Rattle.mega_base.specs.Causes.{Rose};
-ghost use Rattle.mega_heading.specs.Known.{Told};
+ghost use Rattle.mega_header.specs.Known.{IfKnown};
 ghost use Rattle.mega_io.specs.Pieces.{AppendsFront};
 ghost use Rattle.mega_backup.specs.Restoring.{read_of};
 ghost use Rattle.mega_backup.specs.Spelling.{line_of};
@@ -101,7 +101,7 @@ fn restore<I: Source, O: Sink>(
     input: &mut I,
     out: &mut O,
 ) -> Result<(), Stop>
-    ensures ends { Told (I.left input.old) (λ input. Ends (restore_of at.0 input) (O.held out.old) (O.held out.new) result) }
+    ensures ends { IfKnown (I.left input.old) (λ input. Ends (restore_of at.0 input) (O.held out.old) (O.held out.new) result) }
     ensures source { result ≡ Err Stop.Source → Rose (I.faults input.old) (I.faults input.new) }
     ensures sink { result ≡ Err Stop.Sink → Rose (O.faults out.old) (O.faults out.new) }
     ensures only { IfErr result IsRestoreStop }
@@ -131,8 +131,8 @@ pub fn run_restore<I: Source, O: Sink>(
     input: &mut I,
     out: &mut O,
 ) -> u8
-    ensures whole { is_cut result ≡ false → Told (I.left input.old) (λ input. (result ≡ (restore_of at.0 input).status) × Appends (O.held out.old) (O.held out.new) (restore_of at.0 input).text) }
-    ensures front { Told (I.left input.old) (λ input. AppendsFront (O.held out.old) (O.held out.new) (restore_of at.0 input).text) }
+    ensures whole { is_cut result ≡ false → IfKnown (I.left input.old) (λ input. (result ≡ (restore_of at.0 input).status) × Appends (O.held out.old) (O.held out.new) (restore_of at.0 input).text) }
+    ensures front { IfKnown (I.left input.old) (λ input. AppendsFront (O.held out.old) (O.held out.new) (restore_of at.0 input).text) }
     ensures source { result ≡ 5 → Rose (I.faults input.old) (I.faults input.new) }
     ensures sink { result ≡ 6 → Rose (O.faults out.old) (O.faults out.new) }
     ensures only { IsRestoreStatus result }

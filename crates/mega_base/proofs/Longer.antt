@@ -1,7 +1,7 @@
 -- A number above a bound is none up to the bound.
 use Rattle.std.proofs.Common.{◌≡◌, ℕ, ◌+◌, ◌-◌, ◌^◌, ◌<◌, ◌≤◌, List, ◌++◌, length, refl, sym, ◌∙◌, ap, subst, Result, Ok, Err, IsErr, arith}
 use Rattle.mega_base.specs.Reading.{Place, place, Read, number_in}
-use Rattle.mega_base.specs.Codec.{number_text, Stands, Codec}
+use Rattle.mega_base.specs.Codec.{number_text, BytesBetween, Codec}
 use Rattle.mega_base.specs.Codecs.{ok_parts}
 use Rattle.mega_base.specs.Digits.{number_codec, pow_256_pos}
 
@@ -22,5 +22,5 @@ refused p n rest (Ok x) e text above small =
     absurd (omega (arith, same, there.1.1))
 
 -- a number above the bound that stands at p
-pub long_is_err : (p q : Place) (n : ℕ) → Stands p (number_text 4 n) q → 65536 < n → n < 2 ^ 32 → IsErr (number_in 4 0 65536 p)
+pub long_is_err : (p q : Place) (n : ℕ) → BytesBetween p (number_text 4 n) q → 65536 < n → n < 2 ^ 32 → IsErr (number_in 4 0 65536 p)
 long_is_err p q n there above small = refused p n q.left (number_in 4 0 65536 p) refl there.text above small

@@ -7,7 +7,7 @@ use Rattle.std.proofs.lemmas.Bool.Decides.{nat_tests}
 use Rattle.std.proofs.lemmas.List.{take-append-drop, length-take-le}
 use Rattle.std.proofs.Math.Seq.{take-append_seam}
 use Rattle.mega_base.specs.Reading.{Place, place, Read, ◌>>=◌}
-use Rattle.mega_base.specs.Codec.{Stands, Codec}
+use Rattle.mega_base.specs.Codec.{BytesBetween, Codec}
 use Rattle.mega_base.specs.Utf8.{char_at, chars_of, text_of_len}
 use Rattle.mega_base.specs.Chars.{IsCharIn, char_codec, IsTextOfLen, text_of_len_codec}
 

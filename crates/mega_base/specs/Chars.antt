@@ -12,7 +12,7 @@ use Rattle.std.proofs.lemmas.Str.{length-encode, len_utf8_bounds}
 use lib.Utf8.{scalar_cases, low_scalar}
 use Rattle.mega_base.specs.Reading.{Place, place, Read, ◌>>=◌, byte_in, byte_where, number_in}
 use Rattle.mega_base.specs.Utf8.{least_char, greatest_char, is_lead, tail_in, char_at, chars_of, text_of_len, text_in, IsTextIn}
-use Rattle.mega_base.specs.Codec.{number_text, Stands, Stop, Codec, IsText, IsBetween, one_byte, IsCons, bytes_text, HasLen}
+use Rattle.mega_base.specs.Codec.{number_text, BytesBetween, Stop, Codec, IsText, IsBetween, one_byte, IsCons, bytes_text, HasLen}
 use Rattle.mega_base.specs.Codecs.{bind_codec, byte_codec, where_codec, then_codec, embed_codec, variant_codec, fits_codec, if_codec, pure_codec, ok_parts}
 use Rattle.mega_base.specs.Digits.{number_codec}
 use Rattle.mega_base.specs.Lists.{cons_codec, length-replicate}
@@ -305,7 +305,7 @@ pub char_codec : (room : ℕ) → Codec (char_at room) encode_utf8 (IsText encod
 unfolding char_at
 char_codec room =
     bind_codec (byte_where (is_lead room)) one_byte (λ b. is_lead room b ≡ true)
-    (λ b. tail_in (continuation_len b) (lead_bits b) (least_char b) (greatest_char b)) (λ b. tail_text (continuation_len b)) (λ b. IsText (tail_text (continuation_len b)) (Told b)) Told
+    (λ b. tail_in (continuation_len b) (lead_bits b) (least_char b) (greatest_char b)) (λ b. tail_text (continuation_len b)) (λ b. IsText (tail_text (continuation_len b)) (FollowsLead b)) FollowsLead
     encode_utf8 (IsText encode_utf8 (IsCharIn room)) (IsCharIn room)
     (where_codec (is_lead room) 0 (is_lead-low room 0 (omega arith)))
     (λ b f. let s = shape b f in tail_codec (continuation_len b) (lead_bits b) (least_char b) (greatest_char b) s.order s.over s.under)
@@ -315,16 +315,16 @@ char_codec room =
     (λ b f. let s = shape b f in let n = reach (continuation_len b) (least_char b) (greatest_char b) (lead_bits b) s.order s.over s.under in
     (tail_text (continuation_len b) n.0, (n.0, (n.1, n.2, n.3), refl)))
   where
-    Told : ℕ → ℕ → Type 0
-    Told b c = IsReached (continuation_len b) (lead_bits b) (least_char b) (greatest_char b) c
+    FollowsLead : ℕ → ℕ → Type 0
+    FollowsLead b c = IsReached (continuation_len b) (lead_bits b) (least_char b) (greatest_char b) c
 
     shape : (b : ℕ) → is_lead room b ≡ true → Shape b (continuation_len b) (lead_bits b) (least_char b) (greatest_char b)
     shape b f = shape_of b (lead_of room b f)
 
-    fits : (b c : ℕ) → is_lead room b ≡ true → Told b c → IsCharIn room c
+    fits : (b c : ℕ) → is_lead room b ≡ true → FollowsLead b c → IsCharIn room c
     fits b c f g = let s = (shape b f).spelled c g in (s.1, omega (arith, s.2, lead_room room b f))
 
-    parts : (c : ℕ) → IsCharIn room c → (b : ℕ) × (is_lead room b ≡ true) × Told b c
+    parts : (c : ℕ) → IsCharIn room c → (b : ℕ) × (is_lead room b ≡ true) × FollowsLead b c
     parts c h = char_parts room c h.0 h.1
 
 -- the characters of n bytes

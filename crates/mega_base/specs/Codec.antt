@@ -9,7 +9,7 @@ unfoldable pub number_text : ℕ → ℕ → List ℕ
 number_text k n = bytes_high_first k n
 
 -- from p to q stand these bytes
-pub record Stands (p : Place) (bytes : List ℕ) (q : Place) : Type 0 where
+pub record BytesBetween (p : Place) (bytes : List ℕ) (q : Place) : Type 0 where
   pub text : p.left ≡ bytes ++ q.left
   pub offset : q.at ≡ p.at + length bytes
 
@@ -32,7 +32,7 @@ pub record Stop {A : Type 0} (read : Place → Read A) (Opens : List ℕ → Typ
 -- Reading and spelling are inverse, and a refusal names the first byte that cannot stand there. Opens tells the
 -- texts that such a byte is measured by: those of the grammar itself, unless a text is nested in it.
 pub record Codec {A : Type 0} (read : Place → Read A) (spell : A → List ℕ) (Opens : List ℕ → Type 0) (Fits : A → Type 0) : Type 0 where
-  pub takes : (p : Place) (x : A) (q : Place) → read p ≡ Ok (x, q) → Stands p (spell x) q × Fits x
+  pub takes : (p : Place) (x : A) (q : Place) → read p ≡ Ok (x, q) → BytesBetween p (spell x) q × Fits x
   pub again : (at : ℕ) (x : A) (rest : List ℕ) → Fits x → read (place at (spell x ++ rest)) ≡ Ok (x, place (at + length (spell x)) rest)
   pub stops : (p : Place) (at : ℕ) → read p ≡ Err at → Stop read Opens p at
 

@@ -3,7 +3,7 @@ use Rattle.std.proofs.Common.{◌≡◌, ℕ, zero, suc, ◌+◌, ◌-◌, ◌<�
 use Rattle.std.specs.Prelude.{if◌then◌else◌, nat_le, ◌&&◌}
 use Rattle.std.proofs.lemmas.Bool.Decides.{nat_tests}
 use Rattle.mega_base.specs.Reading.{Place, place, Read, ◌>>=◌, first_in, byte_in, first_where, byte_where}
-use Rattle.mega_base.specs.Codec.{Stands, first_of, Stop, Codec, IsText, IsBetween, one_byte}
+use Rattle.mega_base.specs.Codec.{BytesBetween, first_of, Stop, Codec, IsText, IsBetween, one_byte}
 
 -- a reading in two steps that gives a value took both
 pub bind-ok : {A B : Type 0} (r : Result A ℕ) (f : A → Result B ℕ) (b : B) → r >>= f ≡ Ok b → (a : A) × (r ≡ Ok a) × (f a ≡ Ok b)
@@ -19,10 +19,6 @@ pub bind-is_err : {A B : Type 0} (r : Result A ℕ) (f : A → Result B ℕ) →
 bind-is_err (Ok a) f h = absurd (cc)
 bind-is_err (Err e) f h = refl
 
--- where the first step gives a, the rest decides
-pub bind-at : {A B : Type 0} (r : Result A ℕ) (f : A → Result B ℕ) (a : A) → r ≡ Ok a → r >>= f ≡ f a
-bind-at r f a h = ap (λ s. s >>= f) h
-
 -- what an `Ok` holds, by its parts
 pub ok_parts : {A : Type 0} (x y : A) (p q : Place) → (let l : Read A = Ok (x, p) in let r : Read A = Ok (y, q) in l ≡ r) → (x ≡ y) × (p ≡ q)
 ok_parts {A} x y p q h =
@@ -31,7 +27,7 @@ ok_parts {A} x y p q h =
     let e : a ≡ b = cc in
     (ap (λ (z : A × Place). z.0) e, ap (λ (z : A × Place). z.1) e)
 
-pub Stands-then : (p : Place) (a : List ℕ) (q : Place) (b : List ℕ) (r : Place) → Stands p a q → Stands q b r → Stands p (a ++ b) r
+pub Stands-then : (p : Place) (a : List ℕ) (q : Place) (b : List ℕ) (r : Place) → BytesBetween p a q → BytesBetween q b r → BytesBetween p (a ++ b) r
 Stands-then p a q b r s t = record {
   text = s.text ∙ (ap (λ l. a ++ l) t.text ∙ sym (append_assoc a b r.left));
   offset = omega (arith, s.offset, t.offset, length-append a b);
@@ -52,10 +48,10 @@ bind_codec {A} {B} ra sa Fa rb sb Ob Fb s O F ca cb splits joins parts fill = re
   takes = λ p y q h.
       let read : (a : A × Place) × (ra p ≡ Ok a) × (rb a.0 a.1 ≡ Ok (y, q)) = bind-ok (ra p) (λ a. rb a.0 a.1) (y, q) h in
       let x : A = read.0.0 in
-      let first : Stands p (sa x) read.0.1 × Fa x = ca.takes p x read.0.1 read.1 in
-      let second : Stands read.0.1 (sb x y) q × Fb x y = (cb x first.1).takes read.0.1 y q read.2 in
+      let first : BytesBetween p (sa x) read.0.1 × Fa x = ca.takes p x read.0.1 read.1 in
+      let second : BytesBetween read.0.1 (sb x y) q × Fb x y = (cb x first.1).takes read.0.1 y q read.2 in
       let split = splits x y first.1 second.1 in
-      (subst (λ (t : List ℕ). Stands p t q) (sym split.0) (Stands-then p (sa x) read.0.1 (sb x y) q first.0 second.0), split.1);
+      (subst (λ (t : List ℕ). BytesBetween p t q) (sym split.0) (Stands-then p (sa x) read.0.1 (sb x y) q first.0 second.0), split.1);
   again = λ at y rest fits.
       let part : (x : A) × Fa x × Fb x y = parts y fits in
       let x : A = part.0 in
@@ -64,7 +60,7 @@ bind_codec {A} {B} ra sa Fa rb sb Ob Fb s O F ca cb splits joins parts fill = re
   stops = λ p at h. elim (bind-err (ra p) (λ a. rb a.0 a.1) at h) as (λ _. Stop (λ p. ra p >>= λ a. rb a.0 a.1) O p at) [
     | inl e ↦ stop_first p at (ca.stops p at e)
     | inr r ↦
-        let first : Stands p (sa r.0.0) r.0.1 × Fa r.0.0 = ca.takes p r.0.0 r.0.1 r.1 in
+        let first : BytesBetween p (sa r.0.0) r.0.1 × Fa r.0.0 = ca.takes p r.0.0 r.0.1 r.1 in
         stop_second p at r.0.0 r.0.1 first.0 first.1 ((cb r.0.0 first.1).stops r.0.1 at r.2)
   ];
 }
@@ -83,7 +79,7 @@ bind_codec {A} {B} ra sa Fa rb sb Ob Fb s O F ca cb splits joins parts fill = re
           blocked = λ other e. bind-is_err (ra (place p.at (t.front ++ other))) (λ a. rb a.0 a.1) (t.blocked other e);
         }
 
-    stop_second : (p : Place) (at : ℕ) (x : A) (q : Place) → Stands p (sa x) q → Fa x → Stop (rb x) (Ob x) q at → Stop (λ p. ra p >>= λ a. rb a.0 a.1) O p at
+    stop_second : (p : Place) (at : ℕ) (x : A) (q : Place) → BytesBetween p (sa x) q → Fa x → Stop (rb x) (Ob x) q at → Stop (λ p. ra p >>= λ a. rb a.0 a.1) O p at
     stop_second p at x q first fits u = record {
       front = sa x ++ u.front;
       rest = u.rest;
@@ -123,12 +119,12 @@ pub embed_codec : {A B : Type 0} (r : Place → Read A) (s : A → List ℕ) (O 
 embed_codec {A} {B} r s O F make t U G c to opens from = record {
   takes = λ p y q h.
       let read : (a : A × Place) × (r p ≡ Ok a) × (Ok (make a.0, a.1) ≡ Ok (y, q)) = bind-ok (r p) (λ a. Ok (make a.0, a.1)) (y, q) h in
-      let first : Stands p (s read.0.0) read.0.1 × F read.0.0 = c.takes p read.0.0 read.0.1 read.1 in
+      let first : BytesBetween p (s read.0.0) read.0.1 × F read.0.0 = c.takes p read.0.0 read.0.1 read.1 in
       let there = to read.0.0 first.1 in
       let same : (make read.0.0 ≡ y) × (read.0.1 ≡ q) = ok_parts (make read.0.0) y read.0.1 q read.2 in
       let ey : make read.0.0 ≡ y = same.0 in
       let eq : read.0.1 ≡ q = same.1 in
-      let st : Stands p (t y) q = subst (λ (z : Place). Stands p (t y) z) eq (subst (λ (w : B). Stands p (t w) read.0.1) ey (subst (λ (l : List ℕ). Stands p l read.0.1) (sym there.0) first.0)) in
+      let st : BytesBetween p (t y) q = subst (λ (z : Place). BytesBetween p (t y) z) eq (subst (λ (w : B). BytesBetween p (t w) read.0.1) ey (subst (λ (l : List ℕ). BytesBetween p l read.0.1) (sym there.0) first.0)) in
       (st, subst G ey there.1);
   again = λ at y rest fits.
       let part : (x : A) × F x × (make x ≡ y) = from y fits in
@@ -176,7 +172,7 @@ map_codec r s F make part c back =
 pub refit_codec : {A : Type 0} (r : Place → Read A) (s t : A → List ℕ) (O U : List ℕ → Type 0) (F G : A → Type 0)
     → Codec r s O F → ((x : A) → F x → G x × (t x ≡ s x)) → ((x : A) → G x → F x) → ((l : List ℕ) → O l → U l) → Codec r t U G
 refit_codec r s t O U F G c to from opens = record {
-  takes = λ p x q h. let w = c.takes p x q h in let g = to x w.1 in (subst (λ (l : List ℕ). Stands p l q) (sym g.1) w.0, g.0);
+  takes = λ p x q h. let w = c.takes p x q h in let g = to x w.1 in (subst (λ (l : List ℕ). BytesBetween p l q) (sym g.1) w.0, g.0);
   again = λ at x rest g. let e = to x (from x g) in rw e.1 (c.again at x rest (from x g));
   stops = λ p at h. let w = c.stops p at h in record {
     front = w.front;

@@ -5,7 +5,7 @@ use Rattle.std.proofs.lemmas.Nat.{le-div, mod_below, mod-mul-add, div-mul-add}
 use Rattle.std.proofs.lemmas.Bool.{cases_lt}
 use Rattle.std.specs.Int.{bytes_high_first, byte_at}
 use Rattle.mega_base.specs.Reading.{Place, place, Read, ◌>>=◌, byte_in, digits_in, number_in}
-use Rattle.mega_base.specs.Codec.{number_text, Stands, Stop, Codec, IsText, IsBetween, one_byte}
+use Rattle.mega_base.specs.Codec.{number_text, BytesBetween, Stop, Codec, IsText, IsBetween, one_byte}
 use Rattle.mega_base.specs.Codecs.{bind_codec, byte_codec, fits_codec, ok_parts}
 
 pub pow_256_pos : (k : ℕ) → 0 < 256 ^ k

@@ -6,7 +6,9 @@ pub mod Digits
 pub mod Faults
 pub mod Fields
 pub mod Lists
+pub mod ListWords
 pub mod NameLaws
+pub mod NameOrder
 pub mod Names
 pub mod Pairs
 pub mod Reading

@@ -8,7 +8,7 @@ use Rattle.std.proofs.lemmas.List.Elements.{All-cons, All-nil}
 use Rattle.std.proofs.lemmas.List.{take-append-drop, length-take, length-take-le, length-drop}
 use Rattle.std.proofs.Math.Seq.{take-append_seam, drop-append_seam, take-append-add}
 use Rattle.mega_base.specs.Reading.{Place, place, end_of, Read, ◌>>=◌, byte_in, number_in, bytes_of_len, bytes_in, items_at, list_in, option_at, nested_at, whole_of}
-use Rattle.mega_base.specs.Codec.{number_text, Stands, first_of, Stop, Codec, IsText, IsBetween, one_byte, IsCons, AreItems, IsList, list_text, option_text, IsOption, bytes_text, HasLen, IsNested, OpensNested, IsFirstBad}
+use Rattle.mega_base.specs.Codec.{number_text, BytesBetween, first_of, Stop, Codec, IsText, IsBetween, one_byte, IsCons, AreItems, IsList, list_text, option_text, IsOption, bytes_text, HasLen, IsNested, OpensNested, IsFirstBad}
 use Rattle.mega_base.specs.Codecs.{bind-ok, bind-err, bind-is_err, ok_parts, if-ok, bind_codec, then_codec, embed_codec, variant_codec, refit_codec, fits_codec, if_codec, pure_codec, byte_codec}
 use Rattle.mega_base.specs.Digits.{number_codec}
 
@@ -96,23 +96,23 @@ pub option_codec : {A : Type 0} (r : Place → Read A) (s : A → List ℕ) (O U
 unfolding option_at
 option_codec {A} r s O U F c none some t shown =
     bind_codec (byte_in 0 1) one_byte (IsBetween 0 1)
-    (λ b p. if b == 0 then Ok (None, p) else r p >>= λ x. Ok (Some x.0, x.1)) (λ b o. drop 1 (option_text s o)) Inner Told
+    (λ b p. if b == 0 then Ok (None, p) else r p >>= λ x. Ok (Some x.0, x.1)) (λ b o. drop 1 (option_text s o)) Inner HasFlag
     (option_text s) U (IsOption F)
     (byte_codec 0 1 (omega arith))
-    (λ b f. if_codec (b == 0) (λ p. Ok (None, p)) (λ p. r p >>= λ x. Ok (Some x.0, x.1)) (λ o. drop 1 (option_text s o)) (Inner b) (Told b)
-    (λ e. refit_codec (λ p. Ok (None, p)) (λ o. drop 1 (option_text s o)) (λ o. drop 1 (option_text s o)) (Inner b) (Inner b) (λ o. o ≡ None) (Told b)
+    (λ b f. if_codec (b == 0) (λ p. Ok (None, p)) (λ p. r p >>= λ x. Ok (Some x.0, x.1)) (λ o. drop 1 (option_text s o)) (Inner b) (HasFlag b)
+    (λ e. refit_codec (λ p. Ok (None, p)) (λ o. drop 1 (option_text s o)) (λ o. drop 1 (option_text s o)) (Inner b) (Inner b) (λ o. o ≡ None) (HasFlag b)
     (pure_codec None (λ o. drop 1 (option_text s o)) (Inner b) refl)
-    (λ o g. (subst (λ (z : Option A). Told b z) (sym g) (is_zero b e), refl)) (absent b e) (λ l w. w))
-    (λ e. embed_codec r s O F Some (λ o. drop 1 (option_text s o)) (Inner b) (Told b) c
+    (λ o g. (subst (λ (z : Option A). HasFlag b z) (sym g) (is_zero b e), refl)) (absent b e) (λ l w. w))
+    (λ e. embed_codec r s O F Some (λ o. drop 1 (option_text s o)) (Inner b) (HasFlag b) c
     (λ x g. (refl, (is_one b f e, g))) (λ l w. inr (is_one b f e, w)) (present b e)))
     splits
     joins
     parts
     (λ b f. elim (cases_lt b 1) [ inl h ↦ ([], inl (omega arith, refl)) | inr h ↦ (t, inr (omega (arith, f.1), shown)) ])
   where
-    Told : ℕ → Option A → Type 0
-    Told b None = b ≡ 0
-    Told b (Some x) = (b ≡ 1) × F x
+    HasFlag : ℕ → Option A → Type 0
+    HasFlag b None = b ≡ 0
+    HasFlag b (Some x) = (b ≡ 1) × F x
 
     Inner : ℕ → List ℕ → Type 0
     Inner b l = ((b ≡ 0) × (l ≡ [])) ⊎ ((b ≡ 1) × O l)
@@ -123,15 +123,15 @@ option_codec {A} r s O U F c none some t shown =
     is_one : (b : ℕ) → IsBetween 0 1 b → (b == 0) ≡ false → b ≡ 1
     is_one b f e = let apart : b ≢ 0 = grind (arith, nat_tests) in omega (arith, f.1)
 
-    absent : (b : ℕ) → (b == 0) ≡ true → (o : Option A) → Told b o → o ≡ None
+    absent : (b : ℕ) → (b == 0) ≡ true → (o : Option A) → HasFlag b o → o ≡ None
     absent b e None h = refl
     absent b e (Some x) h = absurd (omega (arith, is_zero b e, h.0))
 
-    present : (b : ℕ) → (b == 0) ≡ false → (o : Option A) → Told b o → (x : A) × F x × (Some x ≡ o)
+    present : (b : ℕ) → (b == 0) ≡ false → (o : Option A) → HasFlag b o → (x : A) × F x × (Some x ≡ o)
     present b e None h = absurd (let apart : b ≢ 0 = grind (arith, nat_tests) in apart h)
     present b e (Some x) h = (x, h.1, refl)
 
-    splits : (b : ℕ) (o : Option A) → IsBetween 0 1 b → Told b o → (option_text s o ≡ one_byte b ++ drop 1 (option_text s o)) × IsOption F o
+    splits : (b : ℕ) (o : Option A) → IsBetween 0 1 b → HasFlag b o → (option_text s o ≡ one_byte b ++ drop 1 (option_text s o)) × IsOption F o
     splits b None f h = (ap (λ z. z ∷ []) (sym h), tt)
     splits b (Some x) f h = (ap (λ z. z ∷ s x) (sym h.0), h.1)
 
@@ -139,7 +139,7 @@ option_codec {A} r s O U F c none some t shown =
     joins b l f (inl w) = let e : b ≡ 0 = w.0 in let k : l ≡ [] = w.1 in rw (e, k) none
     joins b l f (inr w) = let e : b ≡ 1 = w.0 in rw e (some l w.1)
 
-    parts : (o : Option A) → IsOption F o → (b : ℕ) × IsBetween 0 1 b × Told b o
+    parts : (o : Option A) → IsOption F o → (b : ℕ) × IsBetween 0 1 b × HasFlag b o
     parts None h = (0, (omega arith, omega arith), refl)
     parts (Some x) h = (1, (omega arith, omega arith), (refl, h))
 
@@ -176,7 +176,7 @@ bytes_of_len_codec n = record {
     enough_of : (m l : ℕ) → nat_le m l ≡ true → m ≤ l
     enough_of m l h = grind (arith, nat_tests)
 
-    taken : (p : Place) (t : List ℕ) (q : Place) → nat_le n (length p.left) ≡ true → (let l : Read (List ℕ) = Ok (take n p.left, place (p.at + n) (drop n p.left)) in let r : Read (List ℕ) = Ok (t, q) in l ≡ r) → Stands p t q × (length t ≡ n)
+    taken : (p : Place) (t : List ℕ) (q : Place) → nat_le n (length p.left) ≡ true → (let l : Read (List ℕ) = Ok (take n p.left, place (p.at + n) (drop n p.left)) in let r : Read (List ℕ) = Ok (t, q) in l ≡ r) → BytesBetween p t q × (length t ≡ n)
     taken p t q there h =
         let same : (take n p.left ≡ t) × (place (p.at + n) (drop n p.left) ≡ q) = ok_parts (take n p.left) t (place (p.at + n) (drop n p.left)) q h in
         let len : length t ≡ n = ap length (sym same.0) ∙ length-take-le n p.left (enough_of n (length p.left) there) in (

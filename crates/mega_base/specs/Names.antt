@@ -15,6 +15,9 @@ u8_at p = byte_in 0 255 p
 abbrev pub IsU8 : ℕ → Type 0
 IsU8 n = IsBetween 0 255 n
 
+abbrev pub greatest_u32 : ℕ
+greatest_u32 = 4294967295
+
 abbrev pub u32_at : Place → Read ℕ
 u32_at p = number_in 4 0 4294967295 p
 

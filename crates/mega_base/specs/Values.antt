@@ -1,5 +1,5 @@
 -- The formats of values and rows.
-use Rattle.std.specs.Prelude.{◌≡◌, ℕ, zero, suc, ◌+◌, ◌-◌, ◌≤◌, ◌==◌, if◌then◌else◌, Bool, true, false, List, [], ◌∷◌, ◌++◌, length, Ok, ⊤, FitsSigned}
+use Rattle.std.specs.Prelude.{◌≡◌, ℕ, zero, suc, ◌+◌, ◌-◌, ◌≤◌, ◌==◌, if◌then◌else◌, Bool, true, false, ℤ, pos, negsuc, nat_lt, List, [], ◌∷◌, ◌++◌, length, Ok, ⊤, FitsSigned}
 use Rattle.std.specs.List.{flat_map}
 use Rattle.std.specs.Int.{cast_signed, cast_unsigned, w32, w64}
 use Rattle.mega_base.specs.Reading.{Place, Read, ◌>>=◌, byte_in, list_in}
@@ -93,3 +93,8 @@ row_text row = one_byte (length row.cells) ++ flat_map cell_text row.cells
 pub record IsRow (row : Row) : Type 0 where
   pub few : length row.cells ≤ 255
   pub rising : Ascends 0 row.cells
+
+-- the number is in the range of half numbers to either side
+abbrev pub is_in_range : ℕ → ℤ → Bool
+is_in_range half (pos n) = nat_lt n half
+is_in_range half (negsuc n) = nat_lt n half

@@ -6,7 +6,7 @@ use Rattle.std.proofs.lemmas.Bool.{cases_lt}
 use Rattle.std.proofs.lemmas.List.{take-append-drop, length-take, length-take-le, length-drop}
 use Rattle.std.proofs.Math.Seq.{take-append_seam, drop-append_seam, take-append-add}
 use Rattle.mega_base.specs.Reading.{Place, place, end_of, Read, ◌>>=◌, number_in, within, nested_at, whole_of}
-use Rattle.mega_base.specs.Codec.{number_text, Stands, first_of, Stop, Codec, IsText, IsBetween, IsNested, OpensNested, nested_text, IsFirstBad}
+use Rattle.mega_base.specs.Codec.{number_text, BytesBetween, first_of, Stop, Codec, IsText, IsBetween, IsNested, OpensNested, nested_text, IsFirstBad}
 use Rattle.mega_base.specs.Codecs.{bind-ok, bind-err, bind-is_err, ok_parts, if-ok, bind_codec, refit_codec}
 use Rattle.mega_base.specs.Digits.{number_codec}
 
@@ -55,24 +55,24 @@ within_codec {A} r s F c n = record {
     other_test : (a b : ℕ) → a ≢ b → (a == b) ≡ false
     other_test a b h = grind (arith, nat_tests)
 
-    finish : (p : Place) (y : A) (q : Place) (x : A) (q1 : Place) → Stands (place p.at (take n p.left)) (s x) q1 → F x → q1.at ≡ p.at + n
-        → (let l : Read A = Ok (x, place q1.at (drop n p.left)) in let m : Read A = Ok (y, q) in l ≡ m) → Stands p (s y) q × (F y × (length (s y) ≡ n))
+    finish : (p : Place) (y : A) (q : Place) (x : A) (q1 : Place) → BytesBetween (place p.at (take n p.left)) (s x) q1 → F x → q1.at ≡ p.at + n
+        → (let l : Read A = Ok (x, place q1.at (drop n p.left)) in let m : Read A = Ok (y, q) in l ≡ m) → BytesBetween p (s y) q × (F y × (length (s y) ≡ n))
     finish p y q x q1 st f e k =
         let same : (x ≡ y) × (place q1.at (drop n p.left) ≡ q) = ok_parts x y (place q1.at (drop n p.left)) q k in
         let len : length (s x) ≡ n = omega (arith, e, st.offset) in
         let none : q1.left ≡ [] = is_empty q1.left (omega (arith, len, ap length st.text, length-append (s x) q1.left, length-take n p.left)) in
         let front : take n p.left ≡ s x = st.text ∙ (ap (λ l. s x ++ l) none ∙ append-nil (s x)) in
-        let there : Stands p (s x) (place q1.at (drop n p.left)) = record {
+        let there : BytesBetween p (s x) (place q1.at (drop n p.left)) = record {
           text = sym (take-append-drop n p.left) ∙ ap (λ l. l ++ drop n p.left) front;
           offset = omega (arith, e, len);
         } in (
-          subst (λ (z : Place). Stands p (s y) z) same.1 (subst (λ (w : A). Stands p (s w) (place q1.at (drop n p.left))) same.0 there),
+          subst (λ (z : Place). BytesBetween p (s y) z) same.1 (subst (λ (w : A). BytesBetween p (s w) (place q1.at (drop n p.left))) same.0 there),
           (subst F same.0 f, subst (λ (w : A). length (s w) ≡ n) same.0 len),
         )
 
-    taken : (p : Place) (y : A) (q : Place) (x : A) (q1 : Place) → r (place p.at (take n p.left)) ≡ Ok (x, q1) → last p (x, q1) ≡ Ok (y, q) → Stands p (s y) q × (F y × (length (s y) ≡ n))
+    taken : (p : Place) (y : A) (q : Place) (x : A) (q1 : Place) → r (place p.at (take n p.left)) ≡ Ok (x, q1) → last p (x, q1) ≡ Ok (y, q) → BytesBetween p (s y) q × (F y × (length (s y) ≡ n))
     taken p y q x q1 h k =
-        let first : Stands (place p.at (take n p.left)) (s x) q1 × F x = c.takes (place p.at (take n p.left)) x q1 h in
+        let first : BytesBetween (place p.at (take n p.left)) (s x) q1 × F x = c.takes (place p.at (take n p.left)) x q1 h in
         elim (if-ok (q1.at == p.at + n) (Ok (x, place q1.at (drop n p.left))) (Err q1.at) (Ok (y, q)) k) [
           | inl w ↦ finish p y q x q1 first.0 first.1 (equal q1.at (p.at + n) w.0) w.1
           | inr w ↦ absurd (let e : Err q1.at ≡ Ok (y, q) = w.1 in cc)
@@ -104,7 +104,7 @@ within_codec {A} r s F c n = record {
               rw cut (bind-is_err (r (place p.at (w.front ++ take (n - length w.front) other))) (last (place p.at (w.front ++ other))) (w.blocked (take (n - length w.front) other) same));
         }
 
-    stop_after : (p : Place) (at : ℕ) (x : A) (q : Place) → Stands (place p.at (take n p.left)) (s x) q × F x → last p (x, q) ≡ Err at → Stop (within r n) (IsText s F) p at
+    stop_after : (p : Place) (at : ℕ) (x : A) (q : Place) → BytesBetween (place p.at (take n p.left)) (s x) q × F x → last p (x, q) ≡ Err at → Stop (within r n) (IsText s F) p at
     stop_after p at x q first h = elim (if-ok (q.at == p.at + n) (Ok (x, place q.at (drop n p.left))) (Err q.at) (Err at) h) [
       | inl w ↦ absurd (let k : Ok (x, place q.at (drop n p.left)) ≡ Err at = w.1 in cc)
       | inr w ↦
@@ -157,7 +157,7 @@ whole_found {A} r s O F c bytes x h =
     zero_of : (a : ℕ) → (a == 0) ≡ true → a ≡ 0
     zero_of a k = grind (arith, nat_tests)
 
-    found : (y : A) (q : Place) → Stands (place 0 bytes) (s y) q × F y → length q.left ≡ 0 → y ≡ x → F x × (bytes ≡ s x)
+    found : (y : A) (q : Place) → BytesBetween (place 0 bytes) (s y) q × F y → length q.left ≡ 0 → y ≡ x → F x × (bytes ≡ s x)
     found y q st none e = (subst F e st.1, st.0.text ∙ (ap (λ l. s y ++ l) (is_empty q.left none) ∙ (append-nil (s y) ∙ ap s e)))
 
 -- each text of the grammar is read
@@ -228,7 +228,7 @@ whole_stops {A} r s O F c own bytes at h = elim (bind-err (r (place 0 bytes)) en
         let none : b ∷ tail ≡ [] = no_more x y (b ∷ tail) f g (e ∙ (ap (λ l. l ++ tail) (one_more (s x) b left) ∙ append_assoc (s x) (b ∷ []) tail)) in
         cc
 
-    after : (x : A) (q : Place) → Stands (place 0 bytes) (s x) q × F x → 0 < length q.left → q.at ≡ at → IsFirstBad s O F bytes at
+    after : (x : A) (q : Place) → BytesBetween (place 0 bytes) (s x) q × F x → 0 < length q.left → q.at ≡ at → IsFirstBad s O F bytes at
     after x q first more e =
         let len : at ≡ length (s x) = omega (arith, e, first.0.offset) in
         record {

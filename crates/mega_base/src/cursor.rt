@@ -3,7 +3,7 @@ ghost use Rattle.std.specs.Prelude.{◌≡◌, Ok, Err, ◌↔◌, ◌+◌, ◌-
 ghost use Rattle.mega_base.specs.Names.{u32_text, u64_text};
 ghost use Rattle.mega_base.specs.Reading.{place, end_of, byte_in, digits_in, number_in, bytes_of_len};
 ghost use Rattle.mega_base.specs.Fields.{ReadsHere, ReadsOn, IsBytesFault};
-ghost use Rattle.mega_base.specs.Codec.{Stands, one_byte, bytes_text};
+ghost use Rattle.mega_base.specs.Codec.{BytesBetween, one_byte, bytes_text};
 
 use std::marker::Model;
 
@@ -65,7 +65,7 @@ impl<'a> Cursor<'a> {
 
     /// A byte; a refusal leaves the cursor.
     pub fn take_u8(&mut self) -> Result<u8, CursorFault>
-        ensures ok { IfOk result (λ number. Stands self.old (one_byte number) self.new) }
+        ensures ok { IfOk result (λ number. BytesBetween self.old (one_byte number) self.new) }
         ensures short { IsErr result ↔ (length self.old.left < 1) }
         ensures fault { IfErr result (λ fault. fault ≡ CursorFault.Short (end_of self.old)) }
         ensures err { OnErr result (self.new ≡ self.old) }
@@ -81,7 +81,7 @@ impl<'a> Cursor<'a> {
     /// A number of four bytes, the highest first; a refusal leaves the cursor.
     #[tactic(auto, unfolding(crate::specs::Codec::number_text))]
     pub fn take_u32(&mut self) -> Result<u32, CursorFault>
-        ensures ok { IfOk result (λ number. Stands self.old (u32_text number) self.new) }
+        ensures ok { IfOk result (λ number. BytesBetween self.old (u32_text number) self.new) }
         ensures short { IsErr result ↔ (length self.old.left < 4) }
         ensures fault { IfErr result (λ fault. fault ≡ CursorFault.Short (end_of self.old)) }
         ensures err { OnErr result (self.new ≡ self.old) }
@@ -101,7 +101,7 @@ impl<'a> Cursor<'a> {
     /// A number of eight bytes, the highest first; a refusal leaves the cursor.
     #[tactic(auto, unfolding(crate::specs::Codec::number_text))]
     pub fn take_u64(&mut self) -> Result<u64, CursorFault>
-        ensures ok { IfOk result (λ number. Stands self.old (u64_text number) self.new) }
+        ensures ok { IfOk result (λ number. BytesBetween self.old (u64_text number) self.new) }
         ensures short { IsErr result ↔ (length self.old.left < 8) }
         ensures fault { IfErr result (λ fault. fault ≡ CursorFault.Short (end_of self.old)) }
         ensures err { OnErr result (self.new ≡ self.old) }
@@ -209,7 +209,7 @@ impl<'a> Cursor<'a> {
     /// The length of at most 65,536 bytes, in four bytes, and the bytes; a refusal leaves the cursor.
     #[tactic(auto, using(std::proofs::lemmas::Grind::common_steps, crate::specs::Digits::length_number_text), unfolding(crate::specs::Codec::number_text))]
     pub fn take_bytes(&mut self) -> Result<&'a [u8], CursorFault>
-        ensures ok { IfOk result (λ bytes. Stands self.old (bytes_text bytes.now) self.new × (length bytes.now ≤ 65536)) }
+        ensures ok { IfOk result (λ bytes. BytesBetween self.old (bytes_text bytes.now) self.new × (length bytes.now ≤ 65536)) }
         ensures fault { IfErr result (IsBytesFault self.old) }
         ensures err { OnErr result (self.new ≡ self.old) }
     {

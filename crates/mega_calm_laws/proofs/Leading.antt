@@ -159,7 +159,7 @@ held_moveless me to t op cell node (Some e) = served_moveless me to t (held_answ
 locked_moveless : (me to : ℕ) (t : Bool) (cell : ℕ) (epoch : Epoch) (clock : ℕ) (a : Asked) → AreMoveless (reply_message me to (where_served t (lock_answer cell epoch clock a)))
 locked_moveless me to t cell epoch clock locks.Granted = served_moveless me to t (lock_answer cell epoch clock locks.Granted) tt
 locked_moveless me to t cell epoch clock locks.Renewed = served_moveless me to t (lock_answer cell epoch clock locks.Renewed) tt
-locked_moveless me to t cell epoch clock (locks.Taken greatest) = served_moveless me to t (lock_answer cell epoch clock (locks.Taken greatest)) tt
+locked_moveless me to t cell epoch clock (locks.GreaterHeld greatest) = served_moveless me to t (lock_answer cell epoch clock (locks.GreaterHeld greatest)) tt
 locked_moveless me to t cell epoch clock (locks.Over greatest) = served_moveless me to t (lock_answer cell epoch clock (locks.Over greatest)) tt
 
 replies_moveless : (c : Cluster) (me from : ℕ) (met : List Met) (body : Body) → AreMoveless (reply_message me from (answer_to c me met from body))

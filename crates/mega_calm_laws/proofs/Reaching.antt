@@ -144,8 +144,8 @@ module _ (c : Cluster) (me start nth : ℕ) (g : GroupId) (log : List Content) (
   abbrev pub Helps : List Met → Stage → Type 0
   Helps base stage = IsHelped s the_op g request entering began noted log own promised leader base stage
 
-  abbrev pub Came : List Met → Stage → Step → List Message → Type 0
-  Came base stage made reply = Becomes s the_op g request entering began noted log own promised leader base stage made reply
+  abbrev pub BecomesAt : List Met → Stage → Step → List Message → Type 0
+  BecomesAt base stage made reply = Becomes s the_op g request entering began noted log own promised leader base stage made reply
 
   abbrev pub IsOpenStage : Stage → Type 0
   IsOpenStage stage = IsUnfilled s the_op g request entering began noted log own promised leader stage
@@ -358,7 +358,7 @@ module _ (c : Cluster) (me start nth : ℕ) (g : GroupId) (log : List Content) (
     end_of : (through : ℕ) (search : Option Search) → IsReadyAt then.node then.tape (Catching through search) → through ≡ length log
     end_of through search ready = through_is through search (placed c me start nth g log fresh then.node then.tape (Catching through search) ready)
 
-    pub me_comes : (fits : Leaves g place base (made.node).met → Each (Fit then.node) reply) → (ready : Leaves g place base (made.node).met → IsReadyAt then.node then.tape stage) → Came base stage made reply → Comes then
+    pub me_comes : (fits : Leaves g place base (made.node).met → Each (Fit then.node) reply) → (ready : Leaves g place base (made.node).met → IsReadyAt then.node then.tape stage) → BecomesAt base stage made reply → Comes then
     me_comes fits ready (turns at sends opens leaves) = inr (inl (record {
       up = up_on now a me here own_item gone made mail (still_by leaves);
       unfused = unfused_on now a me here own_item gone made mail;
@@ -662,11 +662,11 @@ module _ (c : Cluster) (me start nth : ℕ) (g : GroupId) (log : List Content) (
       on : Leaves g place base (made.node).met → On now.node nodes'
       on leaves = nodes_set c me start nth g log now.node me made.node (grown_leaves g log (now.node me).met base (made.node).met (grown_takes g log (now.node me).met m) leaves) (λ apart. not_me apart)
 
-      came : Came base stage made reply
+      came : BecomesAt base stage made reply
       came = seeks_asking s the_op g request entering began noted log own promised leader (now.node me) from me body asking reply reply_is quiet k.stage stage k.opens hears (open_stage stage at)
           (helped now.node (k.around).ground base (grown_takes g log (now.node me).met m) stage at)
 
-      sends_by : Came base stage made reply → (x : Message) → Among x reply → Among x made.sends
+      sends_by : BecomesAt base stage made reply → (x : Message) → Among x reply → Among x made.sends
       sends_by (turns sent_at sends opens leaves) x i = subst (Among x) (sym sends) (among_left x reply (question s the_op g request entering began noted log own promised leader ∷ []) i)
       sends_by (stays sends opens leaves stayed) x i = subst (Among x) (sym sends) i
       sends_by (fetches through sent_at search is above sends opens leaves) x i =

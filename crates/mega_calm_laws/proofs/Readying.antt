@@ -30,7 +30,7 @@ use Rattle.mega_leased_laws.proofs.of_run_laws.of_tape_laws.Lists.{from_cons}
 use Rattle.mega_leased_laws.proofs.of_run_laws.of_tape_laws.Logs.{Decided, first_stands, shown_first}
 use Rattle.mega_leased_laws.proofs.of_run_laws.of_tape_laws.Totals.{all_pass}
 use Rattle.mega_leased_laws.proofs.Tops.{run_fresh, max_grows, max_first}
-use Rattle.mega_leased_laws.proofs.of_run_laws.Told.{act_voted}
+use Rattle.mega_leased_laws.proofs.of_run_laws.MayAnswer.{act_voted}
 use Rattle.mega_calm_laws.specs.Next.{run_of}
 use Rattle.mega_calm_laws.specs.Ready.{IsReady, knows_end, leader_behind}
 use Rattle.mega_calm_laws.specs.Stocked.{IsKnown, IsStocked}

@@ -15,7 +15,7 @@ ghost use Rattle.mega_run_laws.specs.of_tape_laws.of_promises.Runs.{Happening, I
 ghost use Rattle.mega_run_laws.specs.of_tape_laws.Answers.{LawfulAnswers};
 ghost use Rattle.mega_run_laws.specs.of_tape_laws.Writes.{Usage};
 ghost use Rattle.mega_run_laws.specs.Usages.{Fits};
-ghost use Rattle.mega_cause_laws.specs.Told.{is_told};
+ghost use Rattle.mega_cause_laws.specs.LogTells.{is_told};
 
 /// On a tape whose answers are lawful, an answer that its group's log tells has its cause on the tape before it, whatever handlers are there: what a
 /// transaction or a batch comes to over the entries below, or is turned on; the other entry of a conflict; and the rows of a current read.

@@ -27,7 +27,7 @@ use Rattle.mega_fresh_laws.specs.of_leased_laws.of_settled_laws.Covering.{Earlie
 use Rattle.mega_fresh_laws.proofs.of_leased_laws.of_settled_laws.Tapes.{items_later, sent_later, then_later}
 use Rattle.mega_fresh_laws.proofs.of_leased_laws.Cells.{by_node}
 use Rattle.mega_fresh_laws.proofs.of_leased_laws.Forms.{down, stepped}
-use Rattle.mega_fresh_laws.proofs.of_leased_laws.Told.{step_met}
+use Rattle.mega_fresh_laws.proofs.of_leased_laws.TapeIsMet.{step_met}
 use Rattle.mega_fresh_laws.specs.Covering.{before_begin}
 use Rattle.mega_fresh_laws.proofs.Meant.{Stays, run_stays}
 use Rattle.mega_fresh_laws.proofs.Knowing.{known_notes, known_stood}

@@ -1,14 +1,15 @@
 -- The header of a cluster: what its keys say, and the rules in the order in which they are tried.
-use Rattle.std.specs.Prelude.{◌≡◌, ℕ, ℤ, pos, negsuc, Bool, true, false, not, ◌&&◌, ◌||◌, List, [], ◌∷◌, length, codes, Option, Some, None, Result, Ok, Err, if◌then◌else◌, nat_lt, nat_le, ◌==◌}
+use Rattle.std.specs.Prelude.{◌≡◌, ℕ, ℤ, pos, negsuc, Bool, true, false, not, ◌&&◌, ◌||◌, List, [], ◌∷◌, length, codes, Option, Some, None, Result, Ok, Err, if◌then◌else◌, nat_lt, nat_le, ◌==◌, option_and_then}
 use Rattle.std.specs.List.{list_any}
 use Rattle.std.specs.Str.{is_utf8}
 use Rattle.toml.specs.Data.{Data, string, integer, array, Items, no_items, item, Members, no_members, member, get_member}
 use Rattle.toml.specs.Parse.{parse_document}
 use Rattle.mega_base.specs.declared.values.NodeKind.{NodeKind}
 use Rattle.mega_base.specs.declared.values.NodeKind.TheVariants.{Full, Witness, Read}
+pub use Rattle.mega_base.specs.Reading.{◌>>=◌}
 use Rattle.mega_schema.specs.declared.schema.Schema.{Schema}
 use Rattle.mega_schema.specs.declared.fault.SchemaFault.{SchemaFault}
-use Rattle.mega_schema.specs.Names.{same}
+use Rattle.mega_schema.specs.Names.{same, named}
 use Rattle.mega_schema.specs.Verdict.{parse_of}
 use Rattle.mega_cluster.specs.declared.cluster.Cluster.{Cluster}
 use Rattle.mega_cluster.specs.declared.fault.HeaderFault.{HeaderFault}
@@ -29,18 +30,15 @@ has_unknown_key (member k d ms) = not (is_known k) || has_unknown_key ms
 
 -- the kind of node that a word names
 abbrev pub kind_of : List ℕ → Option NodeKind
-kind_of word =
-    if same word (codes "full") then Some Full
-    else (if same word (codes "witness") then Some Witness else (if same word (codes "read") then Some Read else None))
+kind_of word = named word ((codes "full", Full) ∷ (codes "witness", Witness) ∷ (codes "read", Read) ∷ [])
 
 abbrev pub kind_of_data : Data → Option NodeKind
 kind_of_data (string word) = kind_of word
 kind_of_data _ = None
 
 abbrev pub before : {A : Type 0} → Option A → Option (List A) → Option (List A)
-before None rest = None
-before (Some x) None = None
 before (Some x) (Some xs) = Some (x ∷ xs)
+before _ _ = None
 
 -- the kinds that the items name, where each names one
 abbrev pub kinds_of : Items → Option (List NodeKind)
@@ -79,8 +77,7 @@ number_of low high default (Some d) = number_of_data low high d
 
 -- 1, 3 or 5 cells, no more than nodes
 abbrev pub odd_cells : ℕ → Option ℕ → Option ℕ
-odd_cells nodes None = None
-odd_cells nodes (Some n) = if ((n == 1) || (n == 3) || (n == 5)) && nat_le n nodes then Some n else None
+odd_cells nodes n = option_and_then (λ (n : ℕ). if ((n == 1) || (n == 3) || (n == 5)) && nat_le n nodes then Some n else None) n
 
 -- three where there are as many nodes, else one
 abbrev pub default_cells : ℕ → ℕ
@@ -105,11 +102,7 @@ addresses_of_data _ = None
 -- none where there are none, or they are no array of strings
 abbrev pub addresses_of : Option Data → List (List ℕ)
 addresses_of None = []
-addresses_of (Some d) = or_none (addresses_of_data d)
-  where
-    or_none : Option (List (List ℕ)) → List (List ℕ)
-    or_none None = []
-    or_none (Some texts) = texts
+addresses_of (Some d) = elim (addresses_of_data d) [ None ↦ [] | Some texts ↦ texts ]
 
 -- the result is the answer, which is told by a rule's number where there is none, unless memory ran out
 abbrev pub Refuses : {A : Type 0} → HeaderFault → Result A ℕ → Type 0
@@ -119,11 +112,6 @@ Refuses (Rule r) answer = answer ≡ Err r
 abbrev pub GivesBy : {X A : Type 0} → (X → A) → Result X HeaderFault → Result A ℕ → Type 0
 GivesBy view (Ok x) answer = answer ≡ Ok (view x)
 GivesBy view (Err fault) answer = Refuses fault answer
-
-infixl 10 ◌>>=◌
-abbrev pub ◌>>=◌ : {A B : Type 0} → Result A ℕ → (A → Result B ℕ) → Result B ℕ
-(Ok x) >>= f = f x
-(Err e) >>= f = Err e
 
 -- what has to be there, or the rule is broken
 abbrev pub needed : {A : Type 0} → ℕ → Option A → Result A ℕ

@@ -1,22 +1,15 @@
 -- The rule of a group at a coordinator: which group is meant, and why a validate is refused.
-use Rattle.std.specs.Prelude.{ℕ, Bool, ◌&&◌, ◌==◌, if◌then◌else◌, nat_lt, Option, Some, None}
-use Rattle.std.specs.Ordering.{nat_cmp, is_eq}
-use Rattle.std.specs.declared.cmp.Ordering.{Ordering}
-use Rattle.std.specs.Cmp.Lexicographic.{slice_cmp}
+use Rattle.std.specs.Prelude.{ℕ, Bool, if◌then◌else◌, nat_lt, Option, Some, None}
+use Rattle.std.specs.Ordering.{is_eq}
 use Rattle.mega_base.specs.declared.names.Epoch.{Epoch}
 use Rattle.mega_base.specs.declared.names.GroupId.{GroupId}
+pub use Rattle.mega_base.specs.NameOrder.{is_same_epoch as is_same}
+pub use Rattle.mega_base.specs.NameOrder.{group_cmp}
 use Rattle.mega_coordinator.specs.declared.answers.NotValid.{NotValid}
 use Rattle.mega_coordinator.specs.declared.answers.NotValid.TheVariants.{NotServing, OtherEpoch, Beaten}
 
--- groups are in the order of their key bytes
-abbrev pub group_cmp : GroupId → GroupId → Ordering
-group_cmp g h = slice_cmp nat_cmp g.key h.key
-
 abbrev pub is_group : GroupId → GroupId → Bool
 is_group g h = is_eq (group_cmp g h)
-
-abbrev pub is_same : Epoch → Epoch → Bool
-is_same e f = e.start == f.start && e.count == f.count
 
 -- a reader that began in an epoch validates at a position: the epoch has to serve still, and no greater position was invalidated in it
 abbrev pub refusal : Option Epoch → ℕ → ℕ → Epoch → Option NotValid

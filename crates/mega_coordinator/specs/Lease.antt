@@ -1,5 +1,5 @@
 -- The rule of a coordinator's lease: its epochs, which cells are counted and until when, and when it serves.
-use Rattle.std.specs.Prelude.{ℕ, ◌+◌, ◌-◌, ◌/◌, ◌==◌, ◌&&◌, ◌||◌, max, Bool, false, not, if◌then◌else◌, nat_lt, nat_le, List, [], ◌∷◌, map, count_by, slice_index_or, slice_set, Option, Some, None, is_some, unwrap_or, option_map}
+use Rattle.std.specs.Prelude.{ℕ, ◌+◌, ◌-◌, ◌/◌, ◌==◌, ◌&&◌, ◌||◌, max, Bool, false, not, if◌then◌else◌, nat_lt, nat_le, List, [], ◌∷◌, map, count_by, slice_index_or, slice_set, Option, Some, None, is_some, unwrap_or, option_map, option_and_then}
 use Rattle.std.specs.Option.{option_map_or}
 use Rattle.std.specs.List.{list_any}
 use Rattle.mega_base.specs.declared.names.Epoch.{Epoch}
@@ -28,8 +28,7 @@ state_of start lease = if lease.serves then epoch_of start lease else None
 
 -- an ending: the count rises by one, no cell is counted, and nothing serves
 abbrev pub next_count : Option ℕ → Option ℕ
-next_count None = None
-next_count (Some count) = if count == 4294967295 then None else Some (count + 1)
+next_count count = option_and_then (λ (count : ℕ). if count == 4294967295 then None else Some (count + 1)) count
 
 abbrev pub next_lease : Lease → Lease
 next_lease lease = record { count = next_count lease.count; serves = false; until = none_counted }
@@ -76,7 +75,7 @@ abbrev pub tick_ends : ℕ → Lease → ℕ → Bool
 tick_ends cells lease now = if lease.serves then not (is_majority cells (map (left now) lease.until)) else list_any (is_due now) lease.until
 
 abbrev pub after_tick : ℕ → Lease → ℕ → Lease
-after_tick cells lease now = if tick_ends cells lease now then next_lease lease else record { count = lease.count; serves = lease.serves; until = map (left now) lease.until }
+after_tick cells lease now = if tick_ends cells lease now then next_lease lease else record lease { until = map (left now) lease.until }
 
 -- a serving epoch that a tick ends is lost
 abbrev pub lost_at : ℕ → ℕ → Lease → ℕ → Option Epoch

@@ -9,9 +9,9 @@ use Rattle.mega_rules.specs.Clock.{start_of, ticks_of}
 use Rattle.mega_rules.specs.Locks.{cell_calls}
 use Rattle.mega_rules.specs.Coordinators.{coordinator_calls, validated}
 use Rattle.mega_rules.specs.Steps.{onto}
-use Rattle.mega_stepping.specs.of_leases.declared.leases.Leases.{Leases}
-use Rattle.mega_stepping.specs.of_leases.Laws.{is_apart}
-use Rattle.mega_stepping.specs.of_leases.Tells.{Holds, Tells}
+use Rattle.mega_step_parts.specs.of_leases.declared.leases.Leases.{Leases}
+use Rattle.mega_step_parts.specs.of_leases.Laws.{is_apart}
+use Rattle.mega_step_parts.specs.of_leases.Tells.{Holds, Tells}
 use Rattle.mega_core.specs.Acted.{IsValidate}
 
 -- both tell the same

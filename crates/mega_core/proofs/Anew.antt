@@ -18,9 +18,9 @@ use Rattle.mega_wal.specs.Kept.{slot_of}
 use Rattle.mega_wal.specs.Same.{same_group}
 use Rattle.mega_wal.proofs.Greatest.{marks_same}
 use Rattle.mega_wal.proofs.Sames.{same_group_equal}
-use Rattle.mega_stepping.specs.of_leases.declared.leases.Leases.{Leases}
-use Rattle.mega_stepping.specs.of_leases.Opening.{AreOwed, is_owed}
-use Rattle.mega_stepping.specs.of_leases.Tells.{Tells as TellsLeases}
+use Rattle.mega_step_parts.specs.of_leases.declared.leases.Leases.{Leases}
+use Rattle.mega_step_parts.specs.of_leases.Opening.{AreOwed, is_owed}
+use Rattle.mega_step_parts.specs.of_leases.Tells.{Tells as TellsLeases}
 use Rattle.mega_replica.specs.declared.progress.Progress.{Progress}
 use Rattle.mega_replica.specs.Applying.{after_read, writes_of}
 use Rattle.mega_replica.specs.Following.{Follows}
@@ -33,11 +33,11 @@ use Rattle.mega_rules.specs.Members.{has_rows, is_node}
 use Rattle.mega_rules.specs.Met.{Met, Applies, Begins, Grants, Lapses, Starts}
 use Rattle.mega_rules.specs.Operations.{Setting}
 use Rattle.mega_rules.specs.Steps.{apply_all, onto, start, start_items, start_note, start_notes}
-use Rattle.mega_stepping.specs.of_voter.Holding.{Agrees, GoesOn, Recalls, is_no_start}
-use Rattle.mega_stepping.specs.of_voter.Journal.{journal_of, without_starts}
-use Rattle.mega_stepping.specs.of_voter.Telling.{Tells}
-use Rattle.mega_stepping.proofs.of_voter.Begun.{start_goes_on}
-use Rattle.mega_stepping.proofs.of_voter.Opened.{granted_without, slots_without}
+use Rattle.mega_step_parts.specs.of_voter.Holding.{Agrees, GoesOn, Recalls, is_no_start}
+use Rattle.mega_step_parts.specs.of_voter.Journal.{journal_of, without_starts}
+use Rattle.mega_step_parts.specs.of_voter.Telling.{Tells}
+use Rattle.mega_step_parts.proofs.of_voter.Begun.{start_goes_on}
+use Rattle.mega_step_parts.proofs.of_voter.Opened.{granted_without, slots_without}
 use Rattle.mega_actions.specs.of_node_laws.About.{IsAbout}
 use Rattle.mega_actions.proofs.of_node_laws.Ending.{onto_append}
 use Rattle.mega_actions.proofs.of_node_laws.Logs.{log_after, log_is}
@@ -45,13 +45,13 @@ use Rattle.mega_actions.specs.of_marks.declared.indexed.Indexed.{Indexed}
 use Rattle.mega_actions.specs.of_pumps.declared.digest.Digest.{Digest}
 use Rattle.mega_actions.specs.of_pumps.Notes.{HasNoted}
 use Rattle.mega_actions.specs.of_marks.AreMarked.{IsIndexed}
-use Rattle.mega_actions.specs.of_proposing.Settings.{setting}
+use Rattle.mega_actions.specs.of_step_work.Settings.{setting}
 use Rattle.mega_actions.specs.Turns.{IsServable}
-use Rattle.mega_taking.specs.Represents.{Represents}
+use Rattle.mega_node_events.specs.Represents.{Represents}
 use Rattle.mega_actions.specs.of_view.Small.{IsSmall}
 use Rattle.mega_core.specs.Restarting.{HaveFollowed, applied_at_start}
 use Rattle.mega_core.proofs.Alike.{IsApart, all_apart_alike, alike_tells}
-use Rattle.mega_stepping.proofs.Groups.{has, no_log}
+use Rattle.mega_step_parts.proofs.Groups.{has, no_log}
 use Rattle.mega_core.proofs.Silent.{IsMute, IsQuiet, mute_begun, mute_told, mute_undecided}
 
 -- ---- what is owed

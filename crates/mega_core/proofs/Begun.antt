@@ -14,10 +14,10 @@ use Rattle.mega_rules.specs.Clock.{clock_of}
 use Rattle.mega_rules.specs.Logs.{log_of}
 use Rattle.mega_rules.specs.Operations.{Node, Now, Operation, Setting}
 use Rattle.mega_rules.specs.Steps.{Begin, Step, begin_step, new_operation, onto, op_of, refusal, unless_refused}
-use Rattle.mega_stepping.specs.of_voter.Telling.{Tells}
-use Rattle.mega_stepping.proofs.of_voter.Told.{silent_told}
-use Rattle.mega_stepping.specs.of_leases.declared.leases.Leases.{Leases}
-use Rattle.mega_stepping.proofs.of_leases.Shown.{apart}
+use Rattle.mega_step_parts.specs.of_voter.Telling.{Tells}
+use Rattle.mega_step_parts.proofs.of_voter.KeptTells.{silent_told}
+use Rattle.mega_step_parts.specs.of_leases.declared.leases.Leases.{Leases}
+use Rattle.mega_step_parts.proofs.of_leases.Shown.{apart}
 use Rattle.mega_replica.specs.declared.progress.Progress.{Progress}
 use Rattle.mega_actions.specs.of_node_laws.About.{IsAbout}
 use Rattle.mega_actions.specs.of_node_laws.Own.{HasOwnRows}
@@ -29,16 +29,16 @@ use Rattle.mega_actions.specs.of_marks.declared.indexed.Indexed.{Indexed}
 use Rattle.mega_actions.specs.of_pumps.declared.digest.Digest.{Digest}
 use Rattle.mega_actions.specs.of_marks.AreMarked.{AreMarked, IsIndexed}
 use Rattle.mega_actions.proofs.of_marks.Growing.{marked_after}
-use Rattle.mega_actions.specs.of_proposing.Servable.{is_served}
+use Rattle.mega_actions.specs.of_step_work.Servable.{is_served}
 use Rattle.mega_actions.specs.StandsAt.{StandsAt}
 use Rattle.mega_actions.specs.Turns.{IsServable}
-use Rattle.mega_actions.specs.of_proposing.Working.{work_of}
-use Rattle.mega_actions.specs.of_proposing.declared.work.Work.{Work}
+use Rattle.mega_actions.specs.of_step_work.Working.{work_of}
+use Rattle.mega_actions.specs.of_step_work.declared.work.Work.{Work}
 use Rattle.mega_core.specs.Acted.{Acted, HasActed, IsEnd, IsValidate, ended}
-use Rattle.mega_taking.specs.Beginning.{at_begin, has_begun, marks_unless}
-use Rattle.mega_taking.specs.Kind.{FitsKind}
-use Rattle.mega_stepping.specs.Behind.{Keeps}
-use Rattle.mega_taking.specs.Represents.{Represents}
+use Rattle.mega_node_events.specs.Beginning.{at_begin, has_begun, marks_unless}
+use Rattle.mega_node_events.specs.Kind.{FitsKind}
+use Rattle.mega_step_parts.specs.Behind.{Keeps}
+use Rattle.mega_node_events.specs.Represents.{Represents}
 use Rattle.mega_core.proofs.Fitting.{begin_fits}
 use Rattle.mega_core.proofs.Quiet.{begun_marks, refusal_plain}
 use Rattle.mega_core.proofs.Walked.{begun_acted, begun_served}

@@ -11,8 +11,8 @@ use Rattle.mega_rules.specs.Clock.{begun_of, last_number}
 use Rattle.mega_rules.specs.Coordinators.{acquires_at}
 use Rattle.mega_rules.specs.Operations.{Node, Now, Operation, Setting}
 use Rattle.mega_rules.specs.Steps.{Step, Tick, at_first, background, lapse_notes, lease_notes, onto, portion_of, step, ticked}
-use Rattle.mega_stepping.specs.of_voter.Telling.{Tells}
-use Rattle.mega_stepping.specs.of_leases.declared.leases.Leases.{Leases}
+use Rattle.mega_step_parts.specs.of_voter.Telling.{Tells}
+use Rattle.mega_step_parts.specs.of_leases.declared.leases.Leases.{Leases}
 use Rattle.mega_replica.specs.declared.progress.Progress.{Progress}
 use Rattle.mega_actions.specs.of_node_laws.About.{IsAbout}
 use Rattle.mega_actions.specs.of_node_laws.Acted.{acted_on}
@@ -24,12 +24,12 @@ use Rattle.mega_actions.specs.of_pumps.declared.digest.Digest.{Digest}
 use Rattle.mega_actions.specs.of_marks.AreMarked.{AreMarked}
 use Rattle.mega_actions.specs.StandsAt.{StandsAt}
 use Rattle.mega_actions.specs.Turns.{IsServable}
-use Rattle.mega_actions.specs.of_proposing.Working.{work_of}
-use Rattle.mega_actions.specs.of_proposing.declared.work.Work.{Work}
+use Rattle.mega_actions.specs.of_step_work.Working.{work_of}
+use Rattle.mega_actions.specs.of_step_work.declared.work.Work.{Work}
 use Rattle.mega_core.specs.Acted.{HasActed, IsEnd, IsValidate, ended}
-use Rattle.mega_taking.specs.Kind.{FitsKind}
-use Rattle.mega_taking.specs.Represents.{Represents}
-use Rattle.mega_taking.specs.Ticking.{has_ticked}
+use Rattle.mega_node_events.specs.Kind.{FitsKind}
+use Rattle.mega_node_events.specs.Represents.{Represents}
+use Rattle.mega_node_events.specs.Ticking.{has_ticked}
 use Rattle.mega_core.proofs.Fitting.{tick_fits}
 use Rattle.mega_core.proofs.Quiet.{all_ticked_it}
 use Rattle.mega_core.proofs.Unshown.{acted_marked, lapses_unshown, leases_unshown}

@@ -13,9 +13,9 @@ use Rattle.mega_rules.specs.Clock.{begun_of, last_number}
 use Rattle.mega_rules.specs.Logs.{log_of}
 use Rattle.mega_rules.specs.Operations.{Node, Now, Operation, Setting}
 use Rattle.mega_rules.specs.Steps.{apply_notes, onto}
-use Rattle.mega_stepping.specs.of_voter.Telling.{Tells}
-use Rattle.mega_stepping.specs.of_leases.declared.leases.Leases.{Leases}
-use Rattle.mega_stepping.specs.of_leases.Tells.{Tells as TellsLeases}
+use Rattle.mega_step_parts.specs.of_voter.Telling.{Tells}
+use Rattle.mega_step_parts.specs.of_leases.declared.leases.Leases.{Leases}
+use Rattle.mega_step_parts.specs.of_leases.Tells.{Tells as TellsLeases}
 use Rattle.mega_replica.specs.declared.progress.Progress.{Progress}
 use Rattle.mega_replica.specs.Applying.{applied}
 use Rattle.mega_replica.specs.Following.{Follows}
@@ -28,15 +28,15 @@ use Rattle.mega_actions.proofs.of_pumps.Lasting.{noted_after}
 use Rattle.mega_actions.specs.Turns.{IsServable}
 use Rattle.mega_actions.proofs.of_node_laws.Ending.{onto_append}
 use Rattle.mega_actions.proofs.of_node_laws.Logs.{log_after}
-use Rattle.mega_actions.specs.of_proposing.declared.work.Work.{Work}
+use Rattle.mega_actions.specs.of_step_work.declared.work.Work.{Work}
 use Rattle.mega_core.specs.Acted.{Acted, HasActed, IsEnd, IsValidate, ended}
-use Rattle.mega_stepping.specs.declared.note.Note.{Note}
-use Rattle.mega_taking.specs.Kind.{FitsKind}
+use Rattle.mega_step_parts.specs.declared.note.Note.{Note}
+use Rattle.mega_node_events.specs.Kind.{FitsKind}
 use Rattle.mega_core.specs.Made.{Made}
-use Rattle.mega_stepping.specs.Notes.{met_of}
-use Rattle.mega_stepping.specs.Behind.{Keeps, is_behind}
-use Rattle.mega_taking.specs.Represents.{Represents}
-use Rattle.mega_stepping.specs.Staging.{Stages}
+use Rattle.mega_step_parts.specs.Notes.{met_of}
+use Rattle.mega_step_parts.specs.Behind.{Keeps, is_behind}
+use Rattle.mega_node_events.specs.Represents.{Represents}
+use Rattle.mega_step_parts.specs.Staging.{Stages}
 use Rattle.mega_core.proofs.Alike.{IsApart, alike_tells, alike_then, all_apart_alike, validates_alike}
 use Rattle.mega_core.proofs.Unshown.{applies_unshown, ended_marked, validates_unshown}
 use Rattle.mega_core.proofs.Silent.{IsMute, IsQuiet, applies_quiet, end_mute, ends_apart, mute_begun, mute_staged, mute_told, mute_undecided, sent_apart, sent_begun, sent_undecided, validate_mute}

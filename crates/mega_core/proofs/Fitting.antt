@@ -17,11 +17,11 @@ use Rattle.mega_rules.specs.Operations.{Node, Now, Operation, Setting}
 use Rattle.mega_rules.specs.Steps.{Take, Tick, all_act, at_first, begins, find_begins, hears_message, is_current, local_find_begins, needs_full, new_operation, op_of, portion_of, read_begins, refusal, stored_after, ticked, unless_refused}
 use Rattle.mega_actions.specs.of_node_laws.Acted.{acted_on, decision_in}
 use Rattle.mega_actions.specs.of_view.Small.{IsSmall}
-use Rattle.mega_taking.specs.Beginning.{at_begin, has_begun}
-use Rattle.mega_taking.specs.Kind.{FitsKind}
-use Rattle.mega_taking.specs.Taking.{has_taken}
-use Rattle.mega_taking.specs.Ticking.{has_ticked}
-use Rattle.mega_stepping.proofs.Portions.{portion_bare, stored_bare}
+use Rattle.mega_node_events.specs.Beginning.{at_begin, has_begun}
+use Rattle.mega_node_events.specs.Kind.{FitsKind}
+use Rattle.mega_node_events.specs.Taking.{has_taken}
+use Rattle.mega_node_events.specs.Ticking.{has_ticked}
+use Rattle.mega_step_parts.proofs.Portions.{portion_bare, stored_bare}
 use Rattle.mega_core.proofs.Roles.{bare_is_other, brief_where_served}
 
 -- what is said of a node that is not full holds of one without rows

@@ -28,21 +28,21 @@ use Rattle.mega_actions.specs.of_node_laws.Acted.{acted_on, decision_in}
 use Rattle.mega_actions.proofs.of_node_laws.Applied.{applied_more}
 use Rattle.mega_actions.proofs.of_node_laws.Ending.{onto_append}
 use Rattle.mega_actions.proofs.of_node_laws.Logs.{log_after, log_stays}
-use Rattle.mega_actions.specs.of_proposing.Servable.{is_served}
-use Rattle.mega_actions.specs.of_proposing.Settings.{setting}
+use Rattle.mega_actions.specs.of_step_work.Servable.{is_served}
+use Rattle.mega_actions.specs.of_step_work.Settings.{setting}
 use Rattle.mega_actions.specs.Turns.{IsServable}
-use Rattle.mega_stepping.specs.of_leases.Opening.{AreOwed}
-use Rattle.mega_stepping.specs.of_voter.Holding.{Recalls}
-use Rattle.mega_stepping.specs.declared.applying.Before.{Before}
-use Rattle.mega_stepping.specs.Positions.{before_at}
-use Rattle.mega_stepping.specs.Behind.{is_behind}
-use Rattle.mega_stepping.specs.Touching.{asked_groups, touched}
-use Rattle.mega_stepping.proofs.Groups.{has}
+use Rattle.mega_step_parts.specs.of_leases.Opening.{AreOwed}
+use Rattle.mega_step_parts.specs.of_voter.Holding.{Recalls}
+use Rattle.mega_step_parts.specs.declared.applying.Before.{Before}
+use Rattle.mega_step_parts.specs.Positions.{before_at}
+use Rattle.mega_step_parts.specs.Behind.{is_behind}
+use Rattle.mega_step_parts.specs.Touching.{asked_groups, touched}
+use Rattle.mega_step_parts.proofs.Groups.{has}
 use Rattle.mega_core.specs.Acted.{Acted}
-use Rattle.mega_taking.specs.Beginning.{at_begin, has_begun}
-use Rattle.mega_lagging.specs.Lagging.{KnowsLagging, KnowsOthers, is_watched}
-use Rattle.mega_taking.specs.Taking.{has_taken}
-use Rattle.mega_taking.specs.Ticking.{has_ticked}
+use Rattle.mega_node_events.specs.Beginning.{at_begin, has_begun}
+use Rattle.mega_lag.specs.Lagging.{KnowsLagging, KnowsOthers, is_watched}
+use Rattle.mega_node_events.specs.Taking.{has_taken}
+use Rattle.mega_node_events.specs.Ticking.{has_ticked}
 use Rattle.mega_core.proofs.Anew.{logs_beside, notes_quiet, owed_no_start}
 use Rattle.mega_core.proofs.Silent.{IsMute, IsQuiet, mute_undecided}
 use Rattle.mega_core.proofs.Untouched.{decision_stored, heard_by, log_acted, take_apart, take_log}

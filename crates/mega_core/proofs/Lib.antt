@@ -15,5 +15,5 @@ pub mod Lags
 pub mod Anew
 pub mod Quiet
 pub mod Unshown
-pub use Rattle.mega_stepping.proofs as of_stepping
+pub use Rattle.mega_step_parts.proofs as of_step_parts
 pub use Rattle.mega_actions.proofs.of_node_laws as of_node_laws

@@ -11,8 +11,8 @@ use Rattle.mega_rules.specs.Clock.{clock_of, last_number}
 use Rattle.mega_rules.specs.Operations.{Node, Now, Operation, Setting}
 use Rattle.mega_rules.specs.Replies.{reply_to}
 use Rattle.mega_rules.specs.Steps.{Decision, Heard, Step, Take, all_act, at_first, decision_note, first_settled, hears_message, if_new, news, onto, step, stored_after, taken, told_decision, told_notes}
-use Rattle.mega_stepping.specs.of_voter.Telling.{Tells}
-use Rattle.mega_stepping.specs.of_leases.declared.leases.Leases.{Leases}
+use Rattle.mega_step_parts.specs.of_voter.Telling.{Tells}
+use Rattle.mega_step_parts.specs.of_leases.declared.leases.Leases.{Leases}
 use Rattle.mega_replica.specs.declared.progress.Progress.{Progress}
 use Rattle.mega_actions.specs.of_node_laws.Acted.{acted_on, decision_in, or_settled}
 use Rattle.mega_actions.specs.of_node_laws.Sending.{MaySend}
@@ -24,18 +24,18 @@ use Rattle.mega_actions.specs.of_pumps.declared.digest.Digest.{Digest}
 use Rattle.mega_actions.specs.of_marks.AreMarked.{AreMarked}
 use Rattle.mega_actions.specs.StandsAt.{StandsAt}
 use Rattle.mega_actions.specs.Turns.{IsServable, IsServableHeard, IsHeardAbout}
-use Rattle.mega_actions.specs.of_proposing.Working.{work_of}
-use Rattle.mega_actions.specs.of_proposing.declared.work.Work.{Work}
+use Rattle.mega_actions.specs.of_step_work.Working.{work_of}
+use Rattle.mega_actions.specs.of_step_work.declared.work.Work.{Work}
 use Rattle.mega_core.specs.Acted.{HasActed, IsEnd, IsValidate, ended}
-use Rattle.mega_taking.specs.Kind.{FitsKind}
-use Rattle.mega_taking.specs.Represents.{Represents}
+use Rattle.mega_node_events.specs.Kind.{FitsKind}
+use Rattle.mega_node_events.specs.Represents.{Represents}
 use Rattle.mega_core.proofs.Fitting.{take_fits}
 use Rattle.mega_core.proofs.Quiet.{all_act_it}
 use Rattle.mega_core.proofs.Unshown.{acted_marked, decision_unshown, told_unshown}
 use Rattle.mega_core.proofs.Walked.{all_acted, all_heard_built, all_served, heard_about}
-use Rattle.mega_taking.specs.Taking.{has_taken}
-use Rattle.mega_stepping.specs.News.{news_by}
-use Rattle.mega_taking.proofs.Deciding.{taken_begun}
+use Rattle.mega_node_events.specs.Taking.{has_taken}
+use Rattle.mega_step_parts.specs.News.{news_by}
+use Rattle.mega_node_events.proofs.Deciding.{taken_begun}
 
 module _ (s : Setting) (node : Node) (m : Message) where
   abbrev heard_by : List Heard

@@ -12,13 +12,13 @@ use Rattle.mega_rules.specs.Clock.{begun_of}
 use Rattle.mega_rules.specs.Logs.{groups_of}
 use Rattle.mega_rules.specs.Operations.{Setting}
 use Rattle.mega_rules.specs.Steps.{applied_at, apply_note, apply_notes, onto}
-use Rattle.mega_stepping.specs.of_voter.Journal.{item_of}
-use Rattle.mega_stepping.specs.of_voter.Telling.{Tells}
-use Rattle.mega_stepping.proofs.of_voter.Told.{silent_told}
+use Rattle.mega_step_parts.specs.of_voter.Journal.{item_of}
+use Rattle.mega_step_parts.specs.of_voter.Telling.{Tells}
+use Rattle.mega_step_parts.proofs.of_voter.KeptTells.{silent_told}
 use Rattle.mega_actions.specs.of_node_laws.Deciding.{IsNoDecision}
 use Rattle.mega_core.specs.Acted.{IsEnd, IsValidate}
-use Rattle.mega_stepping.specs.Staging.{Stages}
-use Rattle.mega_stepping.proofs.Staged.{silent_staged}
+use Rattle.mega_step_parts.specs.Staging.{Stages}
+use Rattle.mega_step_parts.proofs.Staged.{silent_staged}
 use Rattle.mega_core.proofs.Alike.{IsApart}
 
 -- nothing of it is kept

@@ -7,7 +7,7 @@ use Rattle.mega_base.specs.declared.names.Epoch.{Epoch}
 use Rattle.mega_wire.specs.declared.message.Body.{Body}
 use Rattle.mega_wire.specs.declared.message.Body.TheVariants.{Where, Top, Accept, Accepted, Refused, Prepare, Promise, Invalidate, Invalidated, Dead, Held, Unheld, Decide, Fetch, Have, HaveNot, Acquire, Granted, Past, Request, Reply}
 use Rattle.mega_locks.specs.declared.asked.Asked.{Asked}
-use Rattle.mega_locks.specs.declared.asked.Asked.TheVariants.{Granted as First, Renewed, Taken, Over}
+use Rattle.mega_locks.specs.declared.asked.Asked.TheVariants.{Granted as First, Renewed, GreaterHeld, Over}
 use Rattle.mega_cluster.specs.declared.cluster.Cluster.{Cluster}
 use Rattle.mega_locks.specs.History.{lapse_for, nodes}
 use Rattle.mega_coordinator.specs.Lease.{counted_by, granted_answer}
@@ -16,7 +16,7 @@ use Rattle.mega_coordinator.specs.declared.answers.Counted.{Counted}
 use Rattle.mega_coordinator.specs.declared.answers.Counted.TheVariants.{No, Yes, Serving}
 use Rattle.mega_rules.specs.Met.{Met, Answers, Applies, Begins, Counts, Crashes, Decides, Forgets, Grants, Invalidates, Lapses, Loses, Sends, Serves, Starts, Takes, Ticks, Unsends, Validates}
 use Rattle.mega_rules.specs.Clock.{clock_of, start_of}
-use Rattle.mega_stepping.specs.of_leases.Opening.{AreOwed, is_owed}
+use Rattle.mega_step_parts.specs.of_leases.Opening.{AreOwed, is_owed}
 use Rattle.mega_rules.specs.Logs.{groups_of, prefix_of}
 use Rattle.mega_rules.specs.Members.{cells, has_rows, is_full, keep_of}
 use Rattle.mega_rules.specs.Locks.{asked_for, cell_calls, grant_note, lapse_note, lapses_at}
@@ -52,7 +52,7 @@ where_so false notes h = refl
 grant_shows : (node : ℕ) (epoch : Epoch) (answer : Asked) → list_all is_unshown (grant_note node epoch answer) ≡ true
 grant_shows node epoch First = refl
 grant_shows node epoch Renewed = refl
-grant_shows node epoch (Taken greatest) = refl
+grant_shows node epoch (GreaterHeld greatest) = refl
 grant_shows node epoch (Over greatest) = refl
 
 count_shows : (cell : ℕ) (epoch : Epoch) (was : Bool) (counted : Counted) → list_all is_unshown (counts_notes cell epoch was counted) ≡ true

@@ -22,19 +22,19 @@ use Rattle.mega_actions.specs.of_node_laws.About.{group_in}
 use Rattle.mega_actions.specs.of_node_laws.Acted.{acted_on, decision_in, or_settled}
 use Rattle.mega_actions.proofs.of_node_laws.Applied.{applied_within}
 use Rattle.mega_actions.proofs.of_node_laws.Logs.{groups_after, log_after, log_stays, other_log}
-use Rattle.mega_actions.specs.of_proposing.Servable.{is_served, is_pump}
+use Rattle.mega_actions.specs.of_step_work.Servable.{is_served, is_pump}
 use Rattle.mega_actions.specs.Turns.{IsServable}
-use Rattle.mega_stepping.specs.declared.applying.Before.{Before}
+use Rattle.mega_step_parts.specs.declared.applying.Before.{Before}
 use Rattle.mega_core.specs.Acted.{Acted, IsValidate}
-use Rattle.mega_taking.specs.Beginning.{at_begin, has_begun}
-use Rattle.mega_stepping.specs.Positions.{before_at, note_since}
-use Rattle.mega_taking.specs.Taking.{has_taken}
-use Rattle.mega_taking.specs.Ticking.{has_ticked}
-use Rattle.mega_stepping.specs.Behind.{is_behind}
-use Rattle.mega_stepping.specs.Touching.{asked_groups, begun_by, begun_groups, behind, named, reaches, roams, told_groups, touched, with_reach}
-use Rattle.mega_stepping.proofs.Groups.{all_noted, has, has_with, no_log, none_applied, since_is}
-use Rattle.mega_taking.proofs.Deciding.{told_on}
-use Rattle.mega_taking.proofs.Plain.{plain_undecided, told_plain}
+use Rattle.mega_node_events.specs.Beginning.{at_begin, has_begun}
+use Rattle.mega_step_parts.specs.Positions.{before_at, note_since}
+use Rattle.mega_node_events.specs.Taking.{has_taken}
+use Rattle.mega_node_events.specs.Ticking.{has_ticked}
+use Rattle.mega_step_parts.specs.Behind.{is_behind}
+use Rattle.mega_step_parts.specs.Touching.{asked_groups, begun_by, begun_groups, behind, named, reaches, roams, told_groups, touched, with_reach}
+use Rattle.mega_step_parts.proofs.Groups.{all_noted, has, has_with, no_log, none_applied, since_is}
+use Rattle.mega_node_events.proofs.Deciding.{told_on}
+use Rattle.mega_node_events.proofs.Plain.{plain_undecided, told_plain}
 use Rattle.mega_core.proofs.Silent.{IsMute, mute_undecided, validate_mute}
 use Rattle.mega_core.proofs.Walked.{all_heard_built}
 use Rattle.mega_core.proofs.Walking.{IsHeardIn, Walks, all_walked, begun_walked}

@@ -14,10 +14,10 @@ use Rattle.mega_actions.specs.of_node_laws.About.{IsAbout}
 use Rattle.mega_actions.proofs.of_node_laws.Acting.{hears_message_asks}
 use Rattle.mega_actions.proofs.of_node_laws.Ending.{onto_append}
 use Rattle.mega_actions.proofs.of_node_laws.Lasting.{IsHeard, Lasts, all_act_it, all_ticked_it, begun_it, hears_message_about}
-use Rattle.mega_actions.specs.of_proposing.Servable.{is_served}
+use Rattle.mega_actions.specs.of_step_work.Servable.{is_served}
 use Rattle.mega_actions.specs.Turns.{IsServable, IsServableHeard, IsHeardAbout}
 use Rattle.mega_core.specs.Acted.{Acted, IsEnd, IsValidate}
-use Rattle.mega_stepping.specs.Touching.{asked_groups}
+use Rattle.mega_step_parts.specs.Touching.{asked_groups}
 use Rattle.mega_core.proofs.Walking.{IsHeardIn, IsOf, Walks, all_ticked_walked, all_walked, begun_walked}
 
 -- ---- what is added to what is met

@@ -36,9 +36,9 @@ use Rattle.mega_rules.specs.Operations.{Now, Operation, Phase, Promised, Propose
 use Rattle.mega_rules.specs.Acting.{acts, acts_within, applied_logs, batch_sealed, begins_read, completes_read, ends, enters, finishes, goes_on, handles, handling, in_phase, is_taken, keeps, leader_after, listed_at, picks_group, picks_message, proposes, proposes_by, read_begun, reader_of, reads_on, rows_at, sealed, sends_more, stored_with, table_rows, unless_decided, unless_full, validated_by, validates, visiting}
 use Rattle.mega_rules.specs.Steps.{Heard, acts_in_turn, all_act, begins, does_due, find_begins, is_out, local_find_begins, read_begins, ticked, unless_refused}
 use Rattle.mega_actions.specs.of_node_laws.About.{group_in}
-use Rattle.mega_actions.specs.of_proposing.Servable.{is_served, is_open, is_pump}
+use Rattle.mega_actions.specs.of_step_work.Servable.{is_served, is_open, is_pump}
 use Rattle.mega_actions.specs.Turns.{IsServable, IsServableHeard}
-use Rattle.mega_stepping.specs.Touching.{asked_groups, named, reaches, reaches_in}
+use Rattle.mega_step_parts.specs.Touching.{asked_groups, named, reaches, reaches_in}
 
 -- a fact of a node within a step that nothing can break which served operations do in such groups, of which they store no less than before
 pub record Walks (P : Now → Type 0) (Mine : GroupId → Type 0) : Type 0 where

@@ -6,9 +6,9 @@ use Rattle.mega_rules.specs.Members.{has_rows}
 use Rattle.mega_rules.specs.Met.{Met}
 use Rattle.mega_rules.specs.Operations.{Node, Now, Setting}
 use Rattle.mega_rules.specs.Steps.{apply_note, apply_notes}
-use Rattle.mega_stepping.specs.declared.applying.Before.{Before}
-use Rattle.mega_stepping.specs.Positions.{before_at, note_since}
-use Rattle.mega_stepping.specs.Touching.{behind}
+use Rattle.mega_step_parts.specs.declared.applying.Before.{Before}
+use Rattle.mega_step_parts.specs.Positions.{before_at, note_since}
+use Rattle.mega_step_parts.specs.Touching.{behind}
 use Rattle.mega_core.proofs.Untouched.{Noted}
 
 pub watched_noted : (s t : Setting) (node : Node) (groups : List GroupId) (before : List Before) (now : Now) → t ≡ s

@@ -10,9 +10,9 @@ use Rattle.mega_rules.specs.Clock.{begun_of, last_number}
 use Rattle.mega_rules.specs.Logs.{log_of}
 use Rattle.mega_rules.specs.Operations.{Node, Now, Setting}
 use Rattle.mega_rules.specs.Steps.{Step, apply_notes, onto, step_of}
-use Rattle.mega_stepping.specs.of_voter.Telling.{Tells}
-use Rattle.mega_stepping.specs.of_leases.declared.leases.Leases.{Leases}
-use Rattle.mega_stepping.specs.of_leases.Tells.{Tells as TellsLeases}
+use Rattle.mega_step_parts.specs.of_voter.Telling.{Tells}
+use Rattle.mega_step_parts.specs.of_leases.declared.leases.Leases.{Leases}
+use Rattle.mega_step_parts.specs.of_leases.Tells.{Tells as TellsLeases}
 use Rattle.mega_replica.specs.declared.progress.Progress.{Progress}
 use Rattle.mega_replica.specs.Following.{Follows}
 use Rattle.mega_actions.specs.of_node_laws.About.{IsAbout}
@@ -22,9 +22,9 @@ use Rattle.mega_actions.specs.of_pumps.declared.digest.Digest.{Digest}
 use Rattle.mega_actions.specs.of_pumps.Notes.{HasNoted}
 use Rattle.mega_actions.specs.of_marks.AreMarked.{AreMarked}
 use Rattle.mega_actions.specs.Turns.{IsServable}
-use Rattle.mega_actions.specs.of_proposing.Working.{work_of}
-use Rattle.mega_actions.specs.of_proposing.declared.work.Work.{Work}
-use Rattle.mega_taking.specs.Kind.{FitsKind}
+use Rattle.mega_actions.specs.of_step_work.Working.{work_of}
+use Rattle.mega_actions.specs.of_step_work.declared.work.Work.{Work}
+use Rattle.mega_node_events.specs.Kind.{FitsKind}
 use Rattle.mega_handler.specs.Named.{Meanings}
 use Rattle.mega_replica.specs.Following.{progress_at}
 use Rattle.mega_actions.specs.declared.replica.Replica.{Replica}

@@ -5,13 +5,13 @@ use Rattle.mega_disk.specs.VersionMaps.{Versions}
 use Rattle.mega_wal.specs.declared.kept.Kept.{Kept}
 use Rattle.mega_rules.specs.Operations.{Operation, Setting}
 use Rattle.mega_rules.specs.Steps.{Step as RuleStep}
-use Rattle.mega_stepping.specs.of_leases.declared.leases.Leases.{Leases}
+use Rattle.mega_step_parts.specs.of_leases.declared.leases.Leases.{Leases}
 use Rattle.mega_replica.specs.declared.progress.Progress.{Progress}
 use Rattle.mega_actions.specs.of_marks.declared.indexed.Indexed.{Indexed}
 use Rattle.mega_actions.specs.of_pumps.declared.digest.Digest.{Digest}
-use Rattle.mega_stepping.specs.declared.step.Step.{Step}
-use Rattle.mega_stepping.specs.Notes.{met_of}
-use Rattle.mega_taking.specs.Represents.{Represents}
+use Rattle.mega_step_parts.specs.declared.step.Step.{Step}
+use Rattle.mega_step_parts.specs.Notes.{met_of}
+use Rattle.mega_node_events.specs.Represents.{Represents}
 use Rattle.mega_handler.specs.Named.{Meanings}
 use Rattle.mega_replica.specs.Following.{progress_at}
 use Rattle.mega_actions.specs.IsAt.{setting_of}

@@ -3,8 +3,8 @@ use Rattle.mega_disk.specs.VersionMaps.{Versions}
 use Rattle.mega_handler.specs.Named.{Meanings}
 use Rattle.mega_rules.specs.Operations.{Node as RuleNode}
 use Rattle.mega_core.specs.declared.node.Node.{Node}
-use Rattle.mega_lagging.specs.Lagging.{KnowsLagging}
-use Rattle.mega_taking.specs.Standing.{StandsWith}
+use Rattle.mega_lag.specs.Lagging.{KnowsLagging}
+use Rattle.mega_node_events.specs.Standing.{StandsWith}
 
 -- all that a node keeps represents that node, and it knows the groups of which it may not have applied all that is decided
 pub record StandsFor {R V : Type 0} (version : V → Versions) (h : Meanings) (one : Node R V) (node : RuleNode) : Type 0 where

@@ -7,12 +7,12 @@ use Rattle.mega_meanings.specs.Means.{Means}
 use Rattle.mega_rules.specs.Logs.{log_of}
 use Rattle.mega_rules.specs.Operations.{Node as RuleNode, Setting}
 use Rattle.mega_rules.specs.Steps.{Begin, Event, Take, Tick}
-use Rattle.mega_stepping.specs.of_leases.Taking.{IsByStranger, IsLate}
+use Rattle.mega_step_parts.specs.of_leases.Taking.{IsByStranger, IsLate}
 use Rattle.mega_actions.specs.of_node_laws.Acted.{acted_on, decision_in}
 use Rattle.mega_actions.specs.of_node_laws.Own.{HasOwnRows}
-use Rattle.mega_actions.specs.of_proposing.Servable.{is_served}
+use Rattle.mega_actions.specs.of_step_work.Servable.{is_served}
 use Rattle.mega_actions.specs.IsAt.{setting_of}
-use Rattle.mega_stepping.specs.Placed.{IsPlaced}
+use Rattle.mega_step_parts.specs.Placed.{IsPlaced}
 use Rattle.mega_core.specs.declared.node.Node.{Node}
 use Rattle.mega_core.specs.Standing.{StandsFor}
 

@@ -7,18 +7,18 @@ ghost use Rattle.mega_rules.specs.Steps.{apply_notes, onto};
 ghost use Rattle.mega_actions.specs.of_node_laws.Sending.{MaySend};
 ghost use Rattle.mega_actions.specs.IsAt.{setting_of};
 ghost use Rattle.mega_core.specs.Acted.{ActedAt, ended};
-ghost use Rattle.mega_lagging.specs.Lagging.{KnowsLagging, KnowsOthers};
+ghost use Rattle.mega_lag.specs.Lagging.{KnowsLagging, KnowsOthers};
 ghost use Rattle.mega_core.specs.Made.{MadeAt};
-ghost use Rattle.mega_stepping.specs.Notes.{met_of};
-ghost use Rattle.mega_stepping.specs.Positions.{note_since};
-ghost use Rattle.mega_stepping.specs.Staging.{Stages};
+ghost use Rattle.mega_step_parts.specs.Notes.{met_of};
+ghost use Rattle.mega_step_parts.specs.Positions.{note_since};
+ghost use Rattle.mega_step_parts.specs.Staging.{Stages};
 
 use crate::node::Node;
-use mega_actions::mega_proposing::Work;
+use mega_actions::mega_step_work::Work;
 use mega_base::{Items, NoMemory};
 use mega_disk::{Records, Versions};
-use mega_lagging::notes_watched;
-use mega_stepping::{Before, Note, Step, add_sends, joined, tell_all_sent};
+use mega_lag::notes_watched;
+use mega_step_parts::{Before, Note, Step, add_sends, joined, tell_all_sent};
 use mega_wire::Message;
 use std::alloc::Global;
 

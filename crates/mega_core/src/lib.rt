@@ -8,8 +8,8 @@ mod node;
 mod restarting;
 
 pub use mega_actions;
+pub use mega_node_events::{StepFault, next_op};
 pub use mega_propose;
-pub use mega_stepping;
-pub use mega_taking::{StepFault, next_op};
+pub use mega_step_parts;
 pub use node::Node;
 pub use restarting::{RestartFault, Restarted};

@@ -1,30 +1,30 @@
 //! A node of a cluster, and the step of each event.
 ghost use Rattle.std.specs.Prelude.{◌≡◌, ◌≢◌, List, map, true, false, IfOk, OnOk, Err};
 ghost use Rattle.mega_handler.specs.Named.{Meanings};
-ghost use Rattle.mega_stepping.specs.of_leases.Taking.{IsByStranger, IsLate};
+ghost use Rattle.mega_step_parts.specs.of_leases.Taking.{IsByStranger, IsLate};
 ghost use Rattle.mega_rules.specs.Met.{Met};
 ghost use Rattle.mega_rules.specs.Operations.{Node as RuleNode};
 ghost use Rattle.mega_rules.specs.Steps.{Begin, Take, Tick, step};
 ghost use Rattle.mega_replica.specs.Used.{StoreUsed};
-ghost use Rattle.mega_actions.specs.of_proposing.Servable.{is_served};
+ghost use Rattle.mega_actions.specs.of_step_work.Servable.{is_served};
 ghost use Rattle.mega_actions.specs.IsAt.{setting_of};
-ghost use Rattle.mega_taking.specs.declared.fault.StepFault.TheVariants.{Late, Stranger, Unserved};
-ghost use Rattle.mega_taking.specs.Faults.{failed_by};
-ghost use Rattle.mega_stepping.specs.Notes.{met_of};
-ghost use Rattle.mega_stepping.specs.Staging.{Stages};
+ghost use Rattle.mega_node_events.specs.declared.fault.StepFault.TheVariants.{Late, Stranger, Unserved};
+ghost use Rattle.mega_node_events.specs.Faults.{failed_by};
+ghost use Rattle.mega_step_parts.specs.Notes.{met_of};
+ghost use Rattle.mega_step_parts.specs.Staging.{Stages};
 ghost use Rattle.mega_core.specs.Standing.{StandsFor};
 ghost use Rattle.mega_core.specs.Stepping.{AtEach, IsStrange, IsTooLate, IsUnserved};
-ghost use Rattle.mega_stepping.specs.Events.{event_of};
+ghost use Rattle.mega_step_parts.specs.Events.{event_of};
 
 use mega_actions::Replica;
 use mega_base::{Copied, GroupId, Items, Text};
 use mega_disk::{Records, Versions};
-use mega_lagging::{behind, watched};
+use mega_lag::{behind, watched};
 use mega_meanings::QueueHandlers;
+use mega_node_events::{Arrival, StepFault, Ticked, acts, acts_ticked, takes, ticks};
 use mega_outcome::Request;
-use mega_stepping::mega_operations::Operation;
-use mega_stepping::{Event, Step, all_hear, begun_groups, touched};
-use mega_taking::{StepFault, Taken, Ticked, acts, acts_ticked, takes, ticks};
+use mega_step_parts::mega_operations::Operation;
+use mega_step_parts::{Event, Step, all_hear, begun_groups, touched};
 use mega_wire::Message;
 use std::alloc::Global;
 use std::collections::BTreeSet;
@@ -68,7 +68,7 @@ impl<R: Records, V: Versions> Node<R, V> {
         let groups = touched(alloc, voter, &message.body, heard.as_slice())?;
         let before = watched(alloc, &self.replica, groups)?;
         let taken = takes(alloc, &mut self.replica, heard, message)?;
-        let Taken {
+        let Arrival {
             notes,
             sends,
             heard,

@@ -3,6 +3,7 @@ use Rattle.std.specs.Prelude.{◌≡◌, ◌≢◌, ◌⊎◌, ℕ, zero, suc, �
 use Rattle.std.specs.Ordering.{nat_cmp}
 use Rattle.std.specs.declared.cmp.Ordering.TheVariants.{Less}
 use Rattle.std.specs.Cmp.Lexicographic.{slice_cmp, pointwise}
+pub use Rattle.std.specs.Option.{option_or as or_else}
 use Rattle.mega_base.specs.declared.values.Row.{Row}
 use Rattle.mega_base.specs.declared.names.GroupId.{GroupId}
 use Rattle.mega_base.specs.declared.names.Position.{Position}
@@ -10,10 +11,6 @@ use Rattle.mega_base.specs.declared.names.Position.{Position}
 -- the version of a key at a position, where one stands there
 abbrev pub Versions : Type 0
 Versions = List ℕ → ℕ → Option (Option Row)
-
-abbrev pub or_else : Option (Option Row) → Option (Option Row) → Option (Option Row)
-or_else (Some version) other = Some version
-or_else None other = other
 
 -- of one key's versions that of greatest position at or below this one
 unfoldable pub version_at : (ℕ → Option (Option Row)) → ℕ → Option (Option Row)

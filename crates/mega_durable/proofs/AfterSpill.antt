@@ -15,11 +15,11 @@ use Rattle.mega_replica.specs.Following.{Follows, progress_at}
 use Rattle.mega_replica.proofs.Growing.{follows_same}
 use Rattle.mega_rules.specs.Logs.{log_of}
 use Rattle.mega_rules.specs.Operations.{Node as RuleNode}
-use Rattle.mega_core.specs.of_taking.declared.fault.StepFault.{StepFault}
-use Rattle.mega_core.specs.of_taking.declared.fault.StepFault.TheVariants as step
+use Rattle.mega_core.specs.of_node_events.declared.fault.StepFault.{StepFault}
+use Rattle.mega_core.specs.of_node_events.declared.fault.StepFault.TheVariants as step
 use Rattle.mega_core.specs.declared.node.Node.{Node}
 use Rattle.mega_core.specs.Faults.{of_store}
-use Rattle.mega_core.specs.of_stepping.Behind.{Keeps}
+use Rattle.mega_core.specs.of_step_parts.Behind.{Keeps}
 use Rattle.mega_durable.specs.declared.fault.UpFault.{UpFault}
 use Rattle.mega_durable.specs.declared.fault.UpFault.TheVariants.{Cut, Log, Step as Failed, Unformed}
 use Rattle.mega_durable.specs.Spilling.{MaySpill, SpillUsed, step_fault_of}

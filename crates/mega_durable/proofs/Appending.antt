@@ -14,7 +14,7 @@ use Rattle.mega_rules.specs.Steps.{Event, Step, onto, step}
 use Rattle.mega_voter.specs.Journal.{item_in, item_of, journal_of}
 use Rattle.mega_core.specs.of_node_laws.Acted.{own_item}
 use Rattle.mega_core.proofs.of_node_laws.Ending.{step_met}
-use Rattle.mega_core.specs.of_stepping.Staging.{Stages}
+use Rattle.mega_core.specs.of_step_parts.Staging.{Stages}
 use Rattle.mega_promises.specs.Runs.{appends, is_durable, is_vote}
 use Rattle.mega_durable.proofs.Noted.{IsNoted, is_noted, step_parts}
 use Rattle.mega_durable.proofs.Upheld.{own_silent}

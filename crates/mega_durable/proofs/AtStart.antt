@@ -13,7 +13,7 @@ use Rattle.mega_voter.specs.Telling.{AreHonest}
 use Rattle.mega_voter.specs.Journal.{item_of}
 use Rattle.mega_voter.proofs.Begun.{start_on}
 use Rattle.mega_voter.proofs.Held.{silent_held}
-use Rattle.mega_voter.proofs.Told.{silent_start}
+use Rattle.mega_voter.proofs.KeptTells.{silent_start}
 use Rattle.mega_core.proofs.of_node_laws.Ending.{onto_append}
 use Rattle.mega_core.proofs.Anew.{notes_quiet}
 use Rattle.mega_core.proofs.Silent.{IsMute, IsQuiet}

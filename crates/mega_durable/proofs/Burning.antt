@@ -11,7 +11,7 @@ use Rattle.mega_rules.specs.Operations.{Node, Setting}
 use Rattle.mega_rules.specs.Steps.{Event, onto, step}
 use Rattle.mega_voter.specs.Holding.{HoldsIf, HoldsMet, starts_after}
 use Rattle.mega_core.specs.of_node_laws.Acted.{own_item}
-use Rattle.mega_core.specs.of_stepping.Staging.{Stages}
+use Rattle.mega_core.specs.of_step_parts.Staging.{Stages}
 use Rattle.mega_promises.specs.Runs.{AsItWas, Recorded, owes, replies_in}
 use Rattle.mega_durable.specs.Cut.{HoldsCut, HoldsCutStart, IsBurnt, IsWhole}
 use Rattle.mega_durable.proofs.AtStart.{least_start}

@@ -20,7 +20,7 @@ use Rattle.mega_voter.specs.Telling.{AreHonest}
 use Rattle.mega_voter.proofs.Begun.{Beside}
 use Rattle.mega_core.specs.of_node_laws.Asking.{Asks}
 use Rattle.mega_core.proofs.of_node_laws.Ending.{onto_append}
-use Rattle.mega_core.specs.of_stepping.Staging.{Stages}
+use Rattle.mega_core.specs.of_step_parts.Staging.{Stages}
 use Rattle.mega_promises.specs.Runs.{replies_in}
 use Rattle.mega_durable.proofs.Noted.{HasParts}
 

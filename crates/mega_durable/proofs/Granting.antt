@@ -8,7 +8,7 @@ use Rattle.std.proofs.lemmas.List.Elements.{All-append, All-cons, All-head, All-
 use Rattle.mega_base.specs.declared.names.Epoch.{Epoch}
 use Rattle.mega_cluster.specs.declared.cluster.Cluster.{Cluster}
 use Rattle.mega_locks.specs.declared.asked.Asked.{Asked}
-use Rattle.mega_locks.specs.declared.asked.Asked.TheVariants.{Granted as IsGranted, Renewed, Taken, Over}
+use Rattle.mega_locks.specs.declared.asked.Asked.TheVariants.{Granted as IsGranted, Renewed, GreaterHeld, Over}
 use Rattle.mega_locks.specs.declared.lock.Lock.{Lock}
 use Rattle.mega_locks.specs.declared.lock.Lock.TheVariants.{Free, Held, Ended}
 use Rattle.mega_locks.specs.declared.lock.Term.{Term}
@@ -42,7 +42,7 @@ same_self e = grind (arith, nat_tests)
 abbrev pub granted_after : Asked → Epoch → Option (Epoch × Bool) → Option (Epoch × Bool)
 granted_after IsGranted epoch last = after_grant last epoch
 granted_after Renewed epoch last = last
-granted_after (Taken greatest) epoch last = last
+granted_after (GreaterHeld greatest) epoch last = last
 granted_after (Over greatest) epoch last = last
 
 asked_keeps : (lock : Lock) (e : Epoch) (renewed : Option Term) → grant_in (asked lock e renewed) ≡ granted_after (answer lock e) e (grant_in lock)
@@ -50,7 +50,7 @@ asked_keeps Free e renewed = refl
 asked_keeps (Held g r) e renewed = by (is_above e g) refl (is_same e g) refl
   where
     by : (above : Bool) → is_above e g ≡ above → (same : Bool) → is_same e g ≡ same
-        → grant_in (after_answer (cond above IsGranted (cond same Renewed (Taken g))) (Held g r) e renewed) ≡ granted_after (cond above IsGranted (cond same Renewed (Taken g))) e (Some (g, true))
+        → grant_in (after_answer (cond above IsGranted (cond same Renewed (GreaterHeld g))) (Held g r) e renewed) ≡ granted_after (cond above IsGranted (cond same Renewed (GreaterHeld g))) e (Some (g, true))
     by true is same s = sym (ap (λ test. cond test (Some (e, true)) (Some (g, true))) (below_is e g ∙ is))
     by false is true s = ap (λ (one : Epoch). Some (one, true)) (same_is e g s)
     by false is false s = refl
@@ -291,7 +291,7 @@ asked_granted from node epoch Renewed met = same (from == node)
     same : (test : Bool) → last_grant met node ≡ cond test (last_grant met node) (last_grant met node)
     same true = refl
     same false = refl
-asked_granted from node epoch (Taken greatest) met = same (from == node)
+asked_granted from node epoch (GreaterHeld greatest) met = same (from == node)
   where
     same : (test : Bool) → last_grant met node ≡ cond test (last_grant met node) (last_grant met node)
     same true = refl
@@ -305,7 +305,7 @@ asked_granted from node epoch (Over greatest) met = same (from == node)
 asked_told : (c : Cluster) (me from : ℕ) (epoch : Epoch) (how : Asked) (met : List Met) → is_opening met ≡ false → cell_calls c me (onto (grant_note from epoch how) met) ≡ cell_calls c me met
 asked_told c me from epoch IsGranted met none = ap (λ opening. cond opening (Reopens from epoch true ∷ []) [] ++ cell_calls c me met) none
 asked_told c me from epoch Renewed met none = refl
-asked_told c me from epoch (Taken greatest) met none = refl
+asked_told c me from epoch (GreaterHeld greatest) met none = refl
 asked_told c me from epoch (Over greatest) met none = refl
 
 -- the calls of a cell that is asked, where the request is at this cell

@@ -9,7 +9,7 @@ use Rattle.mega_coordinator.specs.declared.answers.Counted.{Counted}
 use Rattle.mega_coordinator.specs.declared.answers.Counted.TheVariants.{No, Yes, Serving}
 use Rattle.mega_coordinator.specs.declared.answers.NotValid.{NotValid}
 use Rattle.mega_locks.specs.declared.asked.Asked.{Asked}
-use Rattle.mega_locks.specs.declared.asked.Asked.TheVariants.{Granted as Grant, Renewed, Taken, Over}
+use Rattle.mega_locks.specs.declared.asked.Asked.TheVariants.{Granted as Grant, Renewed, GreaterHeld, Over}
 use Rattle.mega_locks.specs.History.{lapse_for}
 use Rattle.mega_wal.specs.declared.item.JournalItem.{JournalItem}
 use Rattle.mega_wire.specs.declared.message.Body.{Body}
@@ -117,7 +117,7 @@ single one passing = All-cons IsPassing one [] passing (All-nil IsPassing)
 grant_notes_few : (node : ℕ) (epoch : Epoch) (asked : Asked) → AreNotes 1 (grant_note node epoch asked)
 grant_notes_few node epoch Grant = one_note (Grants node epoch) refl
 grant_notes_few node epoch Renewed = more_notes 0 1 [] (omega arith) no_notes
-grant_notes_few node epoch (Taken greatest) = more_notes 0 1 [] (omega arith) no_notes
+grant_notes_few node epoch (GreaterHeld greatest) = more_notes 0 1 [] (omega arith) no_notes
 grant_notes_few node epoch (Over greatest) = more_notes 0 1 [] (omega arith) no_notes
 
 count_passing : (cell : ℕ) (epoch : Epoch) (was : Bool) → All IsPassing (cond was [] (Counts cell epoch ∷ []))

@@ -13,7 +13,7 @@ use Rattle.mega_coordinator.specs.declared.answers.Counted.TheVariants.{No, Yes,
 use Rattle.mega_coordinator.specs.declared.answers.NotValid.{NotValid}
 use Rattle.mega_coordinator.specs.History.{epoch_after}
 use Rattle.mega_locks.specs.declared.asked.Asked.{Asked}
-use Rattle.mega_locks.specs.declared.asked.Asked.TheVariants.{Granted as IsGranted, Renewed, Taken, Over}
+use Rattle.mega_locks.specs.declared.asked.Asked.TheVariants.{Granted as IsGranted, Renewed, GreaterHeld, Over}
 use Rattle.mega_locks.specs.History.{first_term, lapse_for, lock_of, nodes}
 use Rattle.mega_wire.specs.declared.message.Body.{Body}
 use Rattle.mega_wire.specs.declared.message.Body.TheVariants.{Acquire, Granted, Invalidate}
@@ -202,7 +202,7 @@ all_plain applies valid answers a v w = All-append IsPlain (applies ++ valid) an
 grant_no_lapse : (node : ℕ) (epoch : Epoch) (asked : Asked) → All IsNoLapse (grant_note node epoch asked)
 grant_no_lapse node epoch IsGranted = All-cons IsNoLapse (Grants node epoch) [] refl (All-nil IsNoLapse)
 grant_no_lapse node epoch Renewed = All-nil IsNoLapse
-grant_no_lapse node epoch (Taken greatest) = All-nil IsNoLapse
+grant_no_lapse node epoch (GreaterHeld greatest) = All-nil IsNoLapse
 grant_no_lapse node epoch (Over greatest) = All-nil IsNoLapse
 
 if_no_lapse : (t : Bool) (items : List Met) → All IsNoLapse items → All IsNoLapse (cond t items [])

@@ -9,8 +9,8 @@ use Rattle.mega_replica.specs.declared.rows.StoredRows.{StoredRows}
 use Rattle.mega_cluster.specs.declared.cluster.Cluster.{Cluster}
 use Rattle.mega_handler.specs.Named.{Meanings}
 use Rattle.mega_core.specs.Stepping.{IsTooLate, IsUnserved}
-use Rattle.mega_core.specs.of_taking.declared.fault.StepFault.{StepFault}
-use Rattle.mega_core.specs.of_stepping.declared.step.Step.{Step}
+use Rattle.mega_core.specs.of_node_events.declared.fault.StepFault.{StepFault}
+use Rattle.mega_core.specs.of_step_parts.declared.step.Step.{Step}
 use Rattle.mega_wal.specs.declared.answers.LogFault.{LogFault}
 use Rattle.mega_wal.specs.declared.answers.LogFault.TheVariants.{BadRecord, DiskFault, Full, NoMemory, Spent}
 use Rattle.mega_rules.specs.Met.{Met}

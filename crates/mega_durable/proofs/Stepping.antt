@@ -19,12 +19,12 @@ use Rattle.mega_leases.specs.Opening.{AreOwed}
 use Rattle.mega_core.specs.of_node_laws.Acted.{acted_on, own_item}
 use Rattle.mega_core.specs.of_node_laws.Own.{HasOwnRows}
 use Rattle.mega_core.specs.declared.node.Node.{Node}
-use Rattle.mega_core.specs.of_stepping.declared.note.Note.{Note}
-use Rattle.mega_core.specs.of_stepping.declared.step.Step.{Step}
-use Rattle.mega_core.specs.of_stepping.Notes.{met_of}
-use Rattle.mega_core.specs.of_stepping.Staging.{Stages}
+use Rattle.mega_core.specs.of_step_parts.declared.note.Note.{Note}
+use Rattle.mega_core.specs.of_step_parts.declared.step.Step.{Step}
+use Rattle.mega_core.specs.of_step_parts.Notes.{met_of}
+use Rattle.mega_core.specs.of_step_parts.Staging.{Stages}
 use Rattle.mega_core.specs.Standing.{StandsFor}
-use Rattle.mega_core.proofs.of_stepping.Staged.{nothing_staged}
+use Rattle.mega_core.proofs.of_step_parts.Staged.{nothing_staged}
 use Rattle.mega_promises.specs.Runs.{is_durable, owes, replies_in}
 use Rattle.mega_voter.specs.Used.{LogUsed}
 use Rattle.mega_durable.specs.declared.cut.Cut.{Cut}

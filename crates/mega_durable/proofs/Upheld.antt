@@ -16,7 +16,7 @@ use Rattle.mega_voter.proofs.Begun.{Beside}
 use Rattle.mega_voter.proofs.Held.{silent_held}
 use Rattle.mega_core.specs.of_node_laws.Acted.{own_item}
 use Rattle.mega_core.proofs.of_node_laws.Ending.{step_met}
-use Rattle.mega_core.specs.of_stepping.Staging.{Stages}
+use Rattle.mega_core.specs.of_step_parts.Staging.{Stages}
 use Rattle.mega_promises.specs.Runs.{AsItWas, Recorded, owes, replies_in}
 use Rattle.mega_durable.specs.Cut.{HoldsCut, MayLeave}
 use Rattle.mega_durable.proofs.Noted.{HasParts, is_noted, step_parts}

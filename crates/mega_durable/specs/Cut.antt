@@ -13,9 +13,9 @@ use Rattle.mega_leases.specs.Opening.{AreOwed}
 use Rattle.mega_voter.specs.Used.{LogUsed}
 use Rattle.mega_voter.specs.Holding.{HoldsMet}
 use Rattle.mega_core.specs.of_node_laws.Acted.{own_item}
-use Rattle.mega_core.specs.of_stepping.declared.step.Step.{Step}
+use Rattle.mega_core.specs.of_step_parts.declared.step.Step.{Step}
 use Rattle.mega_core.specs.Faults.{of_store}
-use Rattle.mega_core.specs.of_stepping.Notes.{met_of}
+use Rattle.mega_core.specs.of_step_parts.Notes.{met_of}
 use Rattle.mega_promises.specs.Runs.{AsItWas, Left, Recorded, appends, is_durable, is_kept, owes, replies_in}
 use Rattle.mega_durable.specs.declared.fault.UpFault.{UpFault}
 use Rattle.mega_durable.specs.declared.fault.UpFault.TheVariants as up

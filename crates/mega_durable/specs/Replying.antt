@@ -5,7 +5,7 @@ use Rattle.mega_wire.specs.declared.message.Body.{Body}
 use Rattle.mega_wire.specs.declared.message.Body.TheVariants.{Where, Accept, Prepare, Invalidate, Dead, Fetch, Acquire}
 use Rattle.mega_rules.specs.Members.{is_cell, is_full, is_voter}
 use Rattle.mega_rules.specs.Met.{Met, Unsends}
-use Rattle.mega_core.specs.of_stepping.Notes.{met_of}
+use Rattle.mega_core.specs.of_step_parts.Notes.{met_of}
 use Rattle.mega_durable.specs.declared.cut.Cut.{Cut}
 
 abbrev pub replies_at : Cluster → ℕ → Body → Bool

@@ -14,10 +14,10 @@ use Rattle.mega_rules.specs.Logs.{groups_of}
 use Rattle.mega_rules.specs.Met.{Met}
 use Rattle.mega_rules.specs.Steps.{applied_at}
 use Rattle.mega_wal.specs.declared.kept.Kept.{Kept}
-use Rattle.mega_core.specs.of_taking.declared.fault.StepFault.{StepFault}
-use Rattle.mega_core.specs.of_taking.declared.fault.StepFault.TheVariants as step
+use Rattle.mega_core.specs.of_node_events.declared.fault.StepFault.{StepFault}
+use Rattle.mega_core.specs.of_node_events.declared.fault.StepFault.TheVariants as step
 use Rattle.mega_core.specs.declared.node.Node.{Node}
-use Rattle.mega_core.specs.of_stepping.Behind.{Keeps}
+use Rattle.mega_core.specs.of_step_parts.Behind.{Keeps}
 use Rattle.mega_durable.specs.declared.fault.UpFault.{UpFault}
 use Rattle.mega_durable.specs.declared.fault.UpFault.TheVariants as up
 

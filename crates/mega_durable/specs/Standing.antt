@@ -17,7 +17,7 @@ use Rattle.mega_voter.specs.Holding.{HoldsMet, Recalls}
 use Rattle.mega_voter.specs.Journal.{journal_of}
 use Rattle.mega_core.specs.of_node_laws.Acted.{acted_on}
 use Rattle.mega_core.specs.of_node_laws.Own.{HasOwnRows}
-use Rattle.mega_core.specs.of_actions.of_proposing.Settings.{setting}
+use Rattle.mega_core.specs.of_actions.of_step_work.Settings.{setting}
 use Rattle.mega_core.specs.declared.node.Node.{Node}
 use Rattle.mega_core.specs.Restarting.{HaveFollowed}
 use Rattle.mega_core.specs.Standing.{StandsFor}

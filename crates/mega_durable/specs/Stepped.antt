@@ -10,7 +10,7 @@ use Rattle.mega_rules.specs.Steps.{Event, step}
 use Rattle.mega_voter.specs.Holding.{HoldsMet}
 use Rattle.mega_voter.specs.Journal.{journal_of}
 use Rattle.mega_core.specs.declared.node.Node.{Node}
-use Rattle.mega_core.specs.of_stepping.Staging.{Stages}
+use Rattle.mega_core.specs.of_step_parts.Staging.{Stages}
 use Rattle.mega_core.specs.Standing.{StandsFor}
 use Rattle.mega_durable.specs.Granted.{KeepsGrants}
 use Rattle.mega_durable.specs.Standing.{IsUp, MayHappen, records_in, setting_of}

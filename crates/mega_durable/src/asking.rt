@@ -13,7 +13,7 @@ use crate::up::Up;
 use mega_base::{Epoch, OpId};
 use mega_cluster::Cluster;
 use mega_core::mega_propose::is_same_op;
-use mega_core::mega_stepping::mega_operations::Operation;
+use mega_core::mega_step_parts::mega_operations::Operation;
 use mega_core::next_op;
 use mega_disk::{Records, Versions};
 

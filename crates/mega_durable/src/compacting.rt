@@ -13,8 +13,8 @@ use crate::keeping::is_cut;
 use crate::up::Up;
 use mega_base::Items;
 use mega_disk::{Records, Versions};
-use mega_formed::are_items;
 use mega_wal::{LogFault, Logs};
+use mega_well_formed::are_items;
 use std::alloc::Global;
 
 /// Why a log was not compacted. Where the device failed nothing is owed, for no step was taken.

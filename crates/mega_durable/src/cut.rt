@@ -1,12 +1,12 @@
 //! What a step that is cut off leaves for the next start to tell.
 ghost use Rattle.std.specs.Prelude.{◌≡◌, filter, map, take};
 ghost use Rattle.mega_leases.specs.Notes.{met_of as leases_met};
-ghost use Rattle.mega_core.specs.of_stepping.Notes.{met_of};
+ghost use Rattle.mega_core.specs.of_step_parts.Notes.{met_of};
 ghost use Rattle.mega_promises.specs.Runs.{is_durable};
 
 use mega_base::Items;
-use mega_core::mega_actions::mega_proposing::{Answered, Valid};
-use mega_core::mega_stepping::{Note, Step};
+use mega_core::mega_actions::mega_step_work::{Answered, Valid};
+use mega_core::mega_step_parts::{Note, Step};
 use mega_wire::Message;
 
 /// What the next start owes of a step that was cut off, where the step's record was kept: its grants, lapses and decision,
@@ -18,11 +18,11 @@ pub struct Cut {
 }
 
 /// Whether a note of the cell or the coordinator is kept on the log.
-fn is_kept(note: &mega_leases::Note) -> bool
+fn is_kept(note: &mega_leases::LeaseNote) -> bool
     ensures { result ≡ is_durable (leases_met note.now) }
 {
-    use mega_leases::Note;
-    matches!(note, Note::Grants { .. } | Note::Lapses { .. })
+    use mega_leases::LeaseNote;
+    matches!(note, LeaseNote::Grants { .. } | LeaseNote::Lapses { .. })
 }
 
 /// Whether it is kept on the log that a group became valid: it is not.

@@ -12,11 +12,11 @@ ghost use Rattle.mega_durable.specs.Stepped.{AtStep};
 use crate::cut::handed_back;
 use crate::fault::UpFault;
 use mega_core::Node;
-use mega_core::mega_stepping::Step;
+use mega_core::mega_step_parts::Step;
 use mega_disk::{Records, Versions};
-use mega_formed::are_items;
 use mega_voter::Voter;
 use mega_wal::LogFault;
+use mega_well_formed::are_items;
 use std::alloc::Global;
 
 /// The greatest number of items that a record has.

@@ -2,42 +2,42 @@
 ghost use Rattle.std.specs.Prelude.{◌≡◌, ◌∷◌, []};
 ghost use Rattle.mega_promises.specs.Items.{shown};
 ghost use Rattle.mega_leases.specs.Notes.{met_of as leases_met};
-ghost use Rattle.mega_core.specs.of_stepping.Notes.{met_of};
+ghost use Rattle.mega_core.specs.of_step_parts.Notes.{met_of};
 
 use mega_base::{NodeId, Position};
-use mega_core::mega_stepping::Note;
+use mega_core::mega_step_parts::Note;
 use mega_transcript::Item;
 
 /// The item that shows what a node's cell or coordinator notes.
-fn lease_item(me: u8, note: mega_leases::Note) -> Item
+fn lease_item(me: u8, note: mega_leases::LeaseNote) -> Item
     ensures { shown me (leases_met note) ≡ result ∷ [] }
 {
-    use mega_leases::Note;
+    use mega_leases::LeaseNote;
     let own = NodeId(me);
     match note {
-        Note::Grants { node, epoch } => Item::Grant {
+        LeaseNote::Grants { node, epoch } => Item::Grant {
             cell: me,
             node,
             epoch,
         },
-        Note::Lapses { node, epoch } => Item::Lapse {
+        LeaseNote::Lapses { node, epoch } => Item::Lapse {
             cell: me,
             node,
             epoch,
         },
-        Note::Counts { cell, epoch } => Item::Counts {
+        LeaseNote::Counts { cell, epoch } => Item::Counts {
             node: own,
             cell,
             epoch,
         },
-        Note::Forgets { cell, epoch } => Item::Forgets {
+        LeaseNote::Forgets { cell, epoch } => Item::Forgets {
             node: own,
             cell,
             epoch,
         },
-        Note::Serves { epoch } => Item::Serving { node: own, epoch },
-        Note::Loses { epoch } => Item::Lost { node: own, epoch },
-        Note::Invalidates { group, position } => Item::Invalid {
+        LeaseNote::Serves { epoch } => Item::Serving { node: own, epoch },
+        LeaseNote::Loses { epoch } => Item::Lost { node: own, epoch },
+        LeaseNote::Invalidates { group, position } => Item::Invalid {
             node: own,
             group,
             position,

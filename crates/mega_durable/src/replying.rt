@@ -2,12 +2,12 @@
 ghost use Rattle.std.specs.Prelude.{◌≡◌, if◌then◌else◌, List, length};
 ghost use Rattle.mega_rules.specs.Members.{is_cell, is_full, is_voter};
 ghost use Rattle.mega_rules.specs.Met.{Met};
-ghost use Rattle.mega_core.specs.of_stepping.Events.{event_of};
+ghost use Rattle.mega_core.specs.of_step_parts.Events.{event_of};
 ghost use Rattle.mega_promises.specs.Runs.{replies_in};
 ghost use Rattle.mega_durable.specs.Replying.{replies_at};
 
 use mega_cluster::Cluster;
-use mega_core::mega_stepping::Event;
+use mega_core::mega_step_parts::Event;
 use mega_kinds::{is_cell, is_full, is_voter};
 use mega_wire::Body;
 

@@ -6,7 +6,7 @@ ghost use Rattle.mega_disk.specs.VersionMaps.{SameVersions};
 ghost use Rattle.mega_rules.specs.Logs.{groups_of};
 ghost use Rattle.mega_rules.specs.Met.{Met};
 ghost use Rattle.mega_voter.specs.Telling.{Tells};
-ghost use Rattle.mega_core.specs.of_taking.declared.fault.StepFault.TheVariants.{BadRecord, Full as StepFull};
+ghost use Rattle.mega_core.specs.of_node_events.declared.fault.StepFault.TheVariants.{BadRecord, Full as StepFull};
 ghost use Rattle.mega_durable.specs.declared.fault.UpFault.TheVariants.{Step as Failed};
 ghost use Rattle.mega_durable.specs.Compacting.{AtEachUp};
 ghost use Rattle.mega_durable.specs.Cut.{failed_by};

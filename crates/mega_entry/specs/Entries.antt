@@ -1,22 +1,22 @@
 -- The format of log entries.
 use Rattle.std.specs.Prelude.{◌≡◌, ℕ, zero, suc, ◌+◌, ◌-◌, ◌≤◌, ◌==◌, if◌then◌else◌, List, [], ◌∷◌, ◌++◌, length, sum_by, Option, Some, None, IsSome, Ok}
 use Rattle.std.specs.List.{flat_map}
-use Rattle.mega_base.specs.Reading.{Place, Read, ◌>>=◌, byte_in, number_in, list_in, option_at}
+use Rattle.mega_base.specs.Reading.{Place, Read, ◌>>=◌, byte_in, number_in, list_in, option_at, nested_at}
+use Rattle.mega_base.specs.Pairs.{pair_at}
 use Rattle.mega_base.specs.Codec.{IsBetween, one_byte, IsList, list_text, option_text, IsOption, bytes_text}
-use Rattle.mega_base.specs.Names.{u32_at, u32_text, IsU32, node_at, node_text, IsNode, position_at, position_text, IsPosition, op_at, op_text, IsOp, string_at, IsString, group_at, group_text, IsGroup}
+use Rattle.mega_base.specs.Names.{u32_at, u32_text, IsU32, node_at, node_text, IsNode, position_at, position_in, position_text, IsPosition, op_at, op_text, IsOp, string_at, IsString, group_at, group_text, IsGroup}
 use Rattle.mega_base.specs.Utf8.{text_in, IsTextIn}
 use Rattle.mega_base.specs.Values.{row_at, row_text, IsRow}
+use Rattle.mega_base.specs.declared.names.GroupId.{GroupId}
 use Rattle.mega_base.specs.declared.names.OpId.{OpId}
+use Rattle.mega_base.specs.declared.names.Position.{Position}
+pub use Rattle.mega_base.specs.Names.{greatest_u32 as most_items}
 use Rattle.mega_entry.specs.declared.content.Write.{Write}
 use Rattle.mega_entry.specs.declared.content.Name.{Name}
 use Rattle.mega_entry.specs.declared.content.Send.{Send}
 use Rattle.mega_entry.specs.declared.content.Enter.{Enter}
 use Rattle.mega_entry.specs.declared.content.Cut.{Cut}
 use Rattle.mega_entry.specs.declared.content.Content.{Content}
-
--- the greatest count of a list
-abbrev pub most_items : ℕ
-most_items = 4294967295
 
 -- a key, and a row or none
 unfoldable pub write_at : Place → Read Write
@@ -206,3 +206,18 @@ pub record IsEntry (e : Content) : Type 0 where
   pub enters : IsList 0 most_items IsEnter e.enters
   pub handles : IsList 0 most_items IsName e.handles
   pub cuts : HasCuts e e.cuts
+
+-- fields of messages and of journal items: positions from 1 to 1,000,000; an entry, which is the length of its text, up to 65,536, and the text
+
+abbrev pub log_position_at : Place → Read Position
+log_position_at p = position_in 1 1000000 p
+
+abbrev pub entry_field_at : Place → Read Content
+entry_field_at p = nested_at 65536 entry_at p
+
+abbrev pub decide_fields : Place → Read (GroupId × (Position × Content))
+decide_fields = pair_at group_at (pair_at log_position_at entry_field_at)
+
+-- an operation's entry that holds nothing
+abbrev pub entry_by : OpId → Content
+entry_by op = record { id = Some op; leader = op.node; writes = []; sends = []; enters = []; handles = []; cuts = [] }

@@ -1,5 +1,7 @@
 -- Whether two entries, two rows or two values are equal, part by part.
-use Rattle.std.specs.Prelude.{ℕ, ◌==◌, ◌&&◌, ℤ, int_le, Bool, true, false, not, List, [], ◌∷◌, Option, Some, None}
+use Rattle.std.specs.Prelude.{ℕ, ◌==◌, ◌&&◌, ℤ, int_le, Bool, true, false, not, List}
+pub use Rattle.std.specs.Cmp.Lexicographic.{pointwise as same_list}
+pub use Rattle.std.specs.Option.{option_eq as same_option}
 use Rattle.mega_base.specs.declared.names.OpId.{OpId}
 use Rattle.mega_base.specs.declared.names.GroupId.{GroupId}
 use Rattle.mega_base.specs.declared.values.Value.{Value}
@@ -12,18 +14,6 @@ use Rattle.mega_entry.specs.declared.content.Send.{Send}
 use Rattle.mega_entry.specs.declared.content.Enter.{Enter}
 use Rattle.mega_entry.specs.declared.content.Cut.{Cut}
 use Rattle.mega_entry.specs.declared.content.Content.{Content}
-
-abbrev pub same_list : {X : Type 0} → (X → X → Bool) → List X → List X → Bool
-same_list same [] [] = true
-same_list same [] (y ∷ ys) = false
-same_list same (x ∷ xs) [] = false
-same_list same (x ∷ xs) (y ∷ ys) = same x y && same_list same xs ys
-
-abbrev pub same_option : {X : Type 0} → (X → X → Bool) → Option X → Option X → Bool
-same_option same None None = true
-same_option same None (Some y) = false
-same_option same (Some x) None = false
-same_option same (Some x) (Some y) = same x y
 
 abbrev pub same_number : ℕ → ℕ → Bool
 same_number a b = a == b

@@ -12,7 +12,7 @@ use Rattle.mega_wire.specs.declared.message.Body.TheVariants.{Acquire}
 use Rattle.mega_wire.specs.Messages.{IsMessage}
 use Rattle.mega_wal.specs.History.{after_grant, after_lapse, is_epoch_below, is_same_epoch}
 use Rattle.mega_locks.specs.declared.asked.Asked.{Asked}
-use Rattle.mega_locks.specs.declared.asked.Asked.TheVariants.{Granted, Renewed, Taken, Over}
+use Rattle.mega_locks.specs.declared.asked.Asked.TheVariants.{Granted, Renewed, GreaterHeld, Over}
 use Rattle.mega_locks.specs.declared.lock.Lock.{Lock}
 use Rattle.mega_locks.specs.declared.lock.Lock.TheVariants.{Free, Held, Ended}
 use Rattle.mega_locks.specs.declared.lock.Term.{Term}
@@ -20,7 +20,7 @@ use Rattle.mega_locks.specs.History.{Call, Reopens, Asks, Ticks as CellTicks, fi
 use Rattle.mega_locks.specs.Rule.{after_answer, after_lapse as lapsed, answer, asked, is_above, is_same, lapse, opened, reopened}
 use Rattle.mega_coordinator.specs.declared.lease.Lease.{Lease}
 use Rattle.mega_coordinator.specs.Lease.{counts, next_count, next_lease, past_ends, tick_ends}
-use Rattle.mega_coordinator.specs.History.{Call as Told, Ticks as TickTold, Grants as GrantTold, Passes, epoch_after, lease_of}
+use Rattle.mega_coordinator.specs.History.{Call as CoordinatorCall, Ticks as CoordinatorTicks, Grants as CoordinatorGrants, Passes, epoch_after, lease_of}
 use Rattle.mega_voter.specs.of_rules.Met.{Met, Starts, Ticks, Takes, Grants, Lapses}
 use Rattle.mega_voter.specs.of_rules.Members.{is_cell, keep_of}
 use Rattle.mega_voter.specs.of_rules.Clock.{clock_of, is_opening}
@@ -107,7 +107,7 @@ reopened_formed (Ended g) epoch held h e = either IsLock (is_above epoch g) (ope
 after_formed : (answered : Asked) (lock : Lock) (epoch : Epoch) (renewed : Option Term) → IsLock lock → IsEpoch epoch → IsLock (after_answer answered lock epoch renewed)
 after_formed Granted lock epoch renewed h e = e
 after_formed Renewed lock epoch renewed h e = e
-after_formed (Taken g) lock epoch renewed h e = h
+after_formed (GreaterHeld g) lock epoch renewed h e = h
 after_formed (Over g) lock epoch renewed h e = h
 
 lapsed_formed : (found : Option Epoch) (lock : Lock) → IsOption IsEpoch found → IsLock lock → IsLock (lapsed found lock)
@@ -131,12 +131,12 @@ lock_formed (CellTicks now keep ∷ before) node h = lapsed_formed (lapse (first
 abbrev pub IsAsked : Asked → Type 0
 IsAsked Granted = Unit {0}
 IsAsked Renewed = Unit {0}
-IsAsked (Taken greatest) = IsEpoch greatest
+IsAsked (GreaterHeld greatest) = IsEpoch greatest
 IsAsked (Over greatest) = IsEpoch greatest
 
 answer_formed : (lock : Lock) (epoch : Epoch) → IsLock lock → IsAsked (answer lock epoch)
 answer_formed Free epoch h = tt
-answer_formed (Held g renewed) epoch h = either IsAsked (is_above epoch g) Granted _ tt (either IsAsked (is_same epoch g) Renewed (Taken g) tt h)
+answer_formed (Held g renewed) epoch h = either IsAsked (is_above epoch g) Granted _ tt (either IsAsked (is_same epoch g) Renewed (GreaterHeld g) tt h)
 answer_formed (Ended g) epoch h = either IsAsked (is_above epoch g) Granted (Over g) tt h
 
 pub asked_for_formed : (c : Cluster) (me : ℕ) (met : List Met) (node : ℕ) (epoch : Epoch) → IsMet met → IsAsked (asked_for c me met node epoch)
@@ -147,7 +147,7 @@ asked_for_formed c me met node epoch h = answer_formed (lock_of (cell_calls c me
 pub grant_note_formed : (node : ℕ) (epoch : Epoch) (answered : Asked) → IsMember node → IsEpoch epoch → IsMet (grant_note node epoch answered)
 grant_note_formed node epoch Granted m e = ((m, e), tt)
 grant_note_formed node epoch Renewed m e = tt
-grant_note_formed node epoch (Taken greatest) m e = tt
+grant_note_formed node epoch (GreaterHeld greatest) m e = tt
 grant_note_formed node epoch (Over greatest) m e = tt
 
 lapse_note_formed : (node : ℕ) (found : Option Epoch) → IsMember node → IsOption IsEpoch found → IsMet (lapse_note node found)
@@ -182,10 +182,10 @@ ended_formed : (t : Bool) (lease other : Lease) → IsLease lease → other.coun
 ended_formed true lease other h e = next_formed lease.count h
 ended_formed false lease other h e = subst IsCount (sym e) h
 
-lease_formed : (start cells : ℕ) (calls : List Told) → IsLease (lease_of start cells calls)
+lease_formed : (start cells : ℕ) (calls : List CoordinatorCall) → IsLease (lease_of start cells calls)
 lease_formed start cells [] = (omega arith, omega arith)
-lease_formed start cells (TickTold now ∷ before) = ended_formed (tick_ends cells (lease_of start cells before) now) (lease_of start cells before) _ (lease_formed start cells before) refl
-lease_formed start cells (GrantTold cell epoch until now ∷ before) = either IsLease (counts start cells (lease_of start cells before) cell epoch until now) _ _ (lease_formed start cells before) (lease_formed start cells before)
+lease_formed start cells (CoordinatorTicks now ∷ before) = ended_formed (tick_ends cells (lease_of start cells before) now) (lease_of start cells before) _ (lease_formed start cells before) refl
+lease_formed start cells (CoordinatorGrants cell epoch until now ∷ before) = either IsLease (counts start cells (lease_of start cells before) cell epoch until now) _ _ (lease_formed start cells before) (lease_formed start cells before)
 lease_formed start cells (Passes epoch ∷ before) = ended_formed (past_ends start (lease_of start cells before) epoch) (lease_of start cells before) (lease_of start cells before) (lease_formed start cells before) refl
 lease_formed start cells (_ ∷ before) = lease_formed start cells before
 
@@ -193,5 +193,5 @@ counted_formed : (start : ℕ) (count : Option ℕ) → IsU32 start → IsCount 
 counted_formed start None s h = tt
 counted_formed start (Some count) s h = (s, h)
 
-pub epoch_formed : (start cells : ℕ) (calls : List Told) → IsU32 start → IsOption IsEpoch (epoch_after start cells calls)
+pub epoch_formed : (start cells : ℕ) (calls : List CoordinatorCall) → IsU32 start → IsOption IsEpoch (epoch_after start cells calls)
 epoch_formed start cells calls s = counted_formed start (lease_of start cells calls).count s (lease_formed start cells calls)

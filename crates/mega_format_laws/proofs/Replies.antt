@@ -27,7 +27,7 @@ use Rattle.mega_wal.specs.declared.answers.Voted.{Voted as AcceptAnswer}
 use Rattle.mega_wal.specs.declared.answers.Voted.TheVariants as vote
 use Rattle.mega_locks.specs.declared.asked.Asked.{Asked}
 use Rattle.mega_locks.specs.declared.asked.Asked.TheVariants as lock
-use Rattle.mega_coordinator.specs.History.{Call as Told, Ticks as TickTold, counted_cells, epoch_after, serving}
+use Rattle.mega_coordinator.specs.History.{Call as CoordinatorCall, Ticks as CoordinatorTicks, counted_cells, epoch_after, serving}
 use Rattle.mega_voter.specs.of_rules.of_read.of_propose.Members.{others}
 use Rattle.mega_voter.specs.of_rules.Met.{Met}
 use Rattle.mega_voter.specs.of_rules.Members.{cells, has_rows, is_cell, is_full, is_voter, nodes, voters}
@@ -123,7 +123,7 @@ held_formed op cell node (Some epoch) o c n = (tt, (o, (c, n)))
 lock_formed : (cell : ℕ) (epoch : Epoch) (clock : ℕ) (asked : Asked) → IsBetween 1 5 cell → IsEpoch epoch → IsClock clock → IsAsked asked → IsReply (lock_answer cell epoch clock asked)
 lock_formed cell epoch clock lock.Granted c e t h = (tt, (c, (e, t)))
 lock_formed cell epoch clock lock.Renewed c e t h = (tt, (c, (e, t)))
-lock_formed cell epoch clock (lock.Taken greatest) c e t h = (tt, (c, (e, h)))
+lock_formed cell epoch clock (lock.GreaterHeld greatest) c e t h = (tt, (c, (e, h)))
 lock_formed cell epoch clock (lock.Over greatest) c e t h = (tt, (c, (e, h)))
 
 answer_formed : (c : Cluster) (me : ℕ) (met : List Met) (from : ℕ) (body : Body) → IsMet met → IsBody body → IsAnswer (answer_to c me met from body)
@@ -200,12 +200,12 @@ asked_formed : (c : Cluster) (counted : List Bool) (serves : Option Epoch) → I
 asked_formed c counted None h = cells_formed c h
 asked_formed c counted (Some epoch) h = each_filter (IsBetween 1 5) (is_cell_in counted) (cells c) (cells_formed c h)
 
-acquires_formed : (c : Cluster) (me : ℕ) (calls : List Told) (start now : ℕ) (epoch : Option Epoch) → IsCluster c → IsMember me → IsClock now → IsOption IsEpoch epoch → AreMessages (acquires c me calls start now epoch)
+acquires_formed : (c : Cluster) (me : ℕ) (calls : List CoordinatorCall) (start now : ℕ) (epoch : Option Epoch) → IsCluster c → IsMember me → IsClock now → IsOption IsEpoch epoch → AreMessages (acquires c me calls start now epoch)
 acquires_formed c me calls start now None h m t e = tt
 acquires_formed c me calls start now (Some epoch) h m t e = each_map (IsBetween 1 5) IsMessage (acquire_to me epoch now) (λ cell is. acquire_formed me epoch now cell m e t is)
     (asked_cells c (counted_cells start c.cells calls) (serving start c.cells calls)) (asked_formed c (counted_cells start c.cells calls) (serving start c.cells calls) h)
 
 pub acquires_at_formed : (c : Cluster) (me : ℕ) (met : List Met) (now : ℕ) → IsCluster c → IsMember me → IsMet met → IsClock now → AreMessages (acquires_at c me met now)
 acquires_at_formed c me met now h m k t = either AreMessages (is_full c me && does_again c.retry (ticks_of met) now) _ []
-    (acquires_formed c me (TickTold now ∷ coordinator_calls c met) (start_of met) now (epoch_after (start_of met) c.cells (TickTold now ∷ coordinator_calls c met)) h m t
-    (epoch_formed (start_of met) c.cells (TickTold now ∷ coordinator_calls c met) (start_formed met k))) tt
+    (acquires_formed c me (CoordinatorTicks now ∷ coordinator_calls c met) (start_of met) now (epoch_after (start_of met) c.cells (CoordinatorTicks now ∷ coordinator_calls c met)) h m t
+    (epoch_formed (start_of met) c.cells (CoordinatorTicks now ∷ coordinator_calls c met) (start_formed met k))) tt

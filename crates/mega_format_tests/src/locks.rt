@@ -42,7 +42,7 @@ fn a_lapsed_epoch_is_never_granted_again(rt: HostRuntime) {
     check_asked(&rt, &mut cell, 0, Asked::Over { epoch: epoch(0) });
     check_asked(&rt, &mut cell, 1, Asked::Granted);
     check_asked(&rt, &mut cell, 1, Asked::Renewed);
-    check_asked(&rt, &mut cell, 0, Asked::Taken { epoch: epoch(1) });
+    check_asked(&rt, &mut cell, 0, Asked::GreaterHeld { epoch: epoch(1) });
 }
 
 #[test]

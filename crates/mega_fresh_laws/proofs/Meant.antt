@@ -41,12 +41,12 @@ MayBegin c usage me _ = Unit {0}
 
 -- ---- where a run stands
 
-pub record Reached (c : Cluster) (usage : Usage) (first : Meanings) (cuts : Cuts) (now : Standing) : Type 0 where
+pub record ReachedByRun (c : Cluster) (usage : Usage) (first : Meanings) (cuts : Cuts) (now : Standing) : Type 0 where
   pub events : List Happening
   pub fits : Fits usage events
   pub is : now ≡ goes_on c cuts (opening c first) events
 
-abbrev pub run_of : (c : Cluster) (usage : Usage) (first : Meanings) (cuts : Cuts) (now : Standing) → (r : Reached c usage first cuts now) → IsRun c first r.events now.tape
+abbrev pub run_of : (c : Cluster) (usage : Usage) (first : Meanings) (cuts : Cuts) (now : Standing) → (r : ReachedByRun c usage first cuts now) → IsRun c first r.events now.tape
 run_of c usage first cuts now r = record { cuts = cuts; tape_is = ap (λ (s : Standing). s.tape) r.is }
 
 goes_more : (c : Cluster) (cuts : Cuts) (events : List Happening) (one : Happening) (at : Standing)
@@ -54,8 +54,8 @@ goes_more : (c : Cluster) (cuts : Cuts) (events : List Happening) (one : Happeni
 goes_more c cuts [] one at = refl
 goes_more c cuts (event ∷ events) one at = goes_more c cuts events one (unless_refused at (after_event c event.handlers cuts at event.event) (refusal c at event.event))
 
-pub reach_more : (c : Cluster) (usage : Usage) (first : Meanings) (cuts : Cuts) (now : Standing) → Reached c usage first cuts now → (one : Happening) → FitsOne usage one → refusal c now one.event ≡ None
-    → Reached c usage first cuts (after_event c one.handlers cuts now one.event)
+pub reach_more : (c : Cluster) (usage : Usage) (first : Meanings) (cuts : Cuts) (now : Standing) → ReachedByRun c usage first cuts now → (one : Happening) → FitsOne usage one → refusal c now one.event ≡ None
+    → ReachedByRun c usage first cuts (after_event c one.handlers cuts now one.event)
 reach_more c usage first cuts now r one fits allowed = record {
   events = r.events ++ one ∷ [];
   fits = each_push (FitsOne usage) r.events one r.fits fits;
@@ -71,8 +71,8 @@ abbrev pub Shape : Type 1
 Shape = List Item → (ℕ → Node) → Type 0
 
 pub record Stays (c : Cluster) (usage : Usage) (first : Meanings) (cuts : Cuts) (Q : Shape) : Type 0 where
-  pub steps : (h : Meanings) (now : Standing) (me : ℕ) (item : Item) (event : Event) → Good (those_of usage) c now → Reached c usage first cuts now
-      → Reached c usage first cuts (whole_step c now me (item ∷ []) (step (setting c h me) (now.node me) event)) → is_up (now.node me).met ≡ true → MayBegin c usage me event
+  pub steps : (h : Meanings) (now : Standing) (me : ℕ) (item : Item) (event : Event) → Good (those_of usage) c now → ReachedByRun c usage first cuts now
+      → ReachedByRun c usage first cuts (whole_step c now me (item ∷ []) (step (setting c h me) (now.node me) event)) → is_up (now.node me).met ≡ true → MayBegin c usage me event
       → Occurs now.tape (setting c h me) (now.node me).met item event → ((nodes : ℕ → Node) → with_item c nodes now.tape item ≡ item ∷ now.tape) → Q now.tape now.node
       → Q (stepped c (set_at now.node me (step (setting c h me) (now.node me) event).node) me now.tape item (step (setting c h me) (now.node me) event)) (set_at now.node me (step (setting c h me) (now.node me) event).node)
   pub cuts_off : (h : Meanings) (now : Standing) (me : ℕ) (item : Item) (event : Event) → Good (those_of usage) c now → Occurs now.tape (setting c h me) (now.node me).met item event → Q now.tape now.node
@@ -91,7 +91,7 @@ module _ (c : Cluster) (usage : Usage) (first : Meanings) (cuts : Cuts) (Q : Sha
   IsGood now = Good (those_of usage) c now
 
   abbrev Reaches : Standing → Type 0
-  Reaches now = Reached c usage first cuts now
+  Reaches now = ReachedByRun c usage first cuts now
 
   fated_stays : (h : Meanings) (now : Standing) (me : ℕ) (item : Item) (event : Event) (fate : Fate) → IsGood now → Reaches now
       → Reaches (fated c now me (item ∷ []) (met_in (setting c h me) (now.node me).met event) (step (setting c h me) (now.node me) event) (replies_in c me (now.node me).met event) fate)
@@ -175,13 +175,13 @@ module _ (c : Cluster) (usage : Usage) (first : Meanings) (cuts : Cuts) (Q : Sha
 
   -- ---- a drain is a run of deliveries
 
-  record Kept (now : Standing) : Type 0 where
+  record HoldsNow (now : Standing) : Type 0 where
     good : IsGood now
     reached : Reaches now
     held : At now
 
   module _ (h : Meanings) (b : Brought usage h) where
-    delivers : (now : Standing) (j : ℕ) (o : Option Message) → message_of now.tape j ≡ o → receiver_down now o ≡ false → Reaches (handed c h cuts now j o) → Kept now → Kept (handed c h cuts now j o)
+    delivers : (now : Standing) (j : ℕ) (o : Option Message) → message_of now.tape j ≡ o → receiver_down now o ≡ false → Reaches (handed c h cuts now j o) → HoldsNow now → HoldsNow (handed c h cuts now j o)
     delivers now j None is down then x = record { good = x.good; reached = then; held = x.held }
     delivers now j (Some m) is down then x = record {
       good = handed_good (those_of usage) c h (λ f. b) cuts now j (Some m) is (not-false (up now m.to) down) x.good;
@@ -189,7 +189,7 @@ module _ (c : Cluster) (usage : Usage) (first : Meanings) (cuts : Cuts) (Q : Sha
       held = took_on h now j (Some m) is (not-false (up now m.to) down) x.good x.reached then x.held;
     }
 
-    delivered_kept : (now : Standing) (j : ℕ) → refusal c now (Deliver j) ≡ None → Kept now → Kept (delivered c h cuts now j)
+    delivered_kept : (now : Standing) (j : ℕ) → refusal c now (Deliver j) ≡ None → HoldsNow now → HoldsNow (delivered c h cuts now j)
     delivered_kept now j allowed x = delivers now j (message_of now.tape j) refl receiver
         (reach_more c usage first cuts now x.reached (record { handlers = h; event = Deliver j }) (record { brought = b; meant = tt }) allowed) x
       where
@@ -197,10 +197,10 @@ module _ (c : Cluster) (usage : Usage) (first : Meanings) (cuts : Cuts) (Q : Sha
         receiver = let second = (not_because (not (is_sent now.tape j)) 3 _ allowed).1 in let third = (not_because (is_dropped now.tape j) 4 _ second).1 in
             (not_because (receiver_down now (message_of now.tape j)) 1 None third).0
 
-    drained_kept : (most : ℕ) (now : Standing) → Kept now → Kept (drained c h cuts now most)
+    drained_kept : (most : ℕ) (now : Standing) → HoldsNow now → HoldsNow (drained c h cuts now most)
     drained_kept zero now x = by (next_delivery (up now) now.tape) (reach_more c usage first cuts now x.reached (record { handlers = h; event = Drain 0 }) (record { brought = b; meant = tt }) refl)
       where
-        by : (o : Option ℕ) → Reaches (unless_none now (λ j. marked now CutItem) o) → Kept (unless_none now (λ j. marked now CutItem) o)
+        by : (o : Option ℕ) → Reaches (unless_none now (λ j. marked now CutItem) o) → HoldsNow (unless_none now (λ j. marked now CutItem) o)
         by None then = x
         by (Some j) then = record {
           good = marked_good (those_of usage) c now CutItem (tape_item c now.tape CutItem tt (λ y q. refl) (λ v q. refl) (λ y. refl) tt (λ schema usage'. tt)) (λ y. refl) (λ schema usage'. tt) (λ y. refl) x.good;
@@ -209,14 +209,14 @@ module _ (c : Cluster) (usage : Usage) (first : Meanings) (cuts : Cuts) (Q : Sha
         }
     drained_kept (suc most) now x = by (next_delivery (up now) now.tape) refl (λ j. drained_kept most (delivered c h cuts now j))
       where
-        by : (o : Option ℕ) → next_delivery (up now) now.tape ≡ o → ((j : ℕ) → Kept (delivered c h cuts now j) → Kept (drained c h cuts (delivered c h cuts now j) most))
-            → Kept (unless_none now (λ j. drained c h cuts (delivered c h cuts now j) most) o)
+        by : (o : Option ℕ) → next_delivery (up now) now.tape ≡ o → ((j : ℕ) → HoldsNow (delivered c h cuts now j) → HoldsNow (drained c h cuts (delivered c h cuts now j) most))
+            → HoldsNow (unless_none now (λ j. drained c h cuts (delivered c h cuts now j) most) o)
         by None e more = x
         by (Some j) e more = more j (delivered_kept now j (not_refused now j e) x)
 
   -- ---- events
 
-  event_kept : (one : Happening) → FitsOne usage one → (now : Standing) → refusal c now one.event ≡ None → Kept now → Kept (after_event c one.handlers cuts now one.event)
+  event_kept : (one : Happening) → FitsOne usage one → (now : Standing) → refusal c now one.event ≡ None → HoldsNow now → HoldsNow (after_event c one.handlers cuts now one.event)
   event_kept one fits now allowed x = by one.event fits.meant allowed (reach_more c usage first cuts now x.reached one fits allowed)
     where
       h : Meanings
@@ -225,7 +225,7 @@ module _ (c : Cluster) (usage : Usage) (first : Meanings) (cuts : Cuts) (Q : Sha
       b : Brought usage h
       b = fits.brought
 
-      by : (event : WorldEvent) → IsMeant usage event → refusal c now event ≡ None → Reaches (after_event c h cuts now event) → Kept (after_event c h cuts now event)
+      by : (event : WorldEvent) → IsMeant usage event → refusal c now event ≡ None → Reaches (after_event c h cuts now event) → HoldsNow (after_event c h cuts now event)
       by (TickEvent node clock) meant r then =
           let second = (not_because (not (is_node c node.0)) 6 _ r).1 in let third = (not_because (not (up now node.0)) 1 _ second).0 in record {
             good = tick_good (those_of usage) c h (λ f. b) now node.0 clock (cuts now node.0) (not-false (up now node.0) third) x.good;
@@ -263,11 +263,11 @@ module _ (c : Cluster) (usage : Usage) (first : Meanings) (cuts : Cuts) (Q : Sha
                 (not-false (up now node.0) third) (not-false (is_node c node.0) first_two.0, meant) refl (λ nodes. refl) x.held;
           }
 
-  all_kept : (events : List Happening) (now : Standing) → Fits usage events → Kept now → Kept (goes_on c cuts now events)
+  all_kept : (events : List Happening) (now : Standing) → Fits usage events → HoldsNow now → HoldsNow (goes_on c cuts now events)
   all_kept [] now fits x = x
   all_kept (one ∷ events) now fits x = by (refusal c now one.event) refl (λ next. all_kept events next fits.1)
     where
-      by : (o : Option ℕ) → refusal c now one.event ≡ o → ((next : Standing) → Kept next → Kept (goes_on c cuts next events)) → Kept (goes_on c cuts (unless_refused now (after_event c one.handlers cuts now one.event) o) events)
+      by : (o : Option ℕ) → refusal c now one.event ≡ o → ((next : Standing) → HoldsNow next → HoldsNow (goes_on c cuts next events)) → HoldsNow (goes_on c cuts (unless_refused now (after_event c one.handlers cuts now one.event) o) events)
       by None r more = more (after_event c one.handlers cuts now one.event) (event_kept one fits.0 now r x)
       by (Some why) r more = more now x
 

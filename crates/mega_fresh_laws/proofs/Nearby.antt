@@ -40,7 +40,7 @@ use Rattle.mega_leased_laws.proofs.of_settled_laws.of_run_laws.Noted.{with_appen
 use Rattle.mega_leased_laws.proofs.of_settled_laws.of_run_laws.Runs.{run_polls}
 use Rattle.mega_leased_laws.proofs.of_settled_laws.of_run_laws.Silent.{flat_append}
 use Rattle.mega_leased_laws.proofs.of_settled_laws.of_run_laws.Standing.{Good}
-use Rattle.mega_leased_laws.proofs.of_settled_laws.of_run_laws.Told.{top_most}
+use Rattle.mega_leased_laws.proofs.of_settled_laws.of_run_laws.MayAnswer.{top_most}
 use Rattle.mega_leased_laws.proofs.of_settled_laws.of_run_laws.Turns.{each_on}
 use Rattle.mega_leased_laws.specs.of_settled_laws.Covering.{Earlier, WasCovered}
 use Rattle.mega_leased_laws.proofs.of_settled_laws.Behind.{run_decided}
@@ -57,10 +57,10 @@ use Rattle.mega_leased_laws.proofs.Forms.{stepped}
 use Rattle.mega_leased_laws.proofs.Held.{full_in, run_held}
 use Rattle.mega_leased_laws.proofs.Tops.{run_decided_most, then_most, top_more, top_onto}
 use Rattle.mega_leased_laws.proofs.Leased.{run_leased}
-use Rattle.mega_leased_laws.proofs.Told.{step_met}
+use Rattle.mega_leased_laws.proofs.TapeIsMet.{step_met}
 use Rattle.mega_fresh_laws.specs.Covering.{Covers, before_begin}
 use Rattle.mega_fresh_laws.proofs.Acting.{IsValidate, Locals}
-use Rattle.mega_fresh_laws.proofs.Meant.{Reached, run_of, those_of}
+use Rattle.mega_fresh_laws.proofs.Meant.{ReachedByRun, run_of, those_of}
 use Rattle.mega_fresh_laws.proofs.Moments.{IsCalm, Onward, calm_items}
 use Rattle.mega_leased_laws.proofs.Tails.{IsTail, Parted, front_each, front_of, step_parted}
 use Rattle.mega_leased_laws.proofs.of_run_laws.Picked.{in_both}
@@ -209,7 +209,7 @@ validates_tail notes h = each_on IsValidate IsTail one notes h
 -- ---- a step
 
 module _ (c : Cluster) (few : length c.nodes ≤ 9) (five : c.cells ≤ 5) (usage : Usage) (first : Meanings) (cuts : Cuts) (h : Meanings) (now : Standing) (me : ℕ) (item : Item) (event : Event)
-    (g : Good (those_of usage) c now) (r : Reached c usage first cuts now) (then : Reached c usage first cuts (whole_step c now me (item ∷ []) (step (setting c h me) (now.node me) event)))
+    (g : Good (those_of usage) c now) (r : ReachedByRun c usage first cuts now) (then : ReachedByRun c usage first cuts (whole_step c now me (item ∷ []) (step (setting c h me) (now.node me) event)))
     (up : is_up (now.node me).met ≡ true) (own : IsOwn item)
     (whole : (whole_step c now me (item ∷ []) (step (setting c h me) (now.node me) event)).tape ≡ stepped c (set_at now.node me (step (setting c h me) (now.node me) event).node) me now.tape item (step (setting c h me) (now.node me) event))
     (live : Each Lives (met_in (setting c h me) (now.node me).met event ∷ [])) (live_notes : Each Lives (step (setting c h me) (now.node me) event).notes) where

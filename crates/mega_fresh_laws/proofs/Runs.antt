@@ -43,7 +43,7 @@ use Rattle.mega_leased_laws.proofs.Tapes.{IsFree, are_items, free_follows, free_
 use Rattle.mega_fresh_laws.proofs.Acting.{IsValidate, Locals, NoteFar}
 use Rattle.mega_fresh_laws.proofs.Heeding.{Open}
 use Rattle.mega_fresh_laws.proofs.Knowing.{known_notes}
-use Rattle.mega_fresh_laws.proofs.Meant.{MayBegin, Reached, Stays, run_of, run_stays, those_of}
+use Rattle.mega_fresh_laws.proofs.Meant.{MayBegin, ReachedByRun, Stays, run_of, run_stays, those_of}
 use Rattle.mega_fresh_laws.proofs.Moments.{IsLater, NoBegin, Onward, later_shown, onward_begin, onward_item, onward_items, onward_sent, onward_then}
 use Rattle.mega_fresh_laws.specs.FarEnough.{IsFarItem, IsProposed}
 use Rattle.mega_fresh_laws.proofs.Enough.{Suffices, answered_on, proposed_on}
@@ -198,12 +198,12 @@ module _ (Far : List Item → OpId → GroupId → ℕ → Type 0) (enough : Suf
   abbrev pub Near : Cluster → Usage → Meanings → Cuts → Type 0
   Near c usage first cuts = (h : Meanings) (now : Standing) (me : ℕ) (item : Item) (event : Event) → let made = step (setting c h me) (now.node me) event in let those = set_at now.node me made.node in
       let tape = with_items c those (item ∷ now.tape) (flat_map (shown me) (front_of (setting c h me) (now.node me) event)) in
-      Good (those_of usage) c now → Reached c usage first cuts now → Reached c usage first cuts (whole_step c now me (item ∷ []) made) → is_up (now.node me).met ≡ true → IsOwn item
+      Good (those_of usage) c now → ReachedByRun c usage first cuts now → ReachedByRun c usage first cuts (whole_step c now me (item ∷ []) made) → is_up (now.node me).met ≡ true → IsOwn item
       → (whole_step c now me (item ∷ []) made).tape ≡ stepped c those me now.tape item made → ((x : OpId) → Onward x (item ∷ now.tape) tape) → Locals Far (setting c h me) tape (base_of (setting c h me) (now.node me) event) made.notes
 
   module _ (c : Cluster) (usage : Usage) (first : Meanings) (cuts : Cuts) (near : Near c usage first cuts) where
-    module _ (h : Meanings) (now : Standing) (me : ℕ) (item : Item) (event : Event) (g : Good (those_of usage) c now) (r : Reached c usage first cuts now)
-        (then : Reached c usage first cuts (whole_step c now me (item ∷ []) (step (setting c h me) (now.node me) event))) (up : is_up (now.node me).met ≡ true) (may : MayBegin c usage me event)
+    module _ (h : Meanings) (now : Standing) (me : ℕ) (item : Item) (event : Event) (g : Good (those_of usage) c now) (r : ReachedByRun c usage first cuts now)
+        (then : ReachedByRun c usage first cuts (whole_step c now me (item ∷ []) (step (setting c h me) (now.node me) event))) (up : is_up (now.node me).met ≡ true) (may : MayBegin c usage me event)
         (o : Occurs now.tape (setting c h me) (now.node me).met item event) (plain : (nodes : ℕ → Node) → with_item c nodes now.tape item ≡ item ∷ now.tape) (q : AllFar c usage now.tape now.node) where
       abbrev s : Setting
       s = setting c h me

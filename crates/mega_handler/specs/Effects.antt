@@ -1,5 +1,5 @@
 -- What the handlers that the store brings make of a message.
-use Rattle.std.specs.Prelude.{ℕ, ◌==◌, nat_lt, if◌then◌else◌, ℤ, ◌+ℤ◌, pos, negsuc, ◌^◌, Bool, List, [], ◌∷◌, take, drop, length, slice_index, Option, Some, None, Result, Ok, Err}
+use Rattle.std.specs.Prelude.{ℕ, ◌==◌, nat_lt, if◌then◌else◌, ℤ, ◌+ℤ◌, ◌^◌, List, [], ◌∷◌, take, drop, length, slice_index, Option, Some, None, Result, Ok, Err, option_and_then}
 use Rattle.std.specs.Int.{w64, from_be_bytes, cast_signed}
 use Rattle.mega_base.specs.Reading.{whole_of}
 use Rattle.mega_base.specs.declared.values.Value.{Value}
@@ -7,11 +7,12 @@ use Rattle.mega_base.specs.declared.values.Value.TheVariants.{Int32, Int64, Bool
 use Rattle.mega_base.specs.declared.values.Row.{Row}
 use Rattle.mega_base.specs.declared.names.OpId.{OpId}
 use Rattle.mega_base.specs.declared.names.GroupId.{GroupId}
+pub use Rattle.mega_base.specs.Values.{is_in_range}
 use Rattle.mega_entry.specs.declared.content.Write.{Write}
 use Rattle.mega_entry.specs.declared.content.Send.{Send}
 use Rattle.mega_entry.specs.declared.content.Name.{Name}
 use Rattle.mega_entry.specs.declared.content.Content.{Content}
-use Rattle.mega_entry.specs.Entries.{write_at, entry_text}
+use Rattle.mega_entry.specs.Entries.{write_at, entry_text, entry_by}
 use Rattle.mega_index.specs.of_schema.declared.schema.Schema.{Schema}
 use Rattle.mega_index.specs.Rows.{Listed, row_under}
 use Rattle.mega_index.specs.Cells.{values_of, row_set}
@@ -26,15 +27,9 @@ abbrev pub int64_of : List Value → Option ℤ
 int64_of (Int64 z ∷ []) = Some z
 int64_of _ = None
 
--- the number is in the range of half numbers to either side
-abbrev pub is_in_range : ℕ → ℤ → Bool
-is_in_range half (pos n) = nat_lt n half
-is_in_range half (negsuc n) = nat_lt n half
-
 -- the sum, where it is an int64
 abbrev pub sum_of : ℤ → Option ℤ → Option ℤ
-sum_of amount None = None
-sum_of amount (Some z) = if is_in_range (2 ^ 63) (z +ℤ amount) then Some (z +ℤ amount) else None
+sum_of amount z = option_and_then (λ (z : ℤ). if is_in_range (2 ^ 63) (z +ℤ amount) then Some (z +ℤ amount) else None) z
 
 -- a write of the row with the sum, where there is one
 abbrev pub sum_written : List ℕ → ℕ → Row → Option ℤ → List Write
@@ -67,15 +62,7 @@ handled s group rows effect = (fitted_writes s group.key (row_under rows) effect
 
 -- the entry of an operation that handles a message with this effect
 abbrev pub entry_handling : OpId → Name → Effect → Content
-entry_handling op name effect = record {
-  id = Some op;
-  leader = op.node;
-  writes = effect.0;
-  sends = effect.1;
-  enters = [];
-  handles = name ∷ [];
-  cuts = [];
-}
+entry_handling op name effect = record (entry_by op) { writes = effect.0; sends = effect.1; handles = name ∷ [] }
 
 -- where that entry would be too long it has the handle mark alone
 abbrev pub handle_entry : OpId → Name → Effect → Content

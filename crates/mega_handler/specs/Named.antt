@@ -1,13 +1,9 @@
 -- Handlers under the names of their queues.
-use Rattle.std.specs.Prelude.{ℕ, ◌&&◌, Bool, List, [], ◌∷◌, find, position, nat_eq, is_some, Option, Some, None}
-use Rattle.std.specs.Cmp.Lexicographic.{pointwise}
+use Rattle.std.specs.Prelude.{ℕ, ◌&&◌, Bool, List, [], ◌∷◌, find, position, is_some, Option, Some, None, option_map}
 use Rattle.mega_entry.specs.declared.content.Enter.{Enter}
 use Rattle.mega_index.specs.Rows.{Listed}
+pub use Rattle.mega_index.specs.of_syntax.Names.{same as same_name}
 use Rattle.mega_handler.specs.Effects.{Effect}
-
--- two names are one
-abbrev pub same_name : List ℕ → List ℕ → Bool
-same_name a b = pointwise nat_eq a b
 
 -- what a handler makes of a message and the rows of its group
 abbrev pub Meaning : Type 0
@@ -19,8 +15,7 @@ Meanings = List (List ℕ × Meaning)
 
 -- the meaning of a queue's handler
 abbrev pub meaning_of : Option (List ℕ × Meaning) → Option Meaning
-meaning_of None = None
-meaning_of (Some one) = Some one.1
+meaning_of found = option_map (λ (one : List ℕ × Meaning). one.1) found
 
 abbrev pub meaning : Meanings → List ℕ → Option Meaning
 meaning all queue = meaning_of (find (λ (one : List ℕ × Meaning). same_name one.0 queue) all)

@@ -13,8 +13,7 @@ values_of row number = option_map_or (λ (c : Cell). c.values) (find (λ (c : Ce
 -- a first value, where it is the only one, and the values behind it
 abbrev pub leading : List Value → List Value → List Value
 leading (v ∷ []) others = v ∷ others
-leading (v ∷ w ∷ vs) others = []
-leading [] others = []
+leading _ others = []
 
 -- the values of the properties of a key, up to the first property that has not exactly one
 abbrev pub key_values : List ℕ → Row → List Value

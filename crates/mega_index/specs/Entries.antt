@@ -27,8 +27,7 @@ with_row s number x t entries row =
 -- the same of a row that stands under this key, which has no entry unless it is a row of the table that fits
 abbrev pub with_row_under : Schema → ℕ → Index → Option Table → List (List ℕ × Found) → List ℕ × Row → List (List ℕ × Found)
 with_row_under s number x None entries one = entries
-with_row_under s number x (Some t) entries one =
-    if stands_in s x.table (Some t) one.0 one.1 then with_row s number x t entries one.1 else entries
+with_row_under s number x (Some t) entries one = if stands_in s x.table (Some t) one.0 one.1 then with_row s number x t entries one.1 else entries
 
 -- the index with this number over rows: an entry for each row and each choice of one value of each indexed property
 abbrev pub index_of : Schema → ℕ → Index → Listed → List (List ℕ × Found)

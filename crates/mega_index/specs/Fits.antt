@@ -1,12 +1,14 @@
 -- Which rows fit the schema: exactly those that a put does not refuse as bad.
-use Rattle.std.specs.Prelude.{ℕ, ◌+◌, ◌-◌, ◌==◌, ◌&&◌, if◌then◌else◌, Bool, true, false, List, [], ◌∷◌, ◌++◌, length, map, filter, fold, take, find, flat_map, nat_lt, nat_le, slice_get, Option, Some, None, is_ok, is_none, Result, Ok, Err}
+use Rattle.std.specs.Prelude.{ℕ, ◌+◌, ◌==◌, ◌&&◌, if◌then◌else◌, Bool, true, false, List, [], ◌∷◌, ◌++◌, length, map, filter, fold, take, find, flat_map, nat_lt, nat_le, Option, Some, None, is_ok, is_none, Result, Ok, Err}
 use Rattle.std.specs.Option.{option_or}
 use Rattle.std.specs.List.{list_all}
 use Rattle.mega_base.specs.declared.values.Value.{Value}
 use Rattle.mega_base.specs.declared.values.Cell.{Cell}
 use Rattle.mega_base.specs.declared.values.Row.{Row}
+pub use Rattle.mega_base.specs.ListWords.{numbered}
+use Rattle.mega_base.specs.ListWords.{items_or_none}
 use Rattle.mega_schema.specs.of_syntax.declared.need.Need.{Need}
-use Rattle.mega_schema.specs.of_syntax.declared.need.Need.TheVariants.{Required, Optional, Repeated}
+use Rattle.mega_schema.specs.of_syntax.declared.need.Need.TheVariants.{Required, Repeated}
 use Rattle.mega_schema.specs.declared.schema.Property.{Property}
 use Rattle.mega_schema.specs.declared.schema.Table.{Table}
 use Rattle.mega_schema.specs.declared.schema.Index.{Index}
@@ -19,15 +21,10 @@ use Rattle.mega_keys.specs.Answers.{row_key_of, group_key_of}
 use Rattle.mega_row_writes.specs.Rows.{same_key}
 use Rattle.mega_index.specs.Cells.{values_of, key_values}
 
--- the item with this number, from 1
-abbrev pub numbered : {A : Type 0} → List A → ℕ → Option A
-numbered items n = if n == 0 then None else slice_get items (n - 1)
-
 -- a property may have that many values where it has some: one, or any number where it is repeated
 abbrev pub is_count : Need → ℕ → Bool
-is_count Required n = n == 1
-is_count Optional n = n == 1
 is_count Repeated n = nat_lt 0 n
+is_count _ n = n == 1
 
 -- the property is known, and the values are as many as it may have, each of its kind
 abbrev pub cell_fits : Option Property → List Value → Bool
@@ -42,9 +39,7 @@ cells_fit ps low (c ∷ cs) = nat_lt low c.property && (cell_fits (numbered ps c
 -- there is a value where one is required
 abbrev pub is_filled : Need → List Value → Bool
 is_filled Required [] = false
-is_filled Required (v ∷ vs) = true
-is_filled Optional values = true
-is_filled Repeated values = true
+is_filled _ _ = true
 
 -- each required property, of those numbered from n on, has a value
 abbrev pub has_required : ℕ → List Property → Row → Bool
@@ -103,11 +98,7 @@ indexes_of s = take 64 s.indexes
 
 -- the group of a row, empty where it has none
 abbrev pub group_bytes_of : Schema → ℕ → Table → Row → List ℕ
-group_bytes_of s n t row = from (group_of s n t (key_values t.primary row))
-  where
-    from : Result (List ℕ) KeyFault → List ℕ
-    from (Ok group) = group
-    from (Err fault) = []
+group_bytes_of s n t row = items_or_none (group_of s n t (key_values t.primary row))
 
 -- the length of the first index key of a row of the table that is too long
 abbrev pub long_key : Schema → ℕ → Table → Row → Option ℕ
@@ -132,8 +123,5 @@ fits s n row = fits_in s n (numbered s.tables n) row
 -- the row stands under its own key in that table, and fits it
 abbrev pub stands_in : Schema → ℕ → Option Table → List ℕ → Row → Bool
 stands_in s n None key row = false
-stands_in s n (Some t) key row = is_own (key_of s n t (key_values t.primary row)) && row_fits s n t row
-  where
-    is_own : Result (List ℕ) KeyFault → Bool
-    is_own (Ok own) = same_key key own
-    is_own (Err fault) = false
+stands_in s n (Some t) key row =
+    (elim (key_of s n t (key_values t.primary row)) [ Ok own ↦ same_key key own | Err fault ↦ false ]) && row_fits s n t row

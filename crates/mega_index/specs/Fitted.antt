@@ -1,17 +1,14 @@
 -- What of a handler's writes and sends fits the schema and the group.
-use Rattle.std.specs.Prelude.{ℕ, ◌+◌, ◌==◌, ◌&&◌, if◌then◌else◌, Bool, true, false, List, [], ◌∷◌, ◌++◌, length, take, filter, nat_le, is_ok, Option, Some, None, Result, Ok, Err}
-use Rattle.mega_base.specs.declared.values.Value.{Value}
-use Rattle.mega_base.specs.declared.values.Row.{Row}
+use Rattle.std.specs.Prelude.{ℕ, ◌+◌, ◌==◌, ◌&&◌, if◌then◌else◌, Bool, true, false, List, [], ◌∷◌, ◌++◌, length, take, filter, nat_le, is_ok, Option, Some, None, Ok, Err}
 use Rattle.mega_row_writes.specs.of_entry.declared.content.Write.{Write}
 use Rattle.mega_row_writes.specs.of_entry.declared.content.Send.{Send}
 use Rattle.mega_row_writes.specs.of_entry.declared.content.Enter.{Enter}
 use Rattle.mega_row_writes.specs.of_entry.declared.content.Cut.{Cut}
 use Rattle.mega_row_writes.specs.of_entry.declared.content.Content.{Content}
-use Rattle.mega_row_writes.specs.of_entry.Entries.{entry_text}
+use Rattle.mega_row_writes.specs.of_entry.Entries.{entry_text, entry_by}
 use Rattle.mega_schema.specs.declared.schema.Table.{Table}
 use Rattle.mega_schema.specs.declared.schema.Schema.{Schema}
 use Rattle.mega_schema.specs.Shaping.{shape_of}
-use Rattle.mega_keys.specs.declared.fault.KeyFault.{KeyFault}
 use Rattle.mega_keys.specs.Reading.{key_at, read_key_of}
 use Rattle.mega_row_writes.specs.Rows.{Rows, same_key, written}
 use Rattle.mega_index.specs.Fits.{numbered, group_of, stands_in}
@@ -23,15 +20,8 @@ most_bytes = 32768
 
 -- an operation's entry that holds these and nothing else; its length is the same for every operation, leader and position
 abbrev pub entry_of : List Write → List Send → List Enter → List Cut → Content
-entry_of writes sends enters cuts = record {
-  id = Some (record { node = record { 0 = 1 }; start = 1; number = 1 });
-  leader = record { 0 = 1 };
-  writes = writes;
-  sends = sends;
-  enters = enters;
-  handles = [];
-  cuts = cuts;
-}
+entry_of writes sends enters cuts =
+    record (entry_by (record { node = record { 0 = 1 }; start = 1; number = 1 })) { writes = writes; sends = sends; enters = enters; cuts = cuts }
 
 -- the message as it is entered, sent from this group
 abbrev pub entered : List ℕ → Send → Enter
@@ -65,15 +55,8 @@ send_fits s send = is_group s (send.to).key && is_queue send.queue
 
 -- the key is a row key of the table, of this group
 abbrev pub is_key_of : Schema → ℕ → Table → List ℕ → List ℕ → Bool
-is_key_of s n t group key = in_group (read_key_of (shape_of s n t) key)
-  where
-    is_it : Result (List ℕ) KeyFault → Bool
-    is_it (Ok own) = same_key own group
-    is_it (Err fault) = false
-
-    in_group : Result (List Value) KeyFault → Bool
-    in_group (Ok values) = is_it (group_of s n t values)
-    in_group (Err fault) = false
+is_key_of s n t group key =
+    elim (read_key_of (shape_of s n t) key) [ Ok values ↦ elim (group_of s n t values) [ Ok own ↦ same_key own group | _ ↦ false ] | _ ↦ false ]
 
 -- the number of the table of which the key is a row key in this group; the tables are numbered from n on
 abbrev pub table_in : Schema → ℕ → List Table → List ℕ → List ℕ → Option ℕ
@@ -85,11 +68,7 @@ table_of s group key = table_in s 1 (take 64 s.tables) group key
 
 -- a deletion is kept under any row key of the group, a row under its own and where it fits
 abbrev pub is_kept : Schema → ℕ → Write → Bool
-is_kept s n write = row_kept write.row
-  where
-    row_kept : Option Row → Bool
-    row_kept None = true
-    row_kept (Some row) = stands_in s n (numbered s.tables n) write.key row
+is_kept s n write = elim write.row [ None ↦ true | Some row ↦ stands_in s n (numbered s.tables n) write.key row ]
 
 -- the write with its local index writes, against the rows before it, where it is kept
 abbrev pub kept_write : Schema → Option ℕ → Rows → Write → List Write

@@ -35,9 +35,8 @@ IsWithin half (negsuc n) = n < half
 abbrev pub IsValue : Value → Type 0
 IsValue (Int32 z) = IsWithin (2 ^ 31) z
 IsValue (Int64 z) = IsWithin (2 ^ 63) z
-IsValue (Truth b) = Unit {0}
 IsValue (Str text) = IsUtf8 text
-IsValue (Raw bytes) = Unit {0}
+IsValue _ = Unit {0}
 
 -- such values, each of the kind of its place, and one for each place
 abbrev pub StandIn : List Kind → List Value → Type 0

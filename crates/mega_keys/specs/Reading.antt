@@ -9,6 +9,7 @@ use Rattle.mega_base.specs.declared.values.Value.TheVariants.{Int32, Int64, Bool
 use Rattle.mega_base.specs.declared.values.Kind.{Kind}
 use Rattle.mega_base.specs.declared.values.Kind.TheVariants as kinds
 use Rattle.mega_base.specs.declared.values.Shape.{Shape}
+pub use Rattle.mega_base.specs.Reading.{◌>>=◌}
 use Rattle.mega_keys.specs.declared.fault.KeyFault.{KeyFault}
 use Rattle.mega_keys.specs.declared.fault.KeyFault.TheVariants.{NotKey}
 use Rattle.mega_keys.specs.declared.read.Stop.{Stop}
@@ -18,11 +19,6 @@ use Rattle.mega_keys.specs.Spelling.{escape, scattered}
 -- a value and the bytes after it, or how many bytes are left at the fault
 abbrev pub Read : Type 0 → Type 0
 Read A = Result (A × List ℕ) ℕ
-
-infixl 10 ◌>>=◌
-abbrev pub ◌>>=◌ : {A B : Type 0} → Result A ℕ → (A → Result B ℕ) → Result B ℕ
-(Ok x) >>= f = f x
-(Err e) >>= f = Err e
 
 -- a reader that stopped so stopped where reading does
 abbrev pub Fails : {A : Type 0} → Stop → Result A ℕ → Type 0
@@ -45,9 +41,7 @@ ReadsBy view (Ok x) read = read ≡ Ok (view x)
 ReadsBy view (Err stop) read = Fails stop read
 
 abbrev pub number_at : Width → List ℕ → Read ℕ
-number_at w bytes =
-    if nat_lt (length bytes) (byte_len w) then Err 0
-    else Ok (from_be_bytes w (take (byte_len w) bytes), drop (byte_len w) bytes)
+number_at w bytes = if nat_lt (length bytes) (byte_len w) then Err 0 else Ok (from_be_bytes w (take (byte_len w) bytes), drop (byte_len w) bytes)
 
 -- the number that was raised by half of its range
 abbrev pub lowered : ℕ → ℕ → ℤ
@@ -74,11 +68,9 @@ with_front front (Err n) = Err n
 
 -- bytes up to their end, each escape undone
 unfoldable pub unescaped : List ℕ → Read (List ℕ)
-unescaped [] = Err 0
-unescaped (zero ∷ []) = Err 0
-unescaped (zero ∷ c ∷ rest) =
-    if c == 255 then with_front (0 ∷ []) (unescaped rest) else (if c == 1 then Ok ([], rest) else Err (suc (length rest)))
+unescaped (zero ∷ c ∷ rest) = if c == 255 then with_front (0 ∷ []) (unescaped rest) else (if c == 1 then Ok ([], rest) else Err (suc (length rest)))
 unescaped (suc b ∷ rest) = with_front (suc b ∷ []) (unescaped rest)
+unescaped _ = Err 0
 
 -- one byte of them, or their end
 unfoldable pub unit_at : List ℕ → Read (Option ℕ)
@@ -123,9 +115,8 @@ byte_at b (c ∷ rest) = if c == b then Ok rest else Err (suc (length rest))
 
 -- the two bytes that scatter, which are told to be right once the root key values are read
 unfoldable pub marks_at : List ℕ → Read (List ℕ)
-marks_at [] = Err 0
-marks_at (a ∷ []) = Err 0
 marks_at (a ∷ b ∷ rest) = Ok (a ∷ b ∷ [], rest)
+marks_at _ = Err 0
 
 -- n bytes are left from the two on
 unfoldable pub agree : List ℕ → List ℕ → ℕ → Result (Unit {0}) ℕ

@@ -33,11 +33,9 @@ spell (Raw bytes) = escaped bytes
 
 -- the bytes of a value that scatter its group: text and bytes stand as they are
 abbrev pub plain : Value → List ℕ
-plain (Int32 z) = spell (Int32 z)
-plain (Int64 z) = spell (Int64 z)
-plain (Truth b) = spell (Truth b)
 plain (Str text) = text
 plain (Raw bytes) = bytes
+plain value = spell value
 
 abbrev pub spell_all : List Value → List ℕ
 spell_all values = flat_map spell values
@@ -63,8 +61,7 @@ abbrev pub head_bytes : ℕ → Bool → List Value → List ℕ
 head_bytes first scatter root = first ∷ (scatter_of scatter root ++ spell_all root)
 
 abbrev pub row_bytes : Shape → List Value → List ℕ
-row_bytes shape values =
-    head_bytes shape.space shape.scatter (root_part shape values) ++ shape.table ∷ spell_all (rest_part shape values)
+row_bytes shape values = head_bytes shape.space shape.scatter (root_part shape values) ++ shape.table ∷ spell_all (rest_part shape values)
 
 abbrev pub group_bytes : Shape → List Value → List ℕ
 group_bytes shape values = head_bytes shape.root shape.scatter values

@@ -4,7 +4,7 @@ use Rattle.std.specs.List.{All}
 use Rattle.std.proofs.lemmas.List.Elements.{All-cons, All-nil}
 use Rattle.mega_base.specs.declared.names.Epoch.{Epoch}
 use Rattle.mega_cluster.specs.declared.cluster.Cluster.{Cluster}
-use Rattle.mega_coordinator.specs.History.{Call, Ticks as Told, counted_cells, epoch_after, serving}
+use Rattle.mega_coordinator.specs.History.{Call, Ticks as CoordinatorTicks, counted_cells, epoch_after, serving}
 use Rattle.mega_wire.specs.declared.message.Message.{Message}
 use Rattle.mega_run_laws.specs.of_tape_laws.of_promises.of_rules.Met.{Met}
 use Rattle.mega_run_laws.specs.of_tape_laws.of_promises.of_rules.Members.{is_full}
@@ -30,9 +30,9 @@ pub record Acquires (c : Cluster) (me : ℕ) (met : List Met) (now : ℕ) (m : M
   pub epoch : Epoch
   pub is : m ≡ acquire_to me epoch now cell
   pub full : is_full c me ≡ true
-  pub present : epoch_after (start_of met) c.cells (Told now ∷ coordinator_calls c met) ≡ Some epoch
+  pub present : epoch_after (start_of met) c.cells (CoordinatorTicks now ∷ coordinator_calls c met) ≡ Some epoch
 
-acquires_each : (c : Cluster) (me : ℕ) (met : List Met) (now : ℕ) (epoch : Epoch) → is_full c me ≡ true → epoch_after (start_of met) c.cells (Told now ∷ coordinator_calls c met) ≡ Some epoch → (cells : List ℕ)
+acquires_each : (c : Cluster) (me : ℕ) (met : List Met) (now : ℕ) (epoch : Epoch) → is_full c me ≡ true → epoch_after (start_of met) c.cells (CoordinatorTicks now ∷ coordinator_calls c met) ≡ Some epoch → (cells : List ℕ)
     → All (Acquires c me met now) (map (acquire_to me epoch now) cells)
 acquires_each c me met now epoch full present [] = All-nil (Acquires c me met now)
 acquires_each c me met now epoch full present (cell ∷ cells) =
@@ -43,7 +43,7 @@ pub acquires_are : (c : Cluster) (me : ℕ) (met : List Met) (now : ℕ) → All
 acquires_are c me met now = by (is_full c me) (does_again c.retry (ticks_of met) now) refl
   where
     calls : List Call
-    calls = Told now ∷ coordinator_calls c met
+    calls = CoordinatorTicks now ∷ coordinator_calls c met
 
     of : (o : Option Epoch) → is_full c me ≡ true → epoch_after (start_of met) c.cells calls ≡ o → All (Acquires c me met now) (acquires c me calls (start_of met) now o)
     of None full is = All-nil (Acquires c me met now)

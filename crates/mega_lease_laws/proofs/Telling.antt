@@ -10,7 +10,7 @@ use Rattle.mega_base.specs.declared.names.Position.{Position}
 use Rattle.mega_ballot.specs.declared.ballot.Ballot.{Ballot}
 use Rattle.mega_entry.specs.declared.content.Content.{Content}
 use Rattle.mega_locks.specs.declared.asked.Asked.{Asked}
-use Rattle.mega_locks.specs.declared.asked.Asked.TheVariants.{Granted as Grant, Renewed, Taken as TakenBy, Over}
+use Rattle.mega_locks.specs.declared.asked.Asked.TheVariants.{Granted as Grant, Renewed, GreaterHeld, Over}
 use Rattle.mega_outcome.specs.declared.request.Request.{Request}
 use Rattle.mega_wal.specs.declared.answers.Promised.TheVariants as promise
 use Rattle.mega_wal.specs.declared.answers.Voted.TheVariants as vote
@@ -83,7 +83,7 @@ held_tells me notes op cell node (Some epoch) = tt
 lock_tells : (me : ℕ) (notes : List Met) (cell : ℕ) (epoch : Epoch) (clock : ℕ) (asked : Asked) → TellsOf me notes me (lock_answer cell epoch clock asked)
 lock_tells me notes cell epoch clock Grant = tt
 lock_tells me notes cell epoch clock Renewed = tt
-lock_tells me notes cell epoch clock (TakenBy greatest) = tt
+lock_tells me notes cell epoch clock (GreaterHeld greatest) = tt
 lock_tells me notes cell epoch clock (Over greatest) = tt
 
 answer_tells : (s : Setting) (met : List Met) (from : ℕ) (body : Body) → Answers s.me (told_notes s met from body) (answer_to s.cluster s.me met from body)

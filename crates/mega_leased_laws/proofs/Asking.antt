@@ -278,7 +278,7 @@ not_above : (p most : ℕ) → nat_le p most ≡ true → p ≤ most
 not_above p most h = grind (arith, nat_tests)
 
 -- an operation that stays open, with a number below this one
-pub record Kept (c : Cluster) (tape : List Item) (sends : List Message) (me k : ℕ) (o : Operation) : Type 0 where
+pub record OpenBelow (c : Cluster) (tape : List Item) (sends : List Message) (me k : ℕ) (o : Operation) : Type 0 where
   pub node : (o.id).node.0 ≡ me
   pub below : (o.id).number < k
   pub knows : PhaseKnows c tape me o.id o.visited o.phase
@@ -288,19 +288,19 @@ pub record Kept (c : Cluster) (tape : List Item) (sends : List Message) (me k : 
 pub record Acted (c : Cluster) (tape : List Item) (me : ℕ) (base : List Met) (k : ℕ) (now : Now) : Type 0 where
   pub same : Same c base now.met
   pub valid : Each (ValidNote c tape me base) now.valid
-  pub kept : Each (Kept c tape now.sends me k) now.kept
+  pub kept : Each (OpenBelow c tape now.sends me k) now.kept
   pub own : Each (Own me k) now.sends
 
 -- and one acts
 pub record Busy (c : Cluster) (tape : List Item) (me : ℕ) (base : List Met) (now : Now) (op : OpId) (visited : List GroupId) : Type 0 where
   pub same : Same c base now.met
   pub valid : Each (ValidNote c tape me base) now.valid
-  pub kept : Each (Kept c tape now.sends me op.number) now.kept
+  pub kept : Each (OpenBelow c tape now.sends me op.number) now.kept
   pub own : Each (Own me (op.number + 1)) now.sends
   pub node : op.node.0 ≡ me
   pub quiet : Quiet tape now.sends op visited
 
-kept_more : (c : Cluster) (tape : List Item) (sends : List Message) (me k l : ℕ) → k ≤ l → (o : Operation) → Kept c tape sends me k o → Kept c tape sends me l o
+kept_more : (c : Cluster) (tape : List Item) (sends : List Message) (me k l : ℕ) → k ≤ l → (o : Operation) → OpenBelow c tape sends me k o → OpenBelow c tape sends me l o
 kept_more c tape sends me k l le o h = record { node = h.node; below = (let less = h.below in omega (arith, less, le)); knows = h.knows; quiet = h.quiet }
 
 next_of : (n : ℕ) → n < n + 1
@@ -310,8 +310,8 @@ next_most : (n : ℕ) → n ≤ n + 1
 next_most n = omega arith
 
 -- those that acted before one that sends
-kept_sends : (c : Cluster) (tape : List Item) (sends ms : List Message) (me k : ℕ) (op : OpId) → k ≤ op.number → Each (OfOne op) ms → (os : List Operation) → Each (Kept c tape sends me k) os → Each (Kept c tape (sends ++ ms) me op.number) os
-kept_sends c tape sends ms me k op le of os h = each_on (Kept c tape sends me k) (Kept c tape (sends ++ ms) me op.number) (λ o kept. record {
+kept_sends : (c : Cluster) (tape : List Item) (sends ms : List Message) (me k : ℕ) (op : OpId) → k ≤ op.number → Each (OfOne op) ms → (os : List Operation) → Each (OpenBelow c tape sends me k) os → Each (OpenBelow c tape (sends ++ ms) me op.number) os
+kept_sends c tape sends ms me k op le of os h = each_on (OpenBelow c tape sends me k) (OpenBelow c tape (sends ++ ms) me op.number) (λ o kept. record {
   node = kept.node;
   below = (let less = kept.below in omega (arith, less, le));
   knows = kept.knows;
@@ -324,8 +324,8 @@ module _ (c : Cluster) (tape : List Item) (me : ℕ) (base : List Met) where
   acts_keeps now o a k = record {
     same = a.same;
     valid = a.valid;
-    kept = each_push (Kept c tape now.sends me ((o.id).number + 1)) now.kept o
-        (each_on (Kept c tape now.sends me (o.id).number) (Kept c tape now.sends me ((o.id).number + 1)) (kept_more c tape now.sends me (o.id).number ((o.id).number + 1) (next_most (o.id).number)) now.kept a.kept)
+    kept = each_push (OpenBelow c tape now.sends me ((o.id).number + 1)) now.kept o
+        (each_on (OpenBelow c tape now.sends me (o.id).number) (OpenBelow c tape now.sends me ((o.id).number + 1)) (kept_more c tape now.sends me (o.id).number ((o.id).number + 1) (next_most (o.id).number)) now.kept a.kept)
         (record { node = a.node; below = next_of (o.id).number; knows = k; quiet = a.quiet });
     own = a.own;
   }
@@ -334,7 +334,7 @@ module _ (c : Cluster) (tape : List Item) (me : ℕ) (base : List Met) where
   acts_ends now op visited answer a = record {
     same = a.same;
     valid = a.valid;
-    kept = each_on (Kept c tape now.sends me op.number) (Kept c tape now.sends me (op.number + 1)) (kept_more c tape now.sends me op.number (op.number + 1) (next_most op.number)) now.kept a.kept;
+    kept = each_on (OpenBelow c tape now.sends me op.number) (OpenBelow c tape now.sends me (op.number + 1)) (kept_more c tape now.sends me op.number (op.number + 1) (next_most op.number)) now.kept a.kept;
     own = a.own;
   }
 
@@ -587,7 +587,7 @@ module _ (s : Setting) (tape : List Item) (base : List Met) (shows : (e : Epoch)
   out_acted k now o answer le a = record {
     same = a.same;
     valid = a.valid;
-    kept = each_on (Kept s.cluster tape now.sends s.me k) (Kept s.cluster tape now.sends s.me ((o.id).number + 1)) (kept_more s.cluster tape now.sends s.me k ((o.id).number + 1) (omega (arith, le))) now.kept a.kept;
+    kept = each_on (OpenBelow s.cluster tape now.sends s.me k) (OpenBelow s.cluster tape now.sends s.me ((o.id).number + 1)) (kept_more s.cluster tape now.sends s.me k ((o.id).number + 1) (omega (arith, le))) now.kept a.kept;
     own = each_on (Own s.me k) (Own s.me ((o.id).number + 1)) (own_more s.me k ((o.id).number + 1) (omega (arith, le))) now.sends a.own;
   }
 

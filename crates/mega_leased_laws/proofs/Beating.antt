@@ -11,7 +11,7 @@ use Rattle.mega_coordinator.specs.Groups.{is_group}
 use Rattle.mega_coordinator.specs.Lease.{after_grant, counted_by, counts, epoch_of, granted_answer, is_majority, left, next_lease, past_ends, state_of, tick_ends, until_with}
 use Rattle.mega_coordinator.specs.History.{Call, Ticks as TickCall, Grants as GrantCall, Passes, beaten, epoch_after, lease_of, serving}
 use Rattle.mega_locks.specs.declared.asked.Asked.{Asked}
-use Rattle.mega_locks.specs.declared.asked.Asked.TheVariants.{Granted, Renewed, Taken as TakenBy, Over}
+use Rattle.mega_locks.specs.declared.asked.Asked.TheVariants.{Granted, Renewed, GreaterHeld, Over}
 use Rattle.mega_locks.specs.History.{lapse_for, nodes as lock_nodes}
 use Rattle.mega_wal.specs.Same.{same_group}
 use Rattle.mega_wal.proofs.Orders.{is_group_is}
@@ -36,13 +36,13 @@ use Rattle.mega_lease_laws.specs.of_run_laws.Justified.{Each}
 use Rattle.mega_lease_laws.proofs.of_run_laws.Events.{each_append as each_both, onto_append}
 use Rattle.mega_valid_laws.specs.Leases.{serving_on}
 use Rattle.mega_valid_laws.proofs.NoCalls.{IsNoCall, Uncalled, forgets_no_call, lost_no_call, no_call_if, told_no_call, uncalled_all}
-use Rattle.mega_valid_laws.proofs.Folds.{IsOwn, IsOwnNote, Told, with_told, cond_as, same_if}
+use Rattle.mega_valid_laws.proofs.Folds.{IsOwn, IsOwnNote, TapeFold, with_told, cond_as, same_if}
 use Rattle.mega_valid_laws.proofs.Orders.{stood_first}
 use Rattle.mega_leased_laws.specs.Items.{Are}
 use Rattle.mega_leased_laws.specs.Serving.{IsServing}
 use Rattle.mega_leased_laws.proofs.Tails.{fronts}
 use Rattle.mega_leased_laws.proofs.Notes.{IsRest, step_parts}
-use Rattle.mega_leased_laws.proofs.Told.{step_met}
+use Rattle.mega_leased_laws.proofs.TapeIsMet.{step_met}
 
 -- ---- what a tape tells
 
@@ -171,7 +171,7 @@ beaten_note group (Ticks now) is x = refl
 beaten_note group (Begins op text) is x = refl
 beaten_note group _ is x = absurd is
 
-pub tells_beaten : (group : GroupId) → Told ℕ (λ tape v. beaten_on tape v group) (next_beaten group)
+pub tells_beaten : (group : GroupId) → TapeFold ℕ (λ tape v. beaten_on tape v group) (next_beaten group)
 tells_beaten group = record { unsafe = λ tape v. refl; sends = λ k m tape v. refl; one = beaten_one group; sent_met = λ m x. refl; own = beaten_own group; own_note = beaten_note group }
 
 -- ---- what a coordinator keeps
@@ -310,7 +310,7 @@ module _ (s : Setting) (full : is_full s.cluster s.me ≡ true) (met : List Met)
   acquire_same g false from epoch a x = refl
   acquire_same g true from epoch Granted x = refl
   acquire_same g true from epoch Renewed x = refl
-  acquire_same g true from epoch (TakenBy greatest) x = refl
+  acquire_same g true from epoch (GreaterHeld greatest) x = refl
   acquire_same g true from epoch (Over greatest) x = refl
 
   body_beats : (from : ℕ) (body : Body) → Beaten (told_by s.cluster (clock_of met) body) (told_notes s met from body)

@@ -9,7 +9,7 @@ use Rattle.mega_base.specs.declared.names.OpId.{OpId}
 use Rattle.mega_cluster.specs.declared.cluster.Cluster.{Cluster}
 use Rattle.mega_handler.specs.Named.{Meanings}
 use Rattle.mega_locks.specs.declared.asked.Asked.{Asked}
-use Rattle.mega_locks.specs.declared.asked.Asked.TheVariants.{Granted, Renewed, Taken as TakenBy, Over}
+use Rattle.mega_locks.specs.declared.asked.Asked.TheVariants.{Granted, Renewed, GreaterHeld, Over}
 use Rattle.mega_locks.specs.declared.lock.Lock.{Lock}
 use Rattle.mega_locks.specs.declared.lock.Lock.TheVariants.{Free, Held, Ended}
 use Rattle.mega_locks.specs.Rule.{answer, asked, held_epoch}
@@ -54,7 +54,7 @@ use Rattle.mega_valid_laws.proofs.of_settled_laws.Tapes.{earlier_stood, items_la
 use Rattle.mega_lease_laws.specs.Questions.{Asks as IsAsking, is_question}
 use Rattle.mega_valid_laws.specs.Leases.{HoldsNone, granted_on}
 use Rattle.mega_valid_laws.proofs.Epochs.{Shown, granted_shown}
-use Rattle.mega_valid_laws.proofs.Folds.{IsOwn, IsOwnNote, Told, sends_told, with_told, same_if, cond_as}
+use Rattle.mega_valid_laws.proofs.Folds.{IsOwn, IsOwnNote, TapeFold, sends_told, with_told, same_if, cond_as}
 use Rattle.mega_lease_laws.proofs.of_run_laws.AnswerKinds.{IsAnswer, answer_kind}
 use Rattle.mega_leased_laws.specs.Items.{Are}
 use Rattle.mega_leased_laws.specs.Cells.{Frees, IsFreed}
@@ -62,7 +62,7 @@ use Rattle.mega_leased_laws.proofs.Forms.{Anything, Holds, Occurs, any_keeps, do
 use Rattle.mega_leased_laws.proofs.Tails.{fronts}
 use Rattle.mega_leased_laws.proofs.Notes.{IsRest, Origin, step_origins, step_parts}
 use Rattle.mega_leased_laws.proofs.Tapes.{IsFree, are_items, are_sent, free_follows, free_notes}
-use Rattle.mega_leased_laws.proofs.Told.{cuts_told, falls_told, marks_told, starts_told, step_met, steps_told}
+use Rattle.mega_leased_laws.proofs.TapeIsMet.{cuts_told, falls_told, marks_told, starts_told, step_met, steps_told}
 use Rattle.mega_leased_laws.proofs.Locks.{IsOwed, IsStill, IsUnmarked, Matches, asks_match, closed_by, closes_match, granted_by, lapse_marks, lapsed_by, lapses_are, last_after, last_onto, lock_after, marks_both, marks_for, opening_onto, opens_match, reopen_match, still_onto, ticks_match, unmarked}
 
 -- ---- what a tape tells of a cell's grants
@@ -111,7 +111,7 @@ module _ (node : ℕ) where
   granted_note (Begins op text) is x = refl
   granted_note _ is x = absurd is
 
-  tells_granted : Told (Option (Epoch × Bool)) (λ tape v. granted_on tape v node) (next_granted node)
+  tells_granted : TapeFold (Option (Epoch × Bool)) (λ tape v. granted_on tape v node) (next_granted node)
   tells_granted = record { unsafe = λ tape v. refl; sends = λ k m tape v. refl; one = granted_one; sent_met = λ m x. refl; own = granted_own; own_note = granted_note }
 
   granted_each : (one : Met) (met : List Met) → last_grant (one ∷ met) node ≡ next_granted node one (last_grant met node)
@@ -295,7 +295,7 @@ event_marks s met k (Begin request text) = []
 granted_marks : (k from : ℕ) (epoch : Epoch) (a : Asked) → marks_for k (grant_note from epoch a) ≡ cond (from == k) (grant_marks epoch a) []
 granted_marks k from epoch Granted = refl
 granted_marks k from epoch Renewed = same_if (from == k) []
-granted_marks k from epoch (TakenBy greatest) = same_if (from == k) []
+granted_marks k from epoch (GreaterHeld greatest) = same_if (from == k) []
 granted_marks k from epoch (Over greatest) = same_if (from == k) []
 
 module _ (s : Setting) (met : List Met) (k : ℕ) (cell_is : is_cell s.cluster s.me ≡ true) where
@@ -338,7 +338,7 @@ told_still s met from (Acquire cell epoch clock) = by (cell == s.me && nat_le s.
     by false a = tt
     by true Granted = (tt, tt)
     by true Renewed = tt
-    by true (TakenBy greatest) = tt
+    by true (GreaterHeld greatest) = tt
     by true (Over greatest) = tt
 told_still s met from (GrantedBody cell epoch clock) = lease_still _ (lease_if (is_full s.cluster s.me && nat_le cell s.cluster.cells) (grant_notes s.cluster met cell epoch clock) (granted_lease s.cluster met cell epoch clock))
 told_still s met from (Invalidate op group position) = lease_still _ (lease_if (is_full s.cluster s.me) (Invalidates group position.0 ∷ []) (tt, tt))
@@ -395,7 +395,7 @@ lapse_last (Some e) last = refl
 grant_last : (a : Asked) (e : Epoch) (last : Option (Epoch × Bool)) → last_after (grant_marks e a) last ≡ granted_by a e last
 grant_last Granted e last = refl
 grant_last Renewed e last = refl
-grant_last (TakenBy greatest) e last = refl
+grant_last (GreaterHeld greatest) e last = refl
 grant_last (Over greatest) e last = refl
 
 lapse_lock : (o : Option Epoch) (lock : Lock) → lock_after (lapse_marks o) lock ≡ closed_by o lock
@@ -435,7 +435,7 @@ module _ (s : Setting) (met : List Met) (k : ℕ) (cell_is : is_cell s.cluster s
       by : (t u : Bool) (a : Asked) → Matches (lock_after (cond t (cond u (grant_marks epoch a) []) []) lock) (last_after (cond t (cond u (grant_marks epoch a) []) []) (last_grant met k))
       by true true Granted = opens_match lock (last_grant met k) epoch r
       by true true Renewed = r
-      by true true (TakenBy greatest) = r
+      by true true (GreaterHeld greatest) = r
       by true true (Over greatest) = r
       by true false a = r
       by false u a = r
@@ -691,7 +691,7 @@ told_given F s met from (Acquire cell epoch clock) full = by (cell == s.me && na
     by false a = tt
     by true Granted = (full, tt)
     by true Renewed = tt
-    by true (TakenBy greatest) = tt
+    by true (GreaterHeld greatest) = tt
     by true (Over greatest) = tt
 told_given F s met from (GrantedBody cell epoch clock) full = lease_given F _ (lease_if (is_full s.cluster s.me && nat_le cell s.cluster.cells) (grant_notes s.cluster met cell epoch clock) (granted_lease s.cluster met cell epoch clock))
 told_given F s met from (Invalidate op group position) full = lease_given F _ (lease_if (is_full s.cluster s.me) (Invalidates group position.0 ∷ []) (tt, tt))

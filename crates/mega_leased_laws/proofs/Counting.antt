@@ -16,7 +16,7 @@ use Rattle.mega_coordinator.specs.History.{Call, Ticks as TickCall, Grants as Gr
 use Rattle.mega_coordinator.specs.Laws.{endings}
 use Rattle.mega_coordinator.proofs.Epochs.{serves_alone}
 use Rattle.mega_locks.specs.declared.asked.Asked.{Asked}
-use Rattle.mega_locks.specs.declared.asked.Asked.TheVariants.{Granted, Renewed, Taken as TakenBy, Over}
+use Rattle.mega_locks.specs.declared.asked.Asked.TheVariants.{Granted, Renewed, GreaterHeld, Over}
 use Rattle.mega_locks.specs.History.{lapse_for, nodes as lock_nodes}
 use Rattle.mega_wal.specs.History.{is_same_epoch}
 use Rattle.mega_wire.specs.declared.message.Message.{Message}
@@ -40,12 +40,12 @@ use Rattle.mega_lease_laws.proofs.of_run_laws.of_tape_laws.Ballots.{number_is, n
 use Rattle.mega_lease_laws.specs.of_run_laws.Justified.{Each}
 use Rattle.mega_lease_laws.proofs.of_run_laws.Events.{each_append as each_both, onto_append}
 use Rattle.mega_valid_laws.specs.Leases.{counted_on}
-use Rattle.mega_valid_laws.proofs.Folds.{IsOwn, IsOwnNote, Told, with_told, same_if}
+use Rattle.mega_valid_laws.proofs.Folds.{IsOwn, IsOwnNote, TapeFold, with_told, same_if}
 use Rattle.mega_valid_laws.proofs.Orders.{epoch_is}
 use Rattle.mega_leased_laws.proofs.Tails.{fronts}
 use Rattle.mega_leased_laws.proofs.Notes.{IsRest, step_parts}
-use Rattle.mega_leased_laws.proofs.Told.{step_met}
-use Rattle.mega_leased_laws.proofs.Reached.{Reached, asked_present}
+use Rattle.mega_leased_laws.proofs.TapeIsMet.{step_met}
+use Rattle.mega_leased_laws.proofs.EpochReached.{EpochReached, asked_present}
 use Rattle.mega_valid_laws.proofs.NoCalls.{Uncalled, uncalled_all}
 use Rattle.mega_leased_laws.proofs.Beating.{fronts_no_call}
 use Rattle.std.proofs.lemmas.List.{length-map}
@@ -104,7 +104,7 @@ module _ (cell : ℕ) (epoch : Epoch) where
   counted_note (Begins op text) is x = refl
   counted_note _ is x = absurd is
 
-  pub tells_counted : Told Bool (λ tape v. counted_on tape v cell epoch) (next_counted cell epoch)
+  pub tells_counted : TapeFold Bool (λ tape v. counted_on tape v cell epoch) (next_counted cell epoch)
   tells_counted = record { unsafe = λ tape v. refl; sends = λ k m tape v. refl; one = counted_one; sent_met = λ m x. refl; own = counted_own; own_note = counted_note }
 
 -- ---- slots
@@ -260,7 +260,7 @@ present_at c met = epoch_after (start_of met) c.cells (coordinator_calls c met)
 -- what is noted of the cells of the present epoch is what the coordinator counts
 pub record Counting (c : Cluster) (met : List Met) : Type 0 where
   pub none : (e : Epoch) → counted_met met 0 e ≡ false
-  pub reach : (cell : ℕ) (e : Epoch) → counted_met met cell e ≡ true → Reached c met e
+  pub reach : (cell : ℕ) (e : Epoch) → counted_met met cell e ≡ true → EpochReached c met e
 
 abbrev pub CountsAt : Cluster → List Met → Type 0
 CountsAt c met = (e : Epoch) → present_at c met ≡ Some e → (i : ℕ) → counted_met met (suc i) e ≡ is_some (get_or (lease_at c met).until i None)
@@ -366,7 +366,7 @@ module _ (s : Setting) (full : is_full s.cluster s.me ≡ true) (few : (s.cluste
   new_none : (e : Epoch) (i : ℕ) → e.start ≡ start → e.count ≡ 1 + endings start c.cells calls → counted_met met (suc i) e ≡ false
   new_none e i starts counts_more = by (counted_met met (suc i) e) refl
     where
-      never : Reached c met e → ⊥
+      never : EpochReached c met e → ⊥
       never (inl less) = omega (arith, less, starts)
       never (inr most) = let le = most.1 in omega (arith, le, counts_more)
 
@@ -438,7 +438,7 @@ module _ (s : Setting) (full : is_full s.cluster s.me ≡ true) (few : (s.cluste
   acquire_same cell e false from epoch a x = refl
   acquire_same cell e true from epoch Granted x = refl
   acquire_same cell e true from epoch Renewed x = refl
-  acquire_same cell e true from epoch (TakenBy greatest) x = refl
+  acquire_same cell e true from epoch (GreaterHeld greatest) x = refl
   acquire_same cell e true from epoch (Over greatest) x = refl
 
   body_counts : (from : ℕ) (body : Body) → Counted_so (told_by c (clock_of met) body) (told_notes s met from body)
@@ -610,7 +610,7 @@ step_counted s node event = let parts = step_parts s node event in
     grants false from epoch a = tt
     grants true from epoch Granted = (tt, tt)
     grants true from epoch Renewed = tt
-    grants true from epoch (TakenBy greatest) = tt
+    grants true from epoch (GreaterHeld greatest) = tt
     grants true from epoch (Over greatest) = tt
 
     counting : (cell : ℕ) (epoch : Epoch) (until now : ℕ) (was : Bool) (t : Bool) → counts (start_of node.met) (s.cluster).cells (lease_at s.cluster node.met) cell epoch until now ≡ t → (w : Bool)

@@ -13,7 +13,7 @@ use Rattle.mega_coordinator.specs.Lease.{counted_by, counts, epoch_of, granted_a
 use Rattle.mega_coordinator.specs.History.{Ticks as TickCall, epoch_after, lease_of}
 use Rattle.mega_handler.specs.Named.{Meanings}
 use Rattle.mega_locks.specs.declared.asked.Asked.{Asked}
-use Rattle.mega_locks.specs.declared.asked.Asked.TheVariants.{Granted, Renewed, Taken as TakenBy, Over}
+use Rattle.mega_locks.specs.declared.asked.Asked.TheVariants.{Granted, Renewed, GreaterHeld, Over}
 use Rattle.mega_locks.specs.declared.lock.Lock.{Lock}
 use Rattle.mega_locks.specs.declared.lock.Lock.TheVariants.{Free, Held, Ended}
 use Rattle.mega_locks.specs.Rule.{answer, is_above, is_same}
@@ -65,10 +65,10 @@ use Rattle.mega_leased_laws.proofs.Forms.{Holds, Occurs, both_keep, down, run_ho
 use Rattle.mega_leased_laws.proofs.Tails.{fronts}
 use Rattle.mega_leased_laws.proofs.Notes.{IsRest, Origin, step_origins, step_parts}
 use Rattle.mega_leased_laws.proofs.Tapes.{Follows, IsFree, are_items, are_sent, both_follow, free_follows, free_notes}
-use Rattle.mega_leased_laws.proofs.Told.{step_met}
+use Rattle.mega_leased_laws.proofs.TapeIsMet.{step_met}
 use Rattle.mega_leased_laws.proofs.Locks.{IsOwed, IsStill, Matches}
 use Rattle.mega_leased_laws.proofs.Cells.{AskedFor, AskedFull, Celling, EventAsks, GrantNote, at_me, by_node, celling_holds, full_nine, nothing_celling, occurs_own, of_asked, rest_given, sends_still, start_owed, start_rest, step_granted, step_still, filtered_each}
-use Rattle.mega_leased_laws.proofs.Reached.{Grown, IsPresent, IsWithin, Reached, asked_present, grown_onto, not_above, present_before, present_reached, reached_grown, reached_start, serving_grown, serving_present}
+use Rattle.mega_leased_laws.proofs.EpochReached.{Grown, IsPresent, IsWithin, EpochReached, asked_present, grown_onto, not_above, present_before, present_reached, reached_grown, reached_start, serving_grown, serving_present}
 
 -- ---- tapes
 
@@ -89,7 +89,7 @@ are_at P (other ∷ before) item h (inr s) = let a = are_at P before item h.1 s 
 
 -- an epoch that a node asked for, or that was granted to it, is at or below its present one
 abbrev pub Come : Cluster → (ℕ → Node) → ℕ → Epoch → Type 0
-Come c nodes node epoch = Reached c (nodes node).met epoch
+Come c nodes node epoch = EpochReached c (nodes node).met epoch
 
 abbrev pub IsCome : Cluster → (ℕ → Node) → List Item → Item → Type 0
 IsCome c nodes before (Sent key m) = AskedFor (Come c nodes) m.from m.body
@@ -99,7 +99,7 @@ IsCome c nodes before _ = Unit {0}
 -- an epoch that served is past, or serves
 pub record ServedAt (c : Cluster) (v : ℕ) (met : List Met) (epoch : Epoch) : Type 0 where
   pub full : is_full c v ≡ true
-  pub reached : Reached c met epoch
+  pub reached : EpochReached c met epoch
   pub still : is_up met ≡ true → IsPresent c met epoch → serving_met met ≡ Some epoch
 
 abbrev pub IsServed : Cluster → (ℕ → Node) → List Item → Item → Type 0
@@ -132,7 +132,7 @@ module _ (c : Cluster) (now : Standing) (shown_now : ShownAt c now) (q : Epochin
   pub served_at : (v : ℕ) (e : Epoch) → Stands (ServingItem (number v) e) now.tape → ServedAt c v (now.node v).met e
   served_at v e s = (are_at (IsServed c now.node) now.tape (ServingItem (number v) e) q.served s).holds
 
-  come_at : (cell v : ℕ) (e : Epoch) → Stands (Grant cell (number v) e) now.tape → Reached c (now.node v).met e
+  come_at : (cell v : ℕ) (e : Epoch) → Stands (Grant cell (number v) e) now.tape → EpochReached c (now.node v).met e
   come_at cell v e s = (are_at (IsCome c now.node) now.tape (Grant cell (number v) e) q.come s).holds
 
   pub up_of : (v : ℕ) (e : Epoch) → serving_met (now.node v).met ≡ Some e → is_up (now.node v).met ≡ true
@@ -423,14 +423,14 @@ module _ (c : Cluster) (few : length c.nodes ≤ 9) (h : Meanings) (now : Standi
     own_not other none (inl is) = absurd (none (subst IsOwn is own_is))
     own_not other none (inr k) = k
 
-    grant_rule : (v : ℕ) (epoch : Epoch) → Reached c (now.node v).met epoch → (e : Epoch) → serving_on first v ≡ Some e → is_epoch_below e epoch ≡ false
+    grant_rule : (v : ℕ) (epoch : Epoch) → EpochReached c (now.node v).met epoch → (e : Epoch) → serving_on first v ≡ Some e → is_epoch_below e epoch ≡ false
     grant_rule v epoch reached e is = not_above c (now.node v).met e epoch (now_present c now p.0 q v e (sym (first_serving v) ∙ is)) reached
 
-    asked_follow : (t : Bool) (from : ℕ) (epoch : Epoch) (a : Asked) → Reached c (now.node from).met epoch → Follows IsServing (λ x. tt) c nodes first (flat_map (shown me) (cond t (grant_note from epoch a) []))
+    asked_follow : (t : Bool) (from : ℕ) (epoch : Epoch) (a : Asked) → EpochReached c (now.node from).met epoch → Follows IsServing (λ x. tt) c nodes first (flat_map (shown me) (cond t (grant_note from epoch a) []))
     asked_follow false from epoch a reached = tt
     asked_follow true from epoch Granted reached = (grant_rule from epoch reached, tt)
     asked_follow true from epoch Renewed reached = tt
-    asked_follow true from epoch (TakenBy greatest) reached = tt
+    asked_follow true from epoch (GreaterHeld greatest) reached = tt
     asked_follow true from epoch (Over greatest) reached = tt
 
     module _ (full : is_full c me ≡ true) (cell : ℕ) (epoch : Epoch) (granted : Stands (Grant cell (number me) epoch) now.tape) where
@@ -500,7 +500,7 @@ module _ (c : Cluster) (few : length c.nodes ≤ 9) (h : Meanings) (now : Standi
 
     -- what the taken message may rest on
     abbrev Rests : ℕ → Body → Type 0
-    Rests from (Acquire cell epoch clock) = Reached c (now.node from).met epoch
+    Rests from (Acquire cell epoch clock) = EpochReached c (now.node from).met epoch
     Rests from (GrantedBody cell epoch clock) = Stands (Grant cell (number me) epoch) now.tape
     Rests from _ = Unit {0}
 
@@ -577,7 +577,7 @@ module _ (c : Cluster) (few : length c.nodes ≤ 9) (h : Meanings) (now : Standi
       found g same (Some one) last was matches = subst (λ e. Stands (Grant me (number from) e) now.tape) (matches.0 ∙ sym same)
           (subst (Shown me from now.tape) ((p.1).granted from me ∙ last) (granted_shown me from now.tape)).0
 
-      held_by : (g : Epoch) (was : Option Term) (t u : Bool) → is_same epoch g ≡ u → cond t Granted (cond u Renewed (TakenBy g)) ≡ Renewed → Matches (Held g was) (last_grant met from) → Stands (Grant me (number from) epoch) now.tape
+      held_by : (g : Epoch) (was : Option Term) (t u : Bool) → is_same epoch g ≡ u → cond t Granted (cond u Renewed (GreaterHeld g)) ≡ Renewed → Matches (Held g was) (last_grant met from) → Stands (Grant me (number from) epoch) now.tape
       held_by g was true u same k matches = cc
       held_by g was false true same k matches = found g (same_is epoch g same) (last_grant met from) refl was matches
       held_by g was false false same k matches = cc
@@ -604,7 +604,7 @@ module _ (c : Cluster) (few : length c.nodes ≤ 9) (h : Meanings) (now : Standi
     acquire_tells : (from : ℕ) (cell : ℕ) (epoch : Epoch) (clock : ℕ) (m : Message) → is_full c from ≡ true → m.to ≡ from → (b : Bool) → (cell == me && is_cell c me) ≡ b → (a : Asked) → asked_for c me met from epoch ≡ a
         → where_served b (lock_answer cell epoch clock a) ≡ Some m.body → SendsWell nodes m (behind (cond (cell == me && nat_le me c.cells) (grant_note from epoch a) []))
     acquire_tells from cell epoch clock m full to false at a asked k = absurd (let none = k in cc)
-    acquire_tells from cell epoch clock m full to true at (TakenBy greatest) asked k = other_well nodes _ m (subst OtherBody (some_is (Past cell epoch greatest) m.body k) tt)
+    acquire_tells from cell epoch clock m full to true at (GreaterHeld greatest) asked k = other_well nodes _ m (subst OtherBody (some_is (Past cell epoch greatest) m.body k) tt)
     acquire_tells from cell epoch clock m full to true at (Over greatest) asked k = other_well nodes _ m (subst OtherBody (some_is (Past cell epoch greatest) m.body k) tt)
     acquire_tells from cell epoch clock m full to true at Granted asked k = record {
       come = subst (AskedFor (Come c nodes) m.from) (some_is (GrantedBody cell epoch clock) m.body k) tt;
@@ -656,8 +656,8 @@ module _ (c : Cluster) (few : length c.nodes ≤ 9) (h : Meanings) (now : Standi
       (grown_onto c (met_in s met event ∷ ((made event).notes ++ map Sends (made event).sends)) met
       (own_within event, each_both IsWithin (made event).notes (map Sends (made event).sends) (still_within (made event).notes (step_still s (now.node me) event)) (still_within (map Sends (made event).sends) (sends_still (made event).sends))))
 
-  come_on : (event : Event) (v : ℕ) (e : Epoch) → Reached c (now.node v).met e → Reached c (nodes' event v).met e
-  come_on event v e = by_node (λ v node. Reached c (now.node v).met e → Reached c node.met e) now.node me (made event).node (reached_grown c met ((made event).node).met e (grown event)) (λ v apart r. r) v
+  come_on : (event : Event) (v : ℕ) (e : Epoch) → EpochReached c (now.node v).met e → EpochReached c (nodes' event v).met e
+  come_on event v e = by_node (λ v node. EpochReached c (now.node v).met e → EpochReached c node.met e) now.node me (made event).node (reached_grown c met ((made event).node).met e (grown event)) (λ v apart r. r) v
 
   agrees_then : (event : Event) → is_full c me ≡ true → AgreesAt c ((made event).node).met
   agrees_then event full = step_agrees s full (now.node me) ((p.0).agrees me full up) event
@@ -731,7 +731,7 @@ module _ (c : Cluster) (few : length c.nodes ≤ 9) (h : Meanings) (now : Standi
           by false a = tt
           by true Granted = (tt, tt)
           by true Renewed = tt
-          by true (TakenBy greatest) = tt
+          by true (GreaterHeld greatest) = tt
           by true (Over greatest) = tt
       told_serve m rest from (GrantedBody cell epoch clock) is each = granted_serve m rest cell epoch clock (is_full c me) (nat_le cell c.cells) refl is each
       told_serve m rest from (Invalidate op group n) is each = by (is_full c me)
@@ -758,7 +758,7 @@ module _ (c : Cluster) (few : length c.nodes ≤ 9) (h : Meanings) (now : Standi
   second_later item event = then_later now.tape (item ∷ now.tape) (second item event) (one_later now.tape now.tape item (now_is now.tape)) (items_later c (nodes' event) (items event) (item ∷ now.tape))
 
   -- the epoch that a tick asks for
-  asked_reached : (clock : ℕ) (e : Epoch) → epoch_after (start_of met) c.cells (TickCall clock ∷ coordinator_calls c met) ≡ Some e → Reached c ((made (Tick clock)).node).met e
+  asked_reached : (clock : ℕ) (e : Epoch) → epoch_after (start_of met) c.cells (TickCall clock ∷ coordinator_calls c met) ≡ Some e → EpochReached c ((made (Tick clock)).node).met e
   asked_reached clock e is = reached_grown c (Ticks clock ∷ met) ((made (Tick clock)).node).met e
       (subst (Grown c (Ticks clock ∷ met)) (sym (step_met s (now.node me) (Tick clock) ∙ sym (onto_append (made (Tick clock)).notes (map Sends (made (Tick clock)).sends) (Ticks clock ∷ met))))
       (grown_onto c ((made (Tick clock)).notes ++ map Sends (made (Tick clock)).sends) (Ticks clock ∷ met)
@@ -770,7 +770,7 @@ module _ (c : Cluster) (few : length c.nodes ≤ 9) (h : Meanings) (now : Standi
     where
       one : (m : Message) → Origin s met (Tick clock) m → SendsWell (nodes' (Tick clock)) m (second item (Tick clock))
       one m (inl asks) = other_well (nodes' (Tick clock)) (second item (Tick clock)) m (question_other m.body asks)
-      one m (inr a) = subst (λ x. SendsWell (nodes' (Tick clock)) x (second item (Tick clock))) (sym a.is) (record { come = subst (λ (node : Node). Reached c node.met a.epoch) (sym (at_me now.node me (made (Tick clock)).node)) (asked_reached clock a.epoch a.present); tells = tt })
+      one m (inr a) = subst (λ x. SendsWell (nodes' (Tick clock)) x (second item (Tick clock))) (sym a.is) (record { come = subst (λ (node : Node). EpochReached c node.met a.epoch) (sym (at_me now.node me (made (Tick clock)).node)) (asked_reached clock a.epoch a.present); tells = tt })
   origins_well item (Take got) o ms each = each_on (Origin s met (Take got)) (λ m. SendsWell (nodes' (Take got)) m (second item (Take got))) one ms each
     where
       one : (m : Message) → Origin s met (Take got) m → SendsWell (nodes' (Take got)) m (second item (Take got))
@@ -815,7 +815,7 @@ module _ (c : Cluster) (few : length c.nodes ≤ 9) (h : Meanings) (now : Standi
     own_is : IsOwn item
     own_is = occurs_own now.tape s met item event o
 
-    come_now : (those : ℕ → Node) → ((v : ℕ) (e : Epoch) → Reached c (now.node v).met e → Reached c (those v).met e) → Are (IsCome c those) now.tape
+    come_now : (those : ℕ → Node) → ((v : ℕ) (e : Epoch) → EpochReached c (now.node v).met e → EpochReached c (those v).met e) → Are (IsCome c those) now.tape
     come_now those f = are_map (IsCome c now.node) (IsCome c those) one now.tape q.come
       where
         one : (t : List Item) (x : Item) → IsCome c now.node t x → IsCome c those t x
@@ -919,8 +919,8 @@ module _ (c : Cluster) (few : length c.nodes ≤ 9) (h : Meanings) (now : Standi
     fallen_grown : Grown c met node2.met
     fallen_grown = grown_onto c (met_in s met event ∷ Crashes ∷ []) met (own_within event, (tt, tt))
 
-    come_fallen : (v : ℕ) (e : Epoch) → Reached c (now.node v).met e → Reached c (fallen v).met e
-    come_fallen v e = by_node (λ w node. Reached c (now.node w).met e → Reached c node.met e) now.node me node2 (reached_grown c met node2.met e fallen_grown) (λ w apart r. r) v
+    come_fallen : (v : ℕ) (e : Epoch) → EpochReached c (now.node v).met e → EpochReached c (fallen v).met e
+    come_fallen v e = by_node (λ w node. EpochReached c (now.node w).met e → EpochReached c node.met e) now.node me node2 (reached_grown c met node2.met e fallen_grown) (λ w apart r. r) v
 
     served_fallen : (v : ℕ) (e : Epoch) → ServedAt c v (now.node v).met e → ServedAt c v (fallen v).met e
     served_fallen v e = by_node (λ w node. ServedAt c w (now.node w).met e → ServedAt c w node.met e) now.node me node2
@@ -990,8 +990,8 @@ module _ (c : Cluster) (h : Meanings) (now : Standing) (me count : ℕ) (less : 
   start_is : start_of fresh.met ≡ count
   start_is = (grown_onto c shows (Starts count ∷ was) (owed_within shows shows_owed)).start
 
-  come_fresh : (v : ℕ) (e : Epoch) → Reached c (now.node v).met e → Reached c (begun_nodes v).met e
-  come_fresh v e = by_node (λ w node. Reached c (now.node w).met e → Reached c node.met e) now.node me fresh (λ r. inl (subst (λ n. e.start < n) (sym start_is) (reached_start c was count e less r))) (λ w apart r. r) v
+  come_fresh : (v : ℕ) (e : Epoch) → EpochReached c (now.node v).met e → EpochReached c (begun_nodes v).met e
+  come_fresh v e = by_node (λ w node. EpochReached c (now.node w).met e → EpochReached c node.met e) now.node me fresh (λ r. inl (subst (λ n. e.start < n) (sym start_is) (reached_start c was count e less r))) (λ w apart r. r) v
 
   served_fresh : (v : ℕ) (e : Epoch) → ServedAt c v (now.node v).met e → ServedAt c v (begun_nodes v).met e
   served_fresh v e = by_node (λ w node. ServedAt c w (now.node w).met e → ServedAt c w node.met e) now.node me fresh
@@ -1072,8 +1072,8 @@ module _ (c : Cluster) (now : Standing) (me : ℕ) (q : Epoching c now.tape now.
   abbrev gone_nodes : ℕ → Node
   gone_nodes = set_at now.node me gone
 
-  come_gone : (v : ℕ) (e : Epoch) → Reached c (now.node v).met e → Reached c (gone_nodes v).met e
-  come_gone v e = by_node (λ w node. Reached c (now.node w).met e → Reached c node.met e) now.node me gone (reached_grown c (now.node me).met gone.met e (grown_onto c (Crashes ∷ []) (now.node me).met (tt, tt))) (λ w apart r. r) v
+  come_gone : (v : ℕ) (e : Epoch) → EpochReached c (now.node v).met e → EpochReached c (gone_nodes v).met e
+  come_gone v e = by_node (λ w node. EpochReached c (now.node w).met e → EpochReached c node.met e) now.node me gone (reached_grown c (now.node me).met gone.met e (grown_onto c (Crashes ∷ []) (now.node me).met (tt, tt))) (λ w apart r. r) v
 
   served_gone : (v : ℕ) (e : Epoch) → ServedAt c v (now.node v).met e → ServedAt c v (gone_nodes v).met e
   served_gone v e = by_node (λ w node. ServedAt c w (now.node w).met e → ServedAt c w node.met e) now.node me gone

@@ -31,7 +31,7 @@ use Rattle.mega_valid_laws.proofs.Shows.{run_serves, run_valid}
 use Rattle.mega_valid_laws.proofs.Walked.{AgreesAt}
 use Rattle.mega_leased_laws.proofs.Forms.{both_keep}
 use Rattle.mega_leased_laws.proofs.Epochs.{served_at, up_of}
-use Rattle.mega_leased_laws.proofs.Reached.{served_state}
+use Rattle.mega_leased_laws.proofs.EpochReached.{served_state}
 use Rattle.mega_leased_laws.proofs.Counting.{present_at, serving_majority}
 use Rattle.mega_leased_laws.proofs.Leased.{run_leased}
 use Rattle.mega_leased_laws.proofs.Safety.{Saving, lapse_stands, nothing_saving, saving_holds}

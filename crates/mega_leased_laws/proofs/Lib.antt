@@ -2,12 +2,12 @@ pub mod Forms
 pub mod Tails
 pub mod Notes
 pub mod Tapes
-pub mod Told
+pub mod TapeIsMet
 pub mod Locks
 pub mod Cells
 pub mod Obeying
 pub mod Pressing
-pub mod Reached
+pub mod EpochReached
 pub mod Epochs
 pub mod Polls
 pub mod Wheres

@@ -4,7 +4,7 @@ use Rattle.std.specs.Prelude.{unwrap_or}
 use Rattle.mega_base.specs.declared.names.Epoch.{Epoch}
 use Rattle.mega_cluster.specs.declared.cluster.Cluster.{Cluster}
 use Rattle.mega_locks.specs.declared.asked.Asked.{Asked}
-use Rattle.mega_locks.specs.declared.asked.Asked.TheVariants.{Granted, Renewed, Taken, Over}
+use Rattle.mega_locks.specs.declared.asked.Asked.TheVariants.{Granted, Renewed, GreaterHeld, Over}
 use Rattle.mega_locks.specs.declared.lock.Lock.{Lock}
 use Rattle.mega_locks.specs.declared.lock.Lock.TheVariants.{Free, Held, Ended}
 use Rattle.mega_locks.specs.declared.lock.Term.{Term}
@@ -62,7 +62,7 @@ asks_match Free (Some last) e renewed h = absurd h
 asks_match (Held g was) None e renewed h = absurd h
 asks_match (Held g was) (Some last) e renewed h = by (is_above e g) (is_same e g) refl refl
   where
-    by : (t u : Bool) → is_above e g ≡ t → is_same e g ≡ u → Matches (after_answer (cond t Granted (cond u Renewed (Taken g))) (Held g was) e renewed) (granted_by (cond t Granted (cond u Renewed (Taken g))) e (Some last))
+    by : (t u : Bool) → is_above e g ≡ t → is_same e g ≡ u → Matches (after_answer (cond t Granted (cond u Renewed (GreaterHeld g))) (Held g was) e renewed) (granted_by (cond t Granted (cond u Renewed (GreaterHeld g))) e (Some last))
     by true u a b = subst (λ t. Matches (Held e renewed) (cond t (Some (e, true)) (Some last))) (sym (raised last g e true h.0 a)) (refl, refl)
     by false true a b = (h.0 ∙ sym (same_is e g b), h.1)
     by false false a b = h

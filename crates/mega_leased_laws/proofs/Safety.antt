@@ -28,12 +28,12 @@ use Rattle.mega_lease_laws.specs.of_run_laws.Justified.{Each, sent}
 use Rattle.mega_lease_laws.proofs.of_run_laws.Events.{each_append as each_both, onto_append}
 use Rattle.mega_lease_laws.proofs.of_run_laws.Runs.{IsMark}
 use Rattle.mega_valid_laws.specs.Leases.{counted_on}
-use Rattle.mega_valid_laws.proofs.Folds.{IsOwn, IsOwnNote, Told, with_told, same_if}
+use Rattle.mega_valid_laws.proofs.Folds.{IsOwn, IsOwnNote, TapeFold, with_told, same_if}
 use Rattle.mega_leased_laws.proofs.Forms.{Holds, down, stepped}
-use Rattle.mega_leased_laws.proofs.Told.{cuts_told, falls_told, marks_told, starts_told, step_met, steps_told}
+use Rattle.mega_leased_laws.proofs.TapeIsMet.{cuts_told, falls_told, marks_told, starts_told, step_met, steps_told}
 use Rattle.mega_leased_laws.proofs.Locks.{IsOwed}
 use Rattle.mega_leased_laws.proofs.Cells.{by_node, occurs_own, own_noted, sends_still, start_owed, step_still}
-use Rattle.mega_leased_laws.proofs.Reached.{Grown, IsWithin, Reached, asked_present, grown_onto, present_before, present_reached, reached_grown, reached_start}
+use Rattle.mega_leased_laws.proofs.EpochReached.{Grown, IsWithin, EpochReached, asked_present, grown_onto, present_before, present_reached, reached_grown, reached_start}
 use Rattle.mega_leased_laws.proofs.Asking.{same_is}
 use Rattle.mega_valid_laws.proofs.NoCalls.{Uncalled, uncalled_all}
 use Rattle.mega_leased_laws.proofs.Counting.{CountNote, Counting, CountsAt, CountsNow, counted_met, counted_then, lease_at, next_counted, none_slot, present_at, step_counted, step_counts, tells_counted}
@@ -112,7 +112,7 @@ module _ (node : ℕ) (epoch : Epoch) where
   lapsed_note (Begins op text) is x = refl
   lapsed_note _ is x = absurd is
 
-  tells_lapsed : Told Bool (lapsed_on node epoch) (next_lapsed node epoch)
+  tells_lapsed : TapeFold Bool (lapsed_on node epoch) (next_lapsed node epoch)
   tells_lapsed = record { unsafe = λ tape v. refl; sends = λ k m tape v. refl; one = lapsed_one; sent_met = λ m x. refl; own = lapsed_own; own_note = lapsed_note }
 
   lapsed_each : (one : Met) (met : List Met) → has_lapsed (one ∷ met) node epoch ≡ next_lapsed node epoch one (has_lapsed met node epoch)
@@ -231,7 +231,7 @@ no_lapses_in F [] = tt
 no_lapses_in F (m ∷ ms) = (tt, no_lapses_in F ms)
 
 -- what was present is so as long as it is present later
-present_then : (c : Cluster) (met later : List Met) (e : Epoch) → Grown c met later → Reached c met e → present_at c later ≡ Some e → present_at c met ≡ Some e
+present_then : (c : Cluster) (met later : List Met) (e : Epoch) → Grown c met later → EpochReached c met e → present_at c later ≡ Some e → present_at c met ≡ Some e
 present_then c met later e g reached is =
     let after = asked_present (start_of later) c.cells _ e is in let before = present_before c met later e g reached after in
     epoch_counts (start_of met) c.cells _ ∙ (λ i. epoch_at (sym g.start i) ((sym before.1 ∙ after.1) i)) ∙ sym (epoch_counts (start_of later) c.cells _) ∙ is

@@ -39,7 +39,7 @@ use Rattle.mega_leased_laws.specs.Items.{Are}
 use Rattle.mega_leased_laws.proofs.Forms.{Anything, Holds, any_keeps, down, run_holds, stepped}
 use Rattle.mega_leased_laws.proofs.Notes.{Origin, step_origins}
 use Rattle.mega_leased_laws.proofs.Tapes.{IsFree, are_items, are_sent, free_follows, free_notes}
-use Rattle.mega_leased_laws.proofs.Told.{step_met}
+use Rattle.mega_leased_laws.proofs.TapeIsMet.{step_met}
 use Rattle.mega_leased_laws.proofs.Cells.{at_me, by_node, occurs_own}
 use Rattle.mega_leased_laws.proofs.Epochs.{are_map}
 use Rattle.mega_leased_laws.proofs.Held.{run_covers}

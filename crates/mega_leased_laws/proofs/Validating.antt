@@ -16,7 +16,7 @@ use Rattle.mega_entry.specs.declared.content.Content.{Content}
 use Rattle.mega_handler.specs.Named.{Meanings}
 use Rattle.mega_coordinator.specs.declared.answers.NotValid.{NotValid}
 use Rattle.mega_locks.specs.declared.asked.Asked.{Asked}
-use Rattle.mega_locks.specs.declared.asked.Asked.TheVariants.{Granted, Renewed, Taken as TakenBy, Over}
+use Rattle.mega_locks.specs.declared.asked.Asked.TheVariants.{Granted, Renewed, GreaterHeld, Over}
 use Rattle.mega_outcome.specs.declared.request.Request.{Request}
 use Rattle.mega_lease_laws.specs.of_run_laws.of_tape_laws.of_promises.of_rules.of_read.of_propose.Members.{others}
 use Rattle.mega_wal.specs.Acceptor.{accept_answer, promise_answer}
@@ -78,11 +78,11 @@ use Rattle.mega_leased_laws.proofs.Forms.{Holds, Occurs, both_keep, down, run_ho
 use Rattle.mega_leased_laws.proofs.Tails.{front_apart, fronts}
 use Rattle.mega_leased_laws.proofs.Notes.{step_parts}
 use Rattle.mega_leased_laws.proofs.Tapes.{Follows, IsFree, are_items, both_follow, free_follows, free_notes}
-use Rattle.mega_leased_laws.proofs.Told.{cuts_told, falls_told, marks_told, starts_told, step_met, steps_told, told_notes_of}
+use Rattle.mega_leased_laws.proofs.TapeIsMet.{cuts_told, falls_told, marks_told, starts_told, step_met, steps_told, told_notes_of}
 use Rattle.mega_leased_laws.proofs.Locks.{IsOwed}
 use Rattle.mega_leased_laws.proofs.Cells.{Celling, IsGiven, at_me, by_node, celling_holds, nothing_celling, occurs_own, of_given, own_noted, start_owed}
 use Rattle.mega_leased_laws.proofs.Epochs.{Before, Epoching, IsTold, Tells, epoching_holds, nothing_epoching, rest_serves, sends_serve}
-use Rattle.mega_leased_laws.proofs.Asking.{AllActed, Kept, MayNote, OpenAt, Own, OwnBody, ValidNote, all_heard_acted, all_ticked_acted, begins_acted, phase_on, polls_both, polls_in}
+use Rattle.mega_leased_laws.proofs.Asking.{AllActed, OpenBelow, MayNote, OpenAt, Own, OwnBody, ValidNote, all_heard_acted, all_ticked_acted, begins_acted, phase_on, polls_both, polls_in}
 use Rattle.mega_valid_laws.proofs.NoCalls.{IsNoCall, Uncalled, uncalled_all}
 use Rattle.mega_leased_laws.proofs.Beating.{Beats, IsIdle, NoGrant, NoGrantBody, beaten_at, beaten_met, beaten_on, fronts_beat, fronts_no_call, idle_none, invalid_most, next_beaten, step_beats, step_idle, step_unchanged, tells_beaten, uncalled_idle, uncalled_serves, own_idle}
 use Rattle.mega_leased_laws.proofs.Obeying.{mark_silent}
@@ -148,7 +148,7 @@ fetched_plain op group n (Some entry) = tt
 lock_plain : (cell : ℕ) (epoch : Epoch) (clock : ℕ) (asked : Asked) → NoRequest (lock_answer cell epoch clock asked)
 lock_plain cell epoch clock Granted = tt
 lock_plain cell epoch clock Renewed = tt
-lock_plain cell epoch clock (TakenBy greatest) = tt
+lock_plain cell epoch clock (GreaterHeld greatest) = tt
 lock_plain cell epoch clock (Over greatest) = tt
 
 held_plain : (op : OpId) (cell : ℕ) (node : NodeId) (held : Option Epoch) → NoRequest (held_answer op cell node held)
@@ -270,7 +270,7 @@ record StepKnows (s : Setting) (tape : List Item) (node : Node) (event : Event) 
   is : made.notes ≡ (fronts s node event ++ durable) ++ more
   each : Each (RestNote s.cluster tape s.me (onto durable (behind_fronts s node event))) more
   k : ℕ
-  opens : Each (Kept s.cluster tape made.sends s.me k) (made.node).open_operations
+  opens : Each (OpenBelow s.cluster tape made.sends s.me k) (made.node).open_operations
   own : Each (Own s.me k) made.sends
 
 module _ (s : Setting) (tape : List Item) (node : Node) where
@@ -281,16 +281,16 @@ module _ (s : Setting) (tape : List Item) (node : Node) where
   durable_shows durable base only shows e is = shows e (sym (uncalled_serves s.cluster (onto durable base) base (uncalled_all s.cluster durable base (decision_no_call durable only))) ∙ is)
 
   -- with other messages that ask nothing
-  kept_with : (sends before behind : List Message) (k : ℕ) → Each Plain before → Each Plain behind → (os : List Operation) → Each (Kept s.cluster tape sends s.me k) os → Each (Kept s.cluster tape ((before ++ sends) ++ behind) s.me k) os
-  kept_with sends before behind k h j os kept = each_on (Kept s.cluster tape sends s.me k) (Kept s.cluster tape ((before ++ sends) ++ behind) s.me k) (λ o one. record {
+  kept_with : (sends before behind : List Message) (k : ℕ) → Each Plain before → Each Plain behind → (os : List Operation) → Each (OpenBelow s.cluster tape sends s.me k) os → Each (OpenBelow s.cluster tape ((before ++ sends) ++ behind) s.me k) os
+  kept_with sends before behind k h j os kept = each_on (OpenBelow s.cluster tape sends s.me k) (OpenBelow s.cluster tape ((before ++ sends) ++ behind) s.me k) (λ o one. record {
     node = one.node;
     below = one.below;
     knows = one.knows;
     quiet = λ g unseen. let was = one.quiet g unseen in (was.0, polls_both (before ++ sends) behind o.id g (polls_both before sends o.id g (plain_silent before o.id g h) was.1) (plain_silent behind o.id g j));
   }) os kept
 
-  kept_before : (sends before : List Message) (k : ℕ) → Each Plain before → (os : List Operation) → Each (Kept s.cluster tape sends s.me k) os → Each (Kept s.cluster tape (before ++ sends) s.me k) os
-  kept_before sends before k h os kept = each_on (Kept s.cluster tape sends s.me k) (Kept s.cluster tape (before ++ sends) s.me k) (λ o one. record {
+  kept_before : (sends before : List Message) (k : ℕ) → Each Plain before → (os : List Operation) → Each (OpenBelow s.cluster tape sends s.me k) os → Each (OpenBelow s.cluster tape (before ++ sends) s.me k) os
+  kept_before sends before k h os kept = each_on (OpenBelow s.cluster tape sends s.me k) (OpenBelow s.cluster tape (before ++ sends) s.me k) (λ o one. record {
     node = one.node;
     below = one.below;
     knows = one.knows;
@@ -391,7 +391,7 @@ module _ (s : Setting) (tape : List Item) (node : Node) where
       all = all_ticked_acted s tape base shown_base clock node.open_operations 0 (at_first base (portion_of s node.met node.stored)) rising opens
           (record { same = record { serves = refl; beaten = λ g. refl; decided = λ g n. refl }; valid = tt; kept = tt; own = tt })
 
-  kept_open : (k : ℕ) → (os : List Operation) → Each (OpenAt s.cluster tape s.me) os → Each (λ (o : Operation). (o.id).number < k) os → Each (Kept s.cluster tape [] s.me k) os
+  kept_open : (k : ℕ) → (os : List Operation) → Each (OpenAt s.cluster tape s.me) os → Each (λ (o : Operation). (o.id).number < k) os → Each (OpenBelow s.cluster tape [] s.me k) os
   kept_open k [] h b = tt
   kept_open k (o ∷ os) h b = (record { node = (h.0).node; below = b.0; knows = (h.0).knows; quiet = (h.0).quiet }, kept_open k os h.1 b.1)
 
@@ -422,7 +422,7 @@ module _ (s : Setting) (tape : List Item) (node : Node) where
       applies : List Met
       applies = apply_notes s node.met node.stored now.met now.stored
 
-      raised : (l : ℕ) → k ≤ l → Each (Kept s.cluster tape [] s.me l) node.open_operations
+      raised : (l : ℕ) → k ≤ l → Each (OpenBelow s.cluster tape [] s.me l) node.open_operations
       raised l le = kept_open l node.open_operations opens (each_on (λ (o : Operation). (o.id).number < k) (λ (o : Operation). (o.id).number < l) (λ o less. omega (arith, less, le)) node.open_operations below)
 
       all : AllActed s tape base shows now
@@ -865,7 +865,7 @@ module _ (c : Cluster) (h : Meanings) (now : Standing) (me : ℕ) (up : is_up (n
 
     opens_then : (v : ℕ) → Each (OpenAt c third v) (nodes' v).open_operations
     opens_then = by_node (λ v x. Each (OpenAt c third v) x.open_operations) now.node me (made event).node
-        (each_on (Kept c behind (made event).sends me knows.k) (OpenAt c third me) (λ x kept. record {
+        (each_on (OpenBelow c behind (made event).sends me knows.k) (OpenAt c third me) (λ x kept. record {
           node = kept.node;
           knows = phase_on c behind third me x.id x.visited x.phase (then_later behind second third behind_second second_third) kept.knows;
           quiet = λ group unseen. let was = kept.quiet group unseen in (sent_polled (sent_count now.tape + 1) (made event).sends second x.id group was.1 (second_polled x.id group ∙ sym (behind_polled x.id group) ∙ was.0), refl);

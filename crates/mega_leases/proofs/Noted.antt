@@ -6,7 +6,7 @@ use Rattle.mega_base.specs.declared.names.Epoch.{Epoch}
 use Rattle.mega_wire.specs.declared.message.Body.{Body}
 use Rattle.mega_wire.specs.declared.message.Body.TheVariants.{Where, Top, Accept, Accepted, Refused, Prepare, Promise, Invalidate, Invalidated, Dead, Held, Unheld, Decide, Fetch, Have, HaveNot, Acquire, Granted, Past, Request, Reply}
 use Rattle.mega_locks.specs.declared.asked.Asked.{Asked}
-use Rattle.mega_locks.specs.declared.asked.Asked.TheVariants.{Granted as First, Renewed, Taken, Over}
+use Rattle.mega_locks.specs.declared.asked.Asked.TheVariants.{Granted as First, Renewed, GreaterHeld, Over}
 use Rattle.mega_cluster.specs.declared.cluster.Cluster.{Cluster}
 use Rattle.mega_locks.specs.History.{lapse_for, nodes}
 use Rattle.mega_coordinator.specs.Lease.{counted_by, granted_answer}
@@ -30,7 +30,7 @@ where_so false notes h = refl
 grant_shows : (node : ℕ) (epoch : Epoch) (answer : Asked) → list_all shows_only (grant_note node epoch answer) ≡ true
 grant_shows node epoch First = refl
 grant_shows node epoch Renewed = refl
-grant_shows node epoch (Taken greatest) = refl
+grant_shows node epoch (GreaterHeld greatest) = refl
 grant_shows node epoch (Over greatest) = refl
 
 count_shows : (cell : ℕ) (epoch : Epoch) (was : Bool) (counted : Counted) → list_all shows_only (counts_notes cell epoch was counted) ≡ true

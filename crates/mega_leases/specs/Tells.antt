@@ -2,7 +2,7 @@
 use Rattle.std.specs.Prelude.{◌≡◌, ◌≤◌, ℕ, List, ◌∷◌}
 use Rattle.mega_cluster.specs.declared.cluster.Cluster.{Cluster}
 use Rattle.mega_locks.specs.History.{Call as Asked, Represents as Locks}
-use Rattle.mega_coordinator.specs.History.{Call as Told, Represents as Coordinates}
+use Rattle.mega_coordinator.specs.History.{Call as CoordinatorCall, Represents as Coordinates}
 use Rattle.mega_wire.specs.declared.message.Body.{Body}
 use Rattle.mega_rules.specs.Met.{Met, Takes}
 use Rattle.mega_rules.specs.Clock.{last_done, last_tick, start_of, ticks_of}
@@ -12,7 +12,7 @@ use Rattle.mega_leases.specs.declared.leases.Leases.{Leases}
 use Rattle.mega_leases.specs.Numbers.{numbers_of}
 
 -- a node of this cluster, in this start, whose cell was asked and whose coordinator was told so, and which ticked so, each the newest first
-pub record Holds (c : Cluster) (me : ℕ) (leases : Leases) (start : ℕ) (asked : List Asked) (told : List Told) (ticks : List ℕ) : Type 0 where
+pub record Holds (c : Cluster) (me : ℕ) (leases : Leases) (start : ℕ) (asked : List Asked) (told : List CoordinatorCall) (ticks : List ℕ) : Type 0 where
   pub least : 1 ≤ me
   pub numbers_are : leases.numbers ≡ numbers_of c me
   pub clock_is : leases.clock ≡ last_tick ticks

@@ -13,6 +13,6 @@ mod ticking;
 
 pub use fault::TakeFault;
 pub use leases::Leases;
-pub use note::Note;
+pub use note::LeaseNote;
 pub use taking::Reaction;
 pub use ticking::Ticking;

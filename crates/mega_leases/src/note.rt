@@ -3,7 +3,7 @@ use mega_base::{Epoch, GroupId, NodeId, Position};
 
 /// What a node notes of its lock cell and its coordinator.
 #[derive(Debug, Drop)]
-pub enum Note {
+pub enum LeaseNote {
     /// Its cell granted a node's lock under an epoch, for the first time.
     Grants { node: NodeId, epoch: Epoch },
     /// Its cell let an epoch of a node lapse.

@@ -6,7 +6,7 @@ ghost use Rattle.mega_rules.specs.Coordinators.{counts_notes, forget_notes, is_c
 ghost use Rattle.mega_rules.specs.Locks.{grant_note, lapse_note};
 ghost use Rattle.mega_leases.specs.Notes.{count_notes, forgotten_note, lapsed_notes, met_of};
 
-use crate::note::Note;
+use crate::note::LeaseNote;
 use mega_base::{Epoch, Items, NoMemory, NodeId};
 use mega_coordinator::Counted;
 use mega_locks::Asked;
@@ -18,13 +18,13 @@ pub(crate) fn grant_note(
     node: NodeId,
     epoch: Epoch,
     answer: Asked,
-) -> Result<Items<Note>, NoMemory>
+) -> Result<Items<LeaseNote>, NoMemory>
     ensures { IfOk result (λ notes. map met_of notes ≡ grant_note node.0 epoch answer) }
 {
     let mut notes = Items::new(alloc);
     match answer {
         Asked::Granted => {
-            notes.push(Note::Grants { node, epoch })?;
+            notes.push(LeaseNote::Grants { node, epoch })?;
             Ok(notes)
         }
         _ => Ok(notes),
@@ -37,14 +37,14 @@ fn count_note(
     cell: u8,
     epoch: Epoch,
     was_counted: bool,
-) -> Result<Items<Note>, NoMemory>
+) -> Result<Items<LeaseNote>, NoMemory>
     ensures { IfOk result (λ notes. notes ≡ count_notes cell epoch was_counted) }
 {
     let mut notes = Items::new(alloc);
     if was_counted {
         return Ok(notes);
     }
-    notes.push(Note::Counts { cell, epoch })?;
+    notes.push(LeaseNote::Counts { cell, epoch })?;
     Ok(notes)
 }
 
@@ -55,7 +55,7 @@ pub(crate) fn counts_notes(
     epoch: Epoch,
     was_counted: bool,
     counted: Counted,
-) -> Result<Items<Note>, NoMemory>
+) -> Result<Items<LeaseNote>, NoMemory>
     ensures { IfOk result (λ notes. map met_of notes ≡ counts_notes cell epoch was_counted counted) }
 {
     match counted {
@@ -63,7 +63,7 @@ pub(crate) fn counts_notes(
         Counted::Yes => count_note(alloc, cell, epoch, was_counted),
         Counted::Serving => {
             let mut notes = count_note(alloc, cell, epoch, was_counted)?;
-            notes.push(Note::Serves { epoch })?;
+            notes.push(LeaseNote::Serves { epoch })?;
             Ok(notes)
         }
     }
@@ -110,24 +110,24 @@ pub(crate) fn marked_cells(
 }
 
 /// What a node notes of the cells that its coordinator forgets.
-fn forget_notes(alloc: Global, epoch: Epoch, cells: &[u8]) -> Result<Items<Note>, NoMemory>
+fn forget_notes(alloc: Global, epoch: Epoch, cells: &[u8]) -> Result<Items<LeaseNote>, NoMemory>
     ensures { IfOk result (λ notes. notes ≡ map (forgotten_note epoch) cells.now) }
 {
     let mut notes = Items::new(alloc);
     for cell in cells {
-        notes.push(Note::Forgets { cell: *cell, epoch })?;
+        notes.push(LeaseNote::Forgets { cell: *cell, epoch })?;
     }
     Ok(notes)
 }
 
 /// Adds what a node notes of the epoch that it loses.
-fn add_lost(notes: Items<Note>, lost: Option<Epoch>) -> Result<Items<Note>, NoMemory>
+fn add_lost(notes: Items<LeaseNote>, lost: Option<Epoch>) -> Result<Items<LeaseNote>, NoMemory>
     ensures { IfOk result (λ made. map met_of made ≡ map met_of notes ++ lost_note lost) }
 {
     let mut made = notes;
     match lost {
         Some(epoch) => {
-            made.push(Note::Loses { epoch })?;
+            made.push(LeaseNote::Loses { epoch })?;
             Ok(made)
         }
         None => Ok(made),
@@ -142,7 +142,7 @@ pub(crate) fn tick_notes(
     epoch: Option<Epoch>,
     forgot: &[bool; 5],
     lost: Option<Epoch>,
-) -> Result<Items<Note>, NoMemory>
+) -> Result<Items<LeaseNote>, NoMemory>
     ensures { IfOk result (λ notes. map met_of notes ≡ forget_notes epoch (filter (is_cell_in forgot.now) (range_with_len 1 number)) ++ lost_note lost) }
 {
     let Some(epoch) = epoch else {
@@ -154,14 +154,18 @@ pub(crate) fn tick_notes(
 }
 
 /// Adds what a node notes of an epoch that its cell let lapse.
-fn add_lapse(notes: Items<Note>, node: u8, lapsed: Option<Epoch>) -> Result<Items<Note>, NoMemory>
+fn add_lapse(
+    notes: Items<LeaseNote>,
+    node: u8,
+    lapsed: Option<Epoch>,
+) -> Result<Items<LeaseNote>, NoMemory>
     ensures { IfOk result (λ made. made ≡ notes ++ lapsed_notes node lapsed) }
 {
     let mut made = notes;
     match lapsed {
         Some(epoch) => {
             let node = NodeId(node);
-            made.push(Note::Lapses { node, epoch })?;
+            made.push(LeaseNote::Lapses { node, epoch })?;
             Ok(made)
         }
         None => Ok(made),
@@ -172,7 +176,7 @@ fn add_lapse(notes: Items<Note>, node: u8, lapsed: Option<Epoch>) -> Result<Item
 pub(crate) fn lapse_notes(
     alloc: Global,
     lapsed: &[Option<Epoch>; 9],
-) -> Result<Items<Note>, NoMemory>
+) -> Result<Items<LeaseNote>, NoMemory>
     ensures { IfOk result (λ notes. map met_of notes ≡ flat_map (λ node. lapse_note node (get_or lapsed.now (node - 1) None)) nodes) }
 {
     let mut notes = Items::new(alloc);

@@ -12,7 +12,7 @@ ghost use Rattle.mega_leases.specs.Tells.{Tells, TellsTaken};
 
 use crate::fault::TakeFault;
 use crate::leases::Leases;
-use crate::note::Note;
+use crate::note::LeaseNote;
 use crate::noting::{counts_notes, grant_note, is_marked};
 use mega_base::{Copied, Epoch, GroupId, Items, NoMemory, NodeId, OpId, Position};
 use mega_locks::Asked;
@@ -23,7 +23,7 @@ use std::alloc::Global;
 /// coordinator.
 #[derive(Debug, Drop)]
 pub struct Reaction {
-    pub notes: Items<Note>,
+    pub notes: Items<LeaseNote>,
     pub reply: Option<Body>,
 }
 
@@ -55,7 +55,7 @@ fn lock_answer(cell: u8, epoch: Epoch, clock: u64, answer: Asked) -> Body
 {
     match answer {
         Asked::Granted | Asked::Renewed => Body::Granted { cell, epoch, clock },
-        Asked::Taken { epoch: greatest } | Asked::Over { epoch: greatest } => Body::Past {
+        Asked::GreaterHeld { epoch: greatest } | Asked::Over { epoch: greatest } => Body::Past {
             cell,
             asked: epoch,
             greatest,
@@ -185,7 +185,7 @@ impl Leases {
         }
         let mut notes = Items::new(alloc);
         let noted = group.copy(alloc)?;
-        notes.push(Note::Invalidates {
+        notes.push(LeaseNote::Invalidates {
             group: noted,
             position,
         })?;

@@ -2,7 +2,7 @@
 ghost use Rattle.std.specs.Prelude.{◌≡◌, ◌-◌, ◌&&◌, ◌∷◌, ◌++◌, [], List, Some, None, map, flat_map, filter, get_or, nat_le, IfOk, if◌then◌else◌};
 ghost use Rattle.std.specs.List.{range_with_len};
 ghost use Rattle.mega_locks.specs.History.{Ticks as CellTicks, lapse_for, nodes};
-ghost use Rattle.mega_coordinator.specs.History.{Ticks as Told, counted_cells, epoch_after, serving, ticked};
+ghost use Rattle.mega_coordinator.specs.History.{Ticks as CoordinatorTicks, counted_cells, epoch_after, serving, ticked};
 ghost use Rattle.mega_rules.specs.Met.{Met, Ticks};
 ghost use Rattle.mega_rules.specs.Clock.{does_again, last_tick};
 ghost use Rattle.mega_rules.specs.Members.{is_full, keep_of};
@@ -14,7 +14,7 @@ ghost use Rattle.mega_leases.specs.Notes.{met_of};
 ghost use Rattle.mega_leases.specs.Tells.{Holds, Tells};
 
 use crate::leases::{Leases, is_again};
-use crate::note::Note;
+use crate::note::LeaseNote;
 use crate::noting::{cells, lapse_notes, marked_cells, tick_notes};
 use mega_base::{Epoch, Items, NoMemory};
 use mega_coordinator::Ticked;
@@ -25,8 +25,8 @@ use std::alloc::Global;
 /// asks for its epoch.
 #[derive(Debug, Drop)]
 pub struct Ticking {
-    pub of_coordinator: Items<Note>,
-    pub of_cell: Items<Note>,
+    pub of_coordinator: Items<LeaseNote>,
+    pub of_cell: Items<LeaseNote>,
     pub sends: Items<Message>,
 }
 
@@ -80,7 +80,7 @@ impl Leases {
         ensures told { (c me start : _) (asked told ticks : _) → Holds c me self.old start asked told ticks → result.told ≡ ticked start c.cells told now }
         ensures lapsed { (c me start : _) (asked told ticks : _) → Holds c me self.old start asked told ticks → result.lapsed ≡ map (lapse_for asked now (keep_of c)) nodes }
         ensures again { (c me start : _) (asked told ticks : _) → Holds c me self.old start asked told ticks → result.again ≡ does_again c.retry ticks now }
-        ensures state { (c me start : _) (asked told ticks : _) → Holds c me self.old start asked told ticks → Holds c me self.new start (CellTicks now (keep_of c) ∷ asked) (Told now ∷ told) (now ∷ ticks) }
+        ensures state { (c me start : _) (asked told ticks : _) → Holds c me self.old start asked told ticks → Holds c me self.new start (CellTicks now (keep_of c) ∷ asked) (CoordinatorTicks now ∷ told) (now ∷ ticks) }
         ensures numbers { self.new.numbers ≡ self.old.numbers }
     {
         let epoch = self.coordinator.epoch();
@@ -98,7 +98,7 @@ impl Leases {
     }
 
     /// What the node notes of its coordinator's tick; a node that is not full shows nothing of it.
-    fn coordinator_notes(&self, alloc: Global, due: &Due) -> Result<Items<Note>, NoMemory>
+    fn coordinator_notes(&self, alloc: Global, due: &Due) -> Result<Items<LeaseNote>, NoMemory>
         ensures { IfOk result (λ notes. map met_of notes ≡ (if self.now.numbers.full then forget_notes due.now.epoch (filter (is_cell_in due.now.told.forgot) (range_with_len 1 self.now.numbers.cells)) ++ lost_note due.now.told.lost else [])) }
     {
         if !self.numbers.full {
@@ -115,7 +115,7 @@ impl Leases {
     }
 
     /// What the node notes of its cell's tick, where a cell lives in it.
-    fn cell_notes(&self, alloc: Global, due: &Due) -> Result<Items<Note>, NoMemory>
+    fn cell_notes(&self, alloc: Global, due: &Due) -> Result<Items<LeaseNote>, NoMemory>
         ensures { IfOk result (λ notes. map met_of notes ≡ (if nat_le self.now.numbers.me self.now.numbers.cells then flat_map (λ node. lapse_note node (get_or due.now.lapsed (node - 1) None)) nodes else [])) }
     {
         if self.numbers.me > self.numbers.cells {

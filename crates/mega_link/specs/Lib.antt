@@ -1,4 +1,4 @@
 pub mod Datagrams
 pub mod Readings
-pub mod Told
+pub mod GivenList
 pub mod Memory

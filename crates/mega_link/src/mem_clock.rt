@@ -2,7 +2,7 @@
 ghost use Rattle.std.specs.Prelude.{◌≡◌, ◌≤◌, ℕ, List, [], All, drop, Some};
 ghost use Rattle.mega_link.specs.Datagrams.{Gains};
 ghost use Rattle.mega_link.specs.Readings.{NeverFalls};
-ghost use Rattle.mega_link.specs.Told.{next_or};
+ghost use Rattle.mega_link.specs.GivenList.{next_or};
 
 use crate::clock::{Clock, LATEST};
 use std::marker::Model;
@@ -19,7 +19,7 @@ pub struct MemClock {
 impl Model for MemClock {
     ghost use Rattle.std.specs.Prelude.{drop};
     ghost use Rattle.mega_link.specs.Memory.{Course};
-    ghost use Rattle.mega_link.specs.Told.{told};
+    ghost use Rattle.mega_link.specs.GivenList.{told};
     ghost use Rattle.mega_link.specs.Readings.{IsCourse};
 
     ghost Value = { Course };

@@ -1,7 +1,7 @@
 //! A link in memory, to which given datagrams come and which keeps what is sent.
 ghost use Rattle.std.specs.Prelude.{◌≡◌, ◌≤◌, ◌<◌, [], ◌++◌, ◌∷◌, drop, length, take, slice_index_or, slice_set, Some, None, IfSome, OnOk, OnErr};
 ghost use Rattle.mega_link.specs.Datagrams.{Gains, cut, given};
-ghost use Rattle.mega_link.specs.Told.{next_or};
+ghost use Rattle.mega_link.specs.GivenList.{next_or};
 
 use crate::link::Link;
 use crate::peer::{Failed, Peer};
@@ -23,7 +23,7 @@ pub struct MemLink {
 impl Model for MemLink {
     ghost use Rattle.std.specs.Prelude.{◌≡◌, ◌≤◌, ◌<◌, drop, length, None};
     ghost use Rattle.mega_link.specs.Memory.{Exchange};
-    ghost use Rattle.mega_link.specs.Told.{told};
+    ghost use Rattle.mega_link.specs.GivenList.{told};
 
     ghost Value = { Exchange };
 

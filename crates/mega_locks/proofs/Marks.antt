@@ -3,7 +3,7 @@ use Rattle.std.proofs.Common.{◌≡◌, ℕ, ◌+◌, ◌<◌, ◌≤◌, ◌==
 use Rattle.std.specs.Prelude.{Option, Some, None, unwrap_or, option_map}
 use Rattle.std.proofs.lemmas.Bool.Decides.{nat_tests}
 use Rattle.mega_base.specs.declared.names.Epoch.{Epoch}
-use Rattle.mega_locks.specs.declared.asked.Asked.TheVariants.{Granted, Renewed, Taken, Over}
+use Rattle.mega_locks.specs.declared.asked.Asked.TheVariants.{Granted, Renewed, GreaterHeld, Over}
 use Rattle.mega_locks.specs.declared.lock.Lock.{Lock}
 use Rattle.mega_locks.specs.declared.lock.Lock.TheVariants.{Free, Held, Ended}
 use Rattle.mega_locks.specs.declared.lock.Term.{Term}
@@ -91,11 +91,11 @@ fits_asked : (lock : Lock) (ms : List Mark) (e : Epoch) (r : Option Term) → Fi
 fits_asked Free ms e r fits = fits_grant Free ms e r fits (below_none e ms (sym fits.top))
 fits_asked (Held g s) ms e r fits = by_order (is_above e g) refl
   where
-    by_same : (test : Bool) → is_same e g ≡ test → Fits (after_answer (cond test Renewed (Taken g)) (Held g s) e r) (granted_marks (cond test Renewed (Taken g)) e ++ ms)
+    by_same : (test : Bool) → is_same e g ≡ test → Fits (after_answer (cond test Renewed (GreaterHeld g)) (Held g s) e r) (granted_marks (cond test Renewed (GreaterHeld g)) e ++ ms)
     by_same true h = fits_renewed e s r ms (subst (λ (f : Epoch). Fits (Held f s) ms) (sym (same_is e g h)) fits)
     by_same false h = fits
 
-    by_order : (test : Bool) → is_above e g ≡ test → Fits (after_answer (cond test Granted (cond (is_same e g) Renewed (Taken g))) (Held g s) e r) (granted_marks (cond test Granted (cond (is_same e g) Renewed (Taken g))) e ++ ms)
+    by_order : (test : Bool) → is_above e g ≡ test → Fits (after_answer (cond test Granted (cond (is_same e g) Renewed (GreaterHeld g))) (Held g s) e r) (granted_marks (cond test Granted (cond (is_same e g) Renewed (GreaterHeld g))) e ++ ms)
     by_order true h = fits_grant (Held g s) ms e r fits (below_newest e g ms fits.rising (sym fits.top) h)
     by_order false h = by_same (is_same e g) refl
 fits_asked (Ended g) ms e r fits = by_order (is_above e g) refl
@@ -193,11 +193,11 @@ granted_is_new : (lock : Lock) (ms : List Mark) (e : Epoch) → Fits lock ms →
 granted_is_new Free ms e fits h = none_below e ms (below_none e ms (sym fits.top))
 granted_is_new (Held g r) ms e fits h = by_order (is_above e g) refl h
   where
-    by_same : (test : Bool) → cond test Renewed (Taken g) ≡ Granted → ⊥
+    by_same : (test : Bool) → cond test Renewed (GreaterHeld g) ≡ Granted → ⊥
     by_same true e = cc
     by_same false e = cc
 
-    by_order : (test : Bool) → is_above e g ≡ test → cond test Granted (cond (is_same e g) Renewed (Taken g)) ≡ Granted → grants e ms ≡ 0
+    by_order : (test : Bool) → is_above e g ≡ test → cond test Granted (cond (is_same e g) Renewed (GreaterHeld g)) ≡ Granted → grants e ms ≡ 0
     by_order true above is = none_below e ms (below_newest e g ms fits.rising (sym fits.top) above)
     by_order false above is = absurd (by_same (is_same e g) is)
 granted_is_new (Ended g) ms e fits h = by_order (is_above e g) refl h
@@ -229,7 +229,7 @@ renewed_asked : (lock : Lock) (e : Epoch) (r s : Option Term) → RenewedAt lock
 renewed_asked Free e r s h = refl
 renewed_asked (Held g t) e r s h = by_order (is_above e g) (is_same e g)
   where
-    by_order : (above same : Bool) → RenewedAt (after_answer (cond above Granted (cond same Renewed (Taken g))) (Held g t) e r) (cond (is_kept (cond above Granted (cond same Renewed (Taken g)))) r s)
+    by_order : (above same : Bool) → RenewedAt (after_answer (cond above Granted (cond same Renewed (GreaterHeld g))) (Held g t) e r) (cond (is_kept (cond above Granted (cond same Renewed (GreaterHeld g)))) r s)
     by_order true same = refl
     by_order false true = refl
     by_order false false = h

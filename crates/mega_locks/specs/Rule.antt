@@ -1,18 +1,16 @@
 -- The rule of one lock: what a cell answers to a node, and what it keeps for it.
 use Rattle.std.specs.Prelude.{ℕ, ◌+◌, ◌==◌, ◌&&◌, ◌||◌, Bool, true, false, not, if◌then◌else◌, nat_lt, nat_le, Option, Some, None, unwrap_or}
 use Rattle.mega_base.specs.declared.names.Epoch.{Epoch}
+pub use Rattle.mega_base.specs.NameOrder.{is_same_epoch as is_same}
 use Rattle.mega_locks.specs.declared.lock.Term.{Term}
 use Rattle.mega_locks.specs.declared.lock.Lock.{Lock}
 use Rattle.mega_locks.specs.declared.lock.Lock.TheVariants.{Free, Held, Ended}
 use Rattle.mega_locks.specs.declared.asked.Asked.{Asked}
-use Rattle.mega_locks.specs.declared.asked.Asked.TheVariants.{Granted, Renewed, Taken, Over}
+use Rattle.mega_locks.specs.declared.asked.Asked.TheVariants.{Granted, Renewed, GreaterHeld, Over}
 
 -- epochs are in order of start, then of count
 abbrev pub is_above : Epoch → Epoch → Bool
 is_above e g = nat_lt g.start e.start || (e.start == g.start && nat_lt g.count e.count)
-
-abbrev pub is_same : Epoch → Epoch → Bool
-is_same e g = e.start == g.start && e.count == g.count
 
 -- a term is over at each clock reading at or past its end
 abbrev pub is_over : Term → ℕ → Bool
@@ -25,15 +23,14 @@ held_epoch _ = None
 -- an epoch is granted where it is above every epoch granted before, and renewed where it is held
 abbrev pub answer : Lock → Epoch → Asked
 answer Free e = Granted
-answer (Held g renewed) e = if is_above e g then Granted else (if is_same e g then Renewed else Taken g)
+answer (Held g renewed) e = if is_above e g then Granted else (if is_same e g then Renewed else GreaterHeld g)
 answer (Ended g) e = if is_above e g then Granted else Over g
 
 -- a grant ends what was held before; a grant or a renewal is held, and counts as told
 abbrev pub after_answer : Asked → Lock → Epoch → Option Term → Lock
 after_answer Granted lock e renewed = Held e renewed
 after_answer Renewed lock e renewed = Held e renewed
-after_answer (Taken g) lock e renewed = lock
-after_answer (Over g) lock e renewed = lock
+after_answer _ lock e renewed = lock
 
 abbrev pub asked : Lock → Epoch → Option Term → Lock
 asked lock e renewed = after_answer (answer lock e) lock e renewed

@@ -9,7 +9,7 @@ pub enum Asked {
     /// The epoch was held, and its time counts anew.
     Renewed,
     /// A greater epoch is held, this one.
-    Taken { epoch: Epoch },
+    GreaterHeld { epoch: Epoch },
     /// None is held, and the epoch asked for is not above the greatest granted, this one.
     Over { epoch: Epoch },
 }

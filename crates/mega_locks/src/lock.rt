@@ -80,7 +80,7 @@ impl Lock {
                 } else if is_same(epoch, held) {
                     Asked::Renewed
                 } else {
-                    Asked::Taken { epoch: held }
+                    Asked::GreaterHeld { epoch: held }
                 }
             }
             Lock::Ended { epoch: ended } => {

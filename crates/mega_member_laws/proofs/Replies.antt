@@ -22,7 +22,7 @@ use Rattle.mega_wal.specs.declared.answers.Voted.{Voted as AcceptAnswer}
 use Rattle.mega_wal.specs.declared.answers.Voted.TheVariants as vote
 use Rattle.mega_locks.specs.declared.asked.Asked.{Asked}
 use Rattle.mega_locks.specs.declared.asked.Asked.TheVariants as lock
-use Rattle.mega_coordinator.specs.History.{Call as Told, Ticks as TickTold, counted_cells, epoch_after, serving}
+use Rattle.mega_coordinator.specs.History.{Call as CoordinatorCall, Ticks as CoordinatorTicks, counted_cells, epoch_after, serving}
 use Rattle.mega_format_laws.specs.of_rules.of_read.of_propose.Members.{others}
 use Rattle.mega_format_laws.specs.of_rules.Met.{Met}
 use Rattle.mega_format_laws.specs.of_rules.Members.{cells, has_rows, is_cell, is_full, is_voter, nodes, voters}
@@ -93,7 +93,7 @@ held_here c op cell node (Some epoch) = tt
 lock_here : (c : Cluster) (cell : ℕ) (epoch : Epoch) (clock : ℕ) (asked : Asked) → CarriesHere c (lock_answer cell epoch clock asked)
 lock_here c cell epoch clock lock.Granted = tt
 lock_here c cell epoch clock lock.Renewed = tt
-lock_here c cell epoch clock (lock.Taken greatest) = tt
+lock_here c cell epoch clock (lock.GreaterHeld greatest) = tt
 lock_here c cell epoch clock (lock.Over greatest) = tt
 
 answer_here : (c : Cluster) (me : ℕ) (met : List Met) (from : ℕ) (body : Body) → MetWithin c met → CarriesHere c body → IsOption (CarriesHere c) (answer_to c me met from body)
@@ -150,11 +150,11 @@ asked_here : (c : Cluster) (counted : List Bool) (serves : Option Epoch) → c.c
 asked_here c counted None few = cells_here c few
 asked_here c counted (Some epoch) few = each_filter (IsHere c) (is_cell_in counted) (cells c) (cells_here c few)
 
-acquires_within : (c : Cluster) (me : ℕ) (calls : List Told) (start now : ℕ) (epoch : Option Epoch) → c.cells ≤ length c.nodes → IsHere c me → AreWithin c (acquires c me calls start now epoch)
+acquires_within : (c : Cluster) (me : ℕ) (calls : List CoordinatorCall) (start now : ℕ) (epoch : Option Epoch) → c.cells ≤ length c.nodes → IsHere c me → AreWithin c (acquires c me calls start now epoch)
 acquires_within c me calls start now None few m = tt
 acquires_within c me calls start now (Some epoch) few m = each_map (IsHere c) (IsWithin c) (acquire_to me epoch now) (λ cell is. acquire_within c me epoch now cell m is)
     (asked_cells c (counted_cells start c.cells calls) (serving start c.cells calls)) (asked_here c (counted_cells start c.cells calls) (serving start c.cells calls) few)
 
 pub acquires_at_within : (c : Cluster) (me : ℕ) (met : List Met) (now : ℕ) → c.cells ≤ length c.nodes → IsHere c me → AreWithin c (acquires_at c me met now)
 acquires_at_within c me met now few m = either (AreWithin c) (is_full c me && does_again c.retry (ticks_of met) now) _ []
-    (acquires_within c me (TickTold now ∷ coordinator_calls c met) (start_of met) now (epoch_after (start_of met) c.cells (TickTold now ∷ coordinator_calls c met)) few m) tt
+    (acquires_within c me (CoordinatorTicks now ∷ coordinator_calls c met) (start_of met) now (epoch_after (start_of met) c.cells (CoordinatorTicks now ∷ coordinator_calls c met)) few m) tt

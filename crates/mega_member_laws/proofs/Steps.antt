@@ -11,7 +11,7 @@ use Rattle.mega_wire.specs.declared.message.Message.{Message}
 use Rattle.mega_wire.specs.declared.message.Body.{Body}
 use Rattle.mega_wire.specs.declared.message.Body.TheVariants.{Invalidate, Decide, Have, Acquire, Granted as GrantedBody}
 use Rattle.mega_locks.specs.declared.asked.Asked.{Asked}
-use Rattle.mega_locks.specs.declared.asked.Asked.TheVariants.{Granted, Renewed, Taken, Over}
+use Rattle.mega_locks.specs.declared.asked.Asked.TheVariants.{Granted, Renewed, GreaterHeld, Over}
 use Rattle.mega_locks.specs.History.{lapse_for, nodes as numbers}
 use Rattle.mega_coordinator.specs.declared.answers.Counted.{Counted}
 use Rattle.mega_coordinator.specs.declared.answers.Counted.TheVariants.{No, Yes, Serving}
@@ -57,7 +57,7 @@ both_within c items more h k = each_both (ItemWithin c) items more h k
 grant_within : (c : Cluster) (node : ℕ) (epoch : Epoch) (answered : Asked) → IsHere c node → MetWithin c (grant_note node epoch answered)
 grant_within c node epoch Granted h = (h, tt)
 grant_within c node epoch Renewed h = tt
-grant_within c node epoch (Taken greatest) h = tt
+grant_within c node epoch (GreaterHeld greatest) h = tt
 grant_within c node epoch (Over greatest) h = tt
 
 counted_within : (c : Cluster) (cell : ℕ) (epoch : Epoch) (was : Bool) (counted : Counted) → MetWithin c (counts_notes cell epoch was counted)

@@ -1,7 +1,7 @@
 -- A node over its log device, from what the opening found to what it leaves.
 use Rattle.std.proofs.Common.{ℕ, List, Option}
 use Rattle.mega_cluster.specs.declared.cluster.Cluster.{Cluster}
-use Rattle.mega_server.specs.of_core.of_stepping.declared.note.Note.{Note}
+use Rattle.mega_server.specs.of_core.of_step_parts.declared.note.Note.{Note}
 use Rattle.mega_disk.specs.declared.disk.Disk.{Ghosts as DiskGhosts}
 use Rattle.mega_format_laws.specs.Requests.{AreHandlers}
 use Rattle.mega_handler.specs.Named.{Meaning, Meanings}

@@ -2,8 +2,8 @@
 use Rattle.std.proofs.Common.{◌≡◌, ◌⊎◌, inl, inr, ℕ, ◌+◌, ◌<◌, ◌≤◌, false, true, List, [], ◌∷◌, None, Option, map, subst, sym, ◌∙◌, arith}
 use Rattle.std.specs.Prelude.{flat_map}
 use Rattle.mega_cluster.specs.declared.cluster.Cluster.{Cluster}
-use Rattle.mega_server.specs.of_core.of_stepping.declared.note.Note.{Note}
-use Rattle.mega_server.specs.of_core.of_stepping.Notes.{met_of as notes_met}
+use Rattle.mega_server.specs.of_core.of_step_parts.declared.note.Note.{Note}
+use Rattle.mega_server.specs.of_core.of_step_parts.Notes.{met_of as notes_met}
 use Rattle.mega_server.specs.of_core.Restarting.{HaveFollowed}
 use Rattle.mega_server.specs.of_core.Served.{IsServed}
 use Rattle.mega_disk.specs.declared.records.Records.{Ghosts}

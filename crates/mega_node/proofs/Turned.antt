@@ -2,7 +2,7 @@
 use Rattle.std.proofs.Common.{◌≡◌, ℕ, List, [], ◌∷◌, Option, Result, Ok, Err, OnOk, OnErr, map, refl, sym, subst, ◌∙◌}
 use Rattle.std.specs.Io.KnownBytes.{Appends}
 use Rattle.mega_cluster.specs.declared.cluster.Cluster.{Cluster}
-use Rattle.mega_server.specs.of_core.of_stepping.declared.note.Note.{Note}
+use Rattle.mega_server.specs.of_core.of_step_parts.declared.note.Note.{Note}
 use Rattle.mega_handler.specs.Named.{Meaning, Meanings}
 use Rattle.mega_io.specs.Pieces.{AppendsFront}
 use Rattle.mega_link.specs.Datagrams.{Datagram}

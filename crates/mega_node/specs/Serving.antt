@@ -2,7 +2,7 @@
 use Rattle.std.specs.Prelude.{ℕ, ◌<◌, ◌^◌, List, Option}
 use Rattle.mega_base.specs.Causes.{Rose}
 use Rattle.mega_cluster.specs.declared.cluster.Cluster.{Cluster}
-use Rattle.mega_server.specs.of_core.of_stepping.declared.note.Note.{Note}
+use Rattle.mega_server.specs.of_core.of_step_parts.declared.note.Note.{Note}
 use Rattle.mega_handler.specs.Named.{Meaning, Meanings}
 use Rattle.mega_link.specs.Datagrams.{Datagram}
 use Rattle.mega_meanings.specs.Means.{Means}

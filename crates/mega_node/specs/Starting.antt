@@ -2,7 +2,7 @@
 use Rattle.std.specs.Prelude.{◌≡◌, ℕ, ◌<◌, ◌≤◌, ◌^◌, List, [], ◌∷◌, map, Option, Some, None}
 use Rattle.mega_base.specs.Causes.{Rose}
 use Rattle.mega_cluster.specs.declared.cluster.Cluster.{Cluster}
-use Rattle.mega_server.specs.of_core.of_stepping.declared.note.Note.{Note}
+use Rattle.mega_server.specs.of_core.of_step_parts.declared.note.Note.{Note}
 use Rattle.mega_server.specs.of_durable.declared.starting.NotStarted.{NotStarted}
 use Rattle.mega_server.specs.of_durable.declared.starting.NotStarted.TheVariants as refused
 use Rattle.mega_format_laws.specs.Histories.{IsCluster}

@@ -2,14 +2,14 @@
 ghost use Rattle.std.specs.Prelude.{◌≡◌, ◌≤◌, ℕ, List, Ok, Err, IfErr, IfOk};
 ghost use Rattle.mega_base.specs.Causes.{Rose};
 ghost use Rattle.mega_cluster.specs.Header.{read_of};
-ghost use Rattle.mega_heading.specs.Known.{HeaderFails};
+ghost use Rattle.mega_header.specs.Known.{HeaderFails};
 ghost use Rattle.mega_node.specs.Headers.{IsBroken, IsHeaded, IsRead, addressed};
 ghost use Rattle.mega_node.specs.Stops.{IsHeaderStop};
 
 use crate::stop::Stop;
 use mega_base::Bytes;
 use mega_cluster::Cluster;
-use mega_heading::{HeadingFault, read_heading};
+use mega_header::{HeadingFault, read_heading};
 use mega_io::{LineReader, Source};
 use std::alloc::Global;
 

@@ -4,7 +4,7 @@ ghost use Rattle.std.specs.Io.KnownBytes.{Appends};
 ghost use Rattle.mega_base.specs.Causes.{Rose};
 ghost use Rattle.mega_cluster.specs.declared.cluster.Cluster.{Cluster as Members};
 ghost use Rattle.mega_disk.specs.declared.pair.Pair.{Pair as Devices};
-ghost use Rattle.mega_heading.specs.Known.{HeaderFails};
+ghost use Rattle.mega_header.specs.Known.{HeaderFails};
 ghost use Rattle.mega_io.specs.Pieces.{AppendsFront};
 ghost use Rattle.mega_checkpoint.specs.Format.{list_of};
 ghost use Rattle.mega_wal.specs.History.{starts_of};

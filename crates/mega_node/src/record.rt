@@ -18,7 +18,7 @@ use mega_io::{Sink, SinkError, put};
 use mega_schema::Schema;
 use mega_serve::NodeFault;
 use mega_server::items_of;
-use mega_server::mega_core::mega_stepping::Note;
+use mega_server::mega_core::mega_step_parts::Note;
 use mega_transcript::{Item, text};
 use std::alloc::Global;
 

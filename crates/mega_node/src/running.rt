@@ -31,7 +31,7 @@ use mega_link::{Clock, Link};
 use mega_meanings::QueueHandlers;
 use mega_rows::VersionedRows;
 use mega_serve::Steps;
-use mega_server::mega_core::mega_stepping::Note;
+use mega_server::mega_core::mega_step_parts::Note;
 use mega_server::{Number, Server};
 use std::alloc::Global;
 

@@ -15,7 +15,7 @@ use mega_disk::{Disk, Records};
 use mega_meanings::QueueHandlers;
 use mega_rows::VersionedRows;
 use mega_serve::Steps;
-use mega_server::mega_core::mega_stepping::Note;
+use mega_server::mega_core::mega_step_parts::Note;
 use mega_server::mega_durable::{Down, NotStarted, Started, Up};
 use mega_server::{Number, Server};
 use mega_voter::Voter;

@@ -5,7 +5,7 @@ use Rattle.mega_base.specs.declared.names.Epoch.{Epoch}
 use Rattle.mega_base.specs.declared.names.GroupId.{GroupId}
 use Rattle.mega_base.specs.declared.names.OpId.{OpId}
 use Rattle.mega_cluster.specs.declared.cluster.Cluster.{Cluster}
-use Rattle.mega_coordinator.specs.History.{Call, Ticks as Told, counted_cells, epoch_after, serving}
+use Rattle.mega_coordinator.specs.History.{Call, Ticks as CoordinatorTicks, counted_cells, epoch_after, serving}
 use Rattle.mega_wire.specs.declared.message.Message.{Message}
 use Rattle.mega_voter.specs.of_read.of_propose.Members.{others}
 use Rattle.mega_voter.specs.of_read.of_propose.declared.round.Site.{Site}
@@ -108,5 +108,5 @@ acquires_ask c me calls start now (Some epoch) =
 pub acquires_at_asks : (c : Cluster) (me : ℕ) (met : List Met) (now : ℕ) → All Asks (acquires_at c me met now)
 acquires_at_asks c me met now =
     if_so Asks (is_full c me && does_again c.retry (ticks_of met) now)
-    (acquires c me (Told now ∷ coordinator_calls c met) (start_of met) now (epoch_after (start_of met) c.cells (Told now ∷ coordinator_calls c met)))
-    (acquires_ask c me (Told now ∷ coordinator_calls c met) (start_of met) now (epoch_after (start_of met) c.cells (Told now ∷ coordinator_calls c met)))
+    (acquires c me (CoordinatorTicks now ∷ coordinator_calls c met) (start_of met) now (epoch_after (start_of met) c.cells (CoordinatorTicks now ∷ coordinator_calls c met)))
+    (acquires_ask c me (CoordinatorTicks now ∷ coordinator_calls c met) (start_of met) now (epoch_after (start_of met) c.cells (CoordinatorTicks now ∷ coordinator_calls c met)))

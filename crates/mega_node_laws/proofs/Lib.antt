@@ -8,7 +8,7 @@ pub mod Acting
 pub mod Walk
 pub mod Lasting
 pub mod Within
-pub mod Told
+pub mod KeptBySending
 pub mod Ending
 pub mod Completed
 pub mod Sent

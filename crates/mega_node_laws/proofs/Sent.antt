@@ -13,7 +13,7 @@ use Rattle.mega_coordinator.specs.declared.answers.Counted.{Counted}
 use Rattle.mega_coordinator.specs.declared.answers.Counted.TheVariants.{No, Yes, Serving}
 use Rattle.mega_entry.specs.declared.content.Content.{Content}
 use Rattle.mega_locks.specs.declared.asked.Asked.{Asked}
-use Rattle.mega_locks.specs.declared.asked.Asked.TheVariants.{Granted as Grant, Renewed, Taken, Over}
+use Rattle.mega_locks.specs.declared.asked.Asked.TheVariants.{Granted as Grant, Renewed, GreaterHeld, Over}
 use Rattle.mega_wire.specs.declared.message.Message.{Message}
 use Rattle.mega_wire.specs.declared.message.Body.{Body}
 use Rattle.mega_wire.specs.declared.message.Body.TheVariants.{Where, Top, Accept, Accepted, Prepare, Promise, Invalidate, Invalidated, Dead, Fetch, Acquire, Granted}
@@ -90,7 +90,7 @@ held_answers met op cell node (Some epoch) = tt
 lock_answers : (met : List Met) (cell : ℕ) (epoch : Epoch) (clock : ℕ) (asked : Asked) → IsAnswer met (lock_answer cell epoch clock asked)
 lock_answers met cell epoch clock Grant = tt
 lock_answers met cell epoch clock Renewed = tt
-lock_answers met cell epoch clock (Taken greatest) = tt
+lock_answers met cell epoch clock (GreaterHeld greatest) = tt
 lock_answers met cell epoch clock (Over greatest) = tt
 
 answer_answers : (c : Cluster) (me : ℕ) (met : List Met) (from : ℕ) (body : Body) → Answers met (answer_to c me met from body)
@@ -132,7 +132,7 @@ unless_noted false notes h = h
 grant_unmade : (node : ℕ) (epoch : Epoch) (asked : Asked) → All IsUnmade (grant_note node epoch asked)
 grant_unmade node epoch Grant = single (Grants node epoch) refl
 grant_unmade node epoch Renewed = nothing
-grant_unmade node epoch (Taken greatest) = nothing
+grant_unmade node epoch (GreaterHeld greatest) = nothing
 grant_unmade node epoch (Over greatest) = nothing
 
 counts_unmade : (cell : ℕ) (epoch : Epoch) (was : Bool) (counted : Counted) → All IsUnmade (counts_notes cell epoch was counted)

@@ -13,7 +13,7 @@ use mega_wire::Message;
 
 /// What stays of an operation while its phase goes on.
 #[derive(Debug, Drop)]
-pub struct Kept {
+pub struct OperationBase {
     pub id: OpId,
     pub request: Request,
     pub began: u64,
@@ -23,7 +23,7 @@ pub struct Kept {
 
 impl Operation {
     /// What stays of the operation, and its phase.
-    pub fn parts(self) -> (Kept, Phase)
+    pub fn parts(self) -> (OperationBase, Phase)
         ensures { whole result.0 (phase_of result.1) ≡ self }
     {
         let Operation {
@@ -34,7 +34,7 @@ impl Operation {
             message,
             phase,
         } = self;
-        let kept = Kept {
+        let kept = OperationBase {
             id,
             request,
             began,
@@ -45,12 +45,12 @@ impl Operation {
     }
 }
 
-impl Kept {
+impl OperationBase {
     /// The operation in a phase.
     pub fn in_phase(self, phase: Phase) -> Operation
         ensures { result ≡ whole self (phase_of phase) }
     {
-        let Kept {
+        let OperationBase {
             id,
             request,
             began,

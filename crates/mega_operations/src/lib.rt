@@ -10,7 +10,7 @@ mod patience;
 mod phase;
 mod settling;
 
-pub use kept::Kept;
+pub use kept::OperationBase;
 pub use members::{Members, MembersFault};
 pub use operation::{Heard, Operation};
 pub use phase::{Phase, Promised};

@@ -1,10 +1,11 @@
 -- What the writes of a transaction come to.
-use Rattle.std.specs.Prelude.{ℕ, ◌+◌, ◌^◌, ◌&&◌, not, ℤ, pos, negsuc, ◌+ℤ◌, nat_lt, if◌then◌else◌, Bool, true, false, List, [], ◌∷◌, ◌++◌, is_some, Option, Some, None, Result, Ok, Err}
+use Rattle.std.specs.Prelude.{ℕ, ◌+◌, ◌^◌, ◌&&◌, not, ℤ, ◌+ℤ◌, if◌then◌else◌, Bool, true, false, List, [], ◌∷◌, ◌++◌, is_some, Option, Some, None, Result, Ok, Err}
 use Rattle.mega_base.specs.declared.values.Value.{Value}
 use Rattle.mega_base.specs.declared.values.Value.TheVariants.{Int32, Int64}
 use Rattle.mega_base.specs.declared.values.Kind.{Kind}
 use Rattle.mega_base.specs.declared.values.Kind.TheVariants as kinds
 use Rattle.mega_base.specs.declared.values.Row.{Row}
+pub use Rattle.mega_base.specs.Values.{is_in_range}
 use Rattle.mega_index.specs.of_entry.declared.content.Write.{Write}
 use Rattle.mega_index.specs.of_syntax.declared.need.Need.{Need}
 use Rattle.mega_index.specs.of_syntax.declared.need.Need.TheVariants.{Required, Optional}
@@ -51,11 +52,6 @@ number_of kinds.Int32 (Int32 z ∷ []) = Some z
 number_of kinds.Int64 (Int64 z ∷ []) = Some z
 number_of _ _ = None
 
--- the number is in the range of half numbers to either side
-abbrev pub is_in_range : ℕ → ℤ → Bool
-is_in_range half (pos n) = nat_lt n half
-is_in_range half (negsuc n) = nat_lt n half
-
 -- the number as a value of the kind, where it is in the kind's range
 abbrev pub number_value : Kind → ℤ → Option Value
 number_value kinds.Int32 z = if is_in_range (2 ^ 31) z then Some (Int32 z) else None
@@ -68,9 +64,8 @@ or_overflow i (Some v) = Ok v
 
 -- the sum of the number that the property has and another; is_long tells that an index key of the row is too long
 abbrev pub sum_of : ℕ → Kind → Option ℤ → Bool → ℤ → Result Value Turn
-sum_of i kind None is_long by = Err (BadRow i)
-sum_of i kind (Some z) true by = Err (BadRow i)
 sum_of i kind (Some z) false by = or_overflow i (number_value kind (z +ℤ by))
+sum_of i kind _ _ by = Err (BadRow i)
 
 -- an addition to a property of the row that stands there
 abbrev pub add_to : Schema → ℕ → ℕ → Table → List ℕ → ℕ → Kind → Option Row → ℤ → Result (List Write) Turn
@@ -92,8 +87,7 @@ add_at s i n (Some t) key property row by = add_in s i n t key property (numbere
 -- item i, on the rows as the earlier ones left them
 abbrev pub change : Schema → List ℕ → Rows → ℕ → Change → Result (List Write) Turn
 change s group rows i (Put n row) = put_in s group rows i n (numbered s.tables n) row
-change s group rows i (Delete row) =
-    key_in s group i row.table row.key >>= λ key. delete_at s i row.table key (rows key)
+change s group rows i (Delete row) = key_in s group i row.table row.key >>= λ key. delete_at s i row.table key (rows key)
 change s group rows i (Add row property by) =
     key_in s group i row.table row.key >>= λ key. add_at s i row.table (numbered s.tables row.table) key property (rows key) by
 

@@ -4,7 +4,7 @@ use Rattle.std.specs.List.{list_all}
 use Rattle.mega_base.specs.declared.values.Value.{Value}
 use Rattle.mega_base.specs.declared.values.Row.{Row}
 use Rattle.mega_index.specs.of_syntax.declared.need.Need.{Need}
-use Rattle.mega_index.specs.of_syntax.declared.need.Need.TheVariants.{Required, Optional, Repeated}
+use Rattle.mega_index.specs.of_syntax.declared.need.Need.TheVariants.{Repeated}
 use Rattle.mega_index.specs.of_schema.declared.schema.Property.{Property}
 use Rattle.mega_index.specs.of_schema.declared.schema.Table.{Table}
 use Rattle.mega_index.specs.of_schema.declared.schema.Schema.{Schema}
@@ -26,9 +26,8 @@ holds i false = Err (CheckFailed i)
 
 -- so many values may be asked for: none or one, or any number of a repeated property
 abbrev pub may_have : Need → ℕ → Bool
-may_have Required n = nat_le n 1
-may_have Optional n = nat_le n 1
 may_have Repeated n = true
+may_have _ n = nat_le n 1
 
 -- the property is known, and may have these values
 abbrev pub may_be : Option Property → List Value → Bool

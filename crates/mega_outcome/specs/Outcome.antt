@@ -1,12 +1,12 @@
 -- What a transaction, and a batch of them, comes to over the rows of their group.
-use Rattle.std.specs.Prelude.{ℕ, ◌+◌, ◌==◌, max, nat_lt, if◌then◌else◌, List, [], ◌∷◌, ◌++◌, length, fold, Some, Result, Ok, Err}
+use Rattle.std.specs.Prelude.{ℕ, ◌+◌, ◌==◌, max, nat_lt, if◌then◌else◌, List, [], ◌∷◌, ◌++◌, length, fold, Result, Ok, Err}
 use Rattle.mega_base.specs.declared.names.GroupId.{GroupId}
 use Rattle.mega_base.specs.declared.names.OpId.{OpId}
 use Rattle.mega_index.specs.of_entry.declared.content.Write.{Write}
 use Rattle.mega_index.specs.of_entry.declared.content.Send.{Send}
 use Rattle.mega_index.specs.of_entry.declared.content.Cut.{Cut}
 use Rattle.mega_index.specs.of_entry.declared.content.Content.{Content}
-use Rattle.mega_index.specs.of_entry.Entries.{entry_text}
+use Rattle.mega_index.specs.of_entry.Entries.{entry_text, entry_by}
 use Rattle.mega_index.specs.of_schema.declared.schema.Schema.{Schema}
 use Rattle.mega_index.specs.Rows.{Rows, written}
 use Rattle.mega_index.specs.Fitted.{most_bytes, entry_of, enter_length, send_fits}
@@ -60,13 +60,9 @@ abbrev pub outcome : Schema → Transaction → Rows → Result Done Turn
 outcome s txn rows = outcome_in s txn.group.key txn rows
 
 -- the cuts of a batch's entry: none where transaction 0 alone was taken
-abbrev pub cuts_among : Cut → List Cut → List Cut
-cuts_among cut [] = if cut.index == 0 then [] else cut ∷ []
-cuts_among cut (other ∷ others) = cut ∷ other ∷ others
-
 abbrev pub entry_cuts : List Cut → List Cut
-entry_cuts [] = []
-entry_cuts (cut ∷ cuts) = cuts_among cut cuts
+entry_cuts (cut ∷ []) = if cut.index == 0 then [] else cut ∷ []
+entry_cuts cuts = cuts
 
 -- a batch of which no transaction was looked at
 abbrev pub no_batch : Batch
@@ -74,7 +70,7 @@ no_batch = record { results = []; writes = []; sends = []; cuts = [] }
 
 -- the next transaction is left out with its refusal
 abbrev pub left_out : Batch → Turn → Batch
-left_out b turn = record { results = b.results ++ Err turn ∷ []; writes = b.writes; sends = b.sends; cuts = b.cuts }
+left_out b turn = record b { results = b.results ++ Err turn ∷ [] }
 
 -- the next transaction is taken
 abbrev pub taken : Batch → Done → Batch
@@ -107,27 +103,11 @@ with_all s group txns rows = fold (with_next s group rows) no_batch txns
 abbrev pub batch_outcome : Schema → GroupId → List Transaction → Rows → Batch
 batch_outcome s group txns rows =
     let all = with_all s group.key txns rows in
-    record { results = all.results; writes = all.writes; sends = all.sends; cuts = entry_cuts all.cuts }
+    record all { cuts = entry_cuts all.cuts }
 
 -- the entry of an operation that does this
 abbrev pub entry_of_done : OpId → Done → Content
-entry_of_done op done = record {
-  id = Some op;
-  leader = op.node;
-  writes = done.writes;
-  sends = done.sends;
-  enters = [];
-  handles = [];
-  cuts = [];
-}
+entry_of_done op done = record (entry_by op) { writes = done.writes; sends = done.sends }
 
 abbrev pub entry_of_batch : OpId → Batch → Content
-entry_of_batch op batch = record {
-  id = Some op;
-  leader = op.node;
-  writes = batch.writes;
-  sends = batch.sends;
-  enters = [];
-  handles = [];
-  cuts = batch.cuts;
-}
+entry_of_batch op batch = record (entry_by op) { writes = batch.writes; sends = batch.sends; cuts = batch.cuts }

@@ -2,6 +2,7 @@
 use Rattle.std.specs.Prelude.{ℕ, if◌then◌else◌, List, Option, Some, None, Result, Ok, Err}
 use Rattle.mega_base.specs.declared.values.Value.{Value}
 use Rattle.mega_base.specs.declared.values.Row.{Row}
+pub use Rattle.mega_base.specs.Reading.{◌>>=◌}
 use Rattle.mega_index.specs.of_schema.declared.schema.Table.{Table}
 use Rattle.mega_index.specs.of_schema.declared.schema.Schema.{Schema}
 use Rattle.mega_index.specs.of_keys.declared.fault.KeyFault.{KeyFault}
@@ -9,12 +10,6 @@ use Rattle.mega_index.specs.Rows.{Rows, same_key}
 use Rattle.mega_index.specs.Fits.{numbered, group_of, key_of}
 use Rattle.mega_outcome.specs.declared.answer.Turn.{Turn}
 use Rattle.mega_outcome.specs.declared.answer.Turn.TheVariants.{OtherGroup, BadRow}
-
--- the first refusal, or what comes of the value
-infixl 10 ◌>>=◌
-abbrev pub ◌>>=◌ : {A B : Type 0} → Result A Turn → (A → Result B Turn) → Result B Turn
-Ok x >>= f = f x
-Err e >>= f = Err e
 
 -- the key, where it could be spelled
 abbrev pub spelled : ℕ → Result (List ℕ) KeyFault → Result (List ℕ) Turn

@@ -21,8 +21,7 @@ read s group rows i row = row_in s group rows i row.table row.key >>= λ there. 
 -- items from i on
 abbrev pub all_reads : Schema → List ℕ → Rows → ℕ → List RowRef → Result (List (Option Shown)) Turn
 all_reads s group rows i [] = Ok []
-all_reads s group rows i (r ∷ rs) =
-    read s group rows i r >>= λ one. all_reads s group rows (i + 1) rs >>= λ others. Ok (one ∷ others)
+all_reads s group rows i (r ∷ rs) = read s group rows i r >>= λ one. all_reads s group rows (i + 1) rs >>= λ others. Ok (one ∷ others)
 
 -- the rows that a read names, in its order
 abbrev pub read_rows : Schema → GroupId → List RowRef → Rows → Result (List (Option Shown)) Turn

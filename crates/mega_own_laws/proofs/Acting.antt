@@ -61,59 +61,59 @@ pub record NowOwn (schema : Schema) (now : Now) : Type 0 where
   pub sends : AllTellOwn schema now.sends
 
 module _ (s : Setting) where
-  abbrev pub Stands : Now → Type 0
-  Stands now = NowOwn s.cluster.schema now
+  abbrev pub IsOwnNow : Now → Type 0
+  IsOwnNow now = NowOwn s.cluster.schema now
 
   -- ---- a node within a step
 
-  keeps_own : (now : Now) (o : Operation) → Stands now → OperationOwn s.cluster.schema o → Stands (keeps now o)
+  keeps_own : (now : Now) (o : Operation) → IsOwnNow now → OperationOwn s.cluster.schema o → IsOwnNow (keeps now o)
   keeps_own now o h k = record { kept = each_push (OperationOwn s.cluster.schema) now.kept o h.kept k; valid = h.valid; answers = h.answers; sends = h.sends }
 
-  pub ends_own : (now : Now) (op : OpId) (answer : Answer) → Stands now → Stands (ends now op answer)
+  pub ends_own : (now : Now) (op : OpId) (answer : Answer) → IsOwnNow now → IsOwnNow (ends now op answer)
   ends_own now op answer h = record { kept = h.kept; valid = h.valid; answers = each_push (ItemOwn s.cluster.schema) now.answers (Answers op answer) h.answers tt; sends = h.sends }
 
-  pub sends_own : (now : Now) (sends : List Message) → Stands now → AllTellOwn s.cluster.schema sends → Stands (sends_more now sends)
+  pub sends_own : (now : Now) (sends : List Message) → IsOwnNow now → AllTellOwn s.cluster.schema sends → IsOwnNow (sends_more now sends)
   sends_own now sends h m = record { kept = h.kept; valid = h.valid; answers = h.answers; sends = each_append (TellsOwn s.cluster.schema) now.sends sends h.sends m }
 
   -- ---- an operation proposes
 
-  unless_decided_own : (now : Now) (o : Operation) (n : ℕ) (promised : Promised) (found : Option Content) → Stands now → OperationOwn s.cluster.schema o → Stands (unless_decided now o n promised found)
+  unless_decided_own : (now : Now) (o : Operation) (n : ℕ) (promised : Promised) (found : Option Content) → IsOwnNow now → OperationOwn s.cluster.schema o → IsOwnNow (unless_decided now o n promised found)
   unless_decided_own now o n promised None h k = keeps_own now o h k
   unless_decided_own now o n promised (Some entry) h k = ends_own now o.id (verdict o.id n promised entry) h
 
-  there_own : (now : Now) (o : Operation) (group : GroupId) (n : ℕ) (asked : List ℕ) (promised : Promised) (t : RoundMove) → Stands now → IsOf o.request group → MoveOwn s.cluster.schema group t
-      → Stands (proposes_there s now o group n asked promised t)
+  there_own : (now : Now) (o : Operation) (group : GroupId) (n : ℕ) (asked : List ℕ) (promised : Promised) (t : RoundMove) → IsOwnNow now → IsOf o.request group → MoveOwn s.cluster.schema group t
+      → IsOwnNow (proposes_there s now o group n asked promised t)
   there_own now o group n asked promised t h of m =
       unless_decided_own (sends_more now t.sends) (in_phase o (Proposes group n asked t.proposal promised)) n promised (decided now.met group n) (sends_own now t.sends h m.sends) (record { about = of; phase = m.proposal })
 
-  by_own : (now : Now) (o : Operation) (group : GroupId) (r : Reading) (p : ℕ) (own : Content) (promised : Promised) (leader : Option ℕ) → Stands now → OperationOwn s.cluster.schema o → IsOf o.request group → IsOwn s.cluster.schema group own
-      → Stands (proposes_by s now o group r p own promised leader)
+  by_own : (now : Now) (o : Operation) (group : GroupId) (r : Reading) (p : ℕ) (own : Content) (promised : Promised) (leader : Option ℕ) → IsOwnNow now → OperationOwn s.cluster.schema o → IsOf o.request group → IsOwn s.cluster.schema group own
+      → IsOwnNow (proposes_by s now o group r p own promised leader)
   by_own now o group r p own promised None h k of e = keeps_own now o h k
   by_own now o group r p own promised (Some leader) h k of e =
       there_own now o group (p + 1) (asked_by r) promised (asks (site (reader_of s o.id group) (asked_by r) (p + 1)) leader own (clock_of now.met)) h of
       (asks_own s.cluster.schema (site (reader_of s o.id group) (asked_by r) (p + 1)) leader own (clock_of now.met) e)
 
-  proposes_own : (now : Now) (o : Operation) (group : GroupId) (r : Reading) (p : ℕ) (own : Content) (promised : Promised) → Stands now → OperationOwn s.cluster.schema o → IsOf o.request group → IsOwn s.cluster.schema group own
-      → Stands (proposes s now o group r p own promised)
+  proposes_own : (now : Now) (o : Operation) (group : GroupId) (r : Reading) (p : ℕ) (own : Content) (promised : Promised) → IsOwnNow now → OperationOwn s.cluster.schema o → IsOf o.request group → IsOwn s.cluster.schema group own
+      → IsOwnNow (proposes s now o group r p own promised)
   proposes_own now o group r p own promised h k of e = by_own now o group r p own promised (leader_after s now group p) h k of e
 
   -- ---- a read is complete
 
-  validated_own : (now : Now) (group : GroupId) (p : ℕ) (refusal : Option NotValid) → Stands now → Stands (validated_by now group p refusal)
+  validated_own : (now : Now) (group : GroupId) (p : ℕ) (refusal : Option NotValid) → IsOwnNow now → IsOwnNow (validated_by now group p refusal)
   validated_own now group p (Some refusal) h = h
   validated_own now group p None h = record { kept = h.kept; valid = each_push (ItemOwn s.cluster.schema) now.valid (Validates group p) h.valid tt; answers = h.answers; sends = h.sends }
 
-  validates_own : (now : Now) (group : GroupId) (p : ℕ) (noted : Option Epoch) → Stands now → Stands (validates s now group p noted)
+  validates_own : (now : Now) (group : GroupId) (p : ℕ) (noted : Option Epoch) → IsOwnNow now → IsOwnNow (validates s now group p noted)
   validates_own now group p None h = h
   validates_own now group p (Some noted) h = validated_own now group p (refused_at s.cluster now.met group p noted) h
 
-  completes_own : (now : Now) (group : GroupId) (r : Reading) (p : ℕ) → Stands now → Stands (completes_read s now group r p)
+  completes_own : (now : Now) (group : GroupId) (r : Reading) (p : ℕ) → IsOwnNow now → IsOwnNow (completes_read s now group r p)
   completes_own now group r p h = validates_own _ group p r.noted (record { kept = h.kept; valid = h.valid; answers = h.answers; sends = h.sends })
 
   -- ---- a pump reads a group, and picks
 
   abbrev pub Stays : (Now → Operation → Now) → Type 0
-  Stays again = (now : Now) (o : Operation) → Stands now → OperationOwn s.cluster.schema o → Stands (again now o)
+  Stays again = (now : Now) (o : Operation) → IsOwnNow now → OperationOwn s.cluster.schema o → IsOwnNow (again now o)
 
   begun_own : (now : Now) (o : Operation) (group : GroupId) (asked : List ℕ) → ReadMoveOwn s.cluster.schema group (read_begun s now o group asked)
   begun_own now o group asked =
@@ -124,54 +124,54 @@ module _ (s : Setting) where
       (polled_own s.cluster.schema (reader_of s o.id group) (serves_at s.cluster now.met) asked (clock_of now.met)))
 
   module _ (again : Now → Operation → Now) (more : Stays again) where
-    group_own : (now : Now) (o : Operation) (group : GroupId) (message : Option Enter) (t : ReadMove) → Stands now → IsOf o.request group → ReadMoveOwn s.cluster.schema group t → Stands (reads_group s again now o group message t)
+    group_own : (now : Now) (o : Operation) (group : GroupId) (message : Option Enter) (t : ReadMove) → IsOwnNow now → IsOf o.request group → ReadMoveOwn s.cluster.schema group t → IsOwnNow (reads_group s again now o group message t)
     group_own now o group message t h of m = more (sends_more now t.sends) (visiting o group message t) (sends_own now t.sends h m.sends) (record { about = of; phase = m.reading })
 
-    begins_read_own : (now : Now) (o : Operation) (group : GroupId) (message : Option Enter) (asked : List ℕ) → Stands now → IsOf o.request group → Stands (begins_read s again now o group message asked)
+    begins_read_own : (now : Now) (o : Operation) (group : GroupId) (message : Option Enter) (asked : List ℕ) → IsOwnNow now → IsOf o.request group → IsOwnNow (begins_read s again now o group message asked)
     begins_read_own now o group message asked h of = group_own now o group message (read_begun s now o group asked) h of (begun_own now o group asked)
 
-    message_picked : (now : Now) (o : Operation) (asked : List ℕ) (found : Option Posted) → Stands now → ((group : GroupId) → IsOf o.request group) → Stands (picks_message s again now o asked found)
+    message_picked : (now : Now) (o : Operation) (asked : List ℕ) (found : Option Posted) → IsOwnNow now → ((group : GroupId) → IsOf o.request group) → IsOwnNow (picks_message s again now o asked found)
     message_picked now o asked None h of = ends_own now o.id _ h
     message_picked now o asked (Some one) h of = begins_read_own now o one.to (Some one.message) asked h (of one.to)
 
-    group_picked : (now : Now) (o : Operation) (asked : List ℕ) (found : Option GroupId) → Stands now → ((group : GroupId) → IsOf o.request group) → Stands (picks_group s again now o asked found)
+    group_picked : (now : Now) (o : Operation) (asked : List ℕ) (found : Option GroupId) → IsOwnNow now → ((group : GroupId) → IsOf o.request group) → IsOwnNow (picks_group s again now o asked found)
     group_picked now o asked None h of = ends_own now o.id _ h
     group_picked now o asked (Some group) h of = begins_read_own now o group None asked h (of group)
 
-    picks_enter : (now : Now) (o : Operation) (asked : List ℕ) → Stands now → ((group : GroupId) → IsOf o.request group) → Stands (picks_to_enter s again now o asked)
+    picks_enter : (now : Now) (o : Operation) (asked : List ℕ) → IsOwnNow now → ((group : GroupId) → IsOf o.request group) → IsOwnNow (picks_to_enter s again now o asked)
     picks_enter now o asked h of = message_picked now o asked (next_to_enter o.id (applied_logs now)) h of
 
-    picks_handle : (now : Now) (o : Operation) (asked : List ℕ) → Stands now → ((group : GroupId) → IsOf o.request group) → Stands (picks_to_handle s again now o asked)
+    picks_handle : (now : Now) (o : Operation) (asked : List ℕ) → IsOwnNow now → ((group : GroupId) → IsOf o.request group) → IsOwnNow (picks_to_handle s again now o asked)
     picks_handle now o asked h of = group_picked now o asked (next_to_handle (applied_logs now)) h of
 
   module _ (declared : IsDeclared s.cluster.schema) where
     -- ---- what a complete read comes to
 
-    sealed_own : (now : Now) (o : Operation) (group : GroupId) (r : Reading) (p : ℕ) (transaction : Transaction) (result : Result Done Turn) → outcome s.cluster.schema transaction (rows_at now group p) ≡ result → Stands now → OperationOwn s.cluster.schema o
-        → IsOf o.request group → transaction.group ≡ group → Stands (sealed s now o group r p result)
+    sealed_own : (now : Now) (o : Operation) (group : GroupId) (r : Reading) (p : ℕ) (transaction : Transaction) (result : Result Done Turn) → outcome s.cluster.schema transaction (rows_at now group p) ≡ result → IsOwnNow now → OperationOwn s.cluster.schema o
+        → IsOf o.request group → transaction.group ≡ group → IsOwnNow (sealed s now o group r p result)
     sealed_own now o group r p transaction (Err turn) comes h k of at = ends_own now o.id (Turned turn) h
     sealed_own now o group r p transaction (Ok done) comes h k of at =
         proposes_own now o group r p (entry_of_done o.id done) (Replies done.replies) h k of (done_own s.cluster.schema declared o.id group transaction (rows_at now group p) done at comes)
 
-    batch_sealed_own : (now : Now) (o : Operation) (group : GroupId) (r : Reading) (p : ℕ) (b : BatchDone) → Stands now → OperationOwn s.cluster.schema o → IsOf o.request group → IsOwn s.cluster.schema group (entry_of_batch o.id b)
-        → Stands (batch_sealed s now o group r p b)
-    batch_sealed_own now o group r p b h k of e = either Stands (list_any is_taken b.results) (proposes s now o group r p (entry_of_batch o.id b) (Results b.results)) (ends now o.id (AllTurned b.results))
+    batch_sealed_own : (now : Now) (o : Operation) (group : GroupId) (r : Reading) (p : ℕ) (b : BatchDone) → IsOwnNow now → OperationOwn s.cluster.schema o → IsOf o.request group → IsOwn s.cluster.schema group (entry_of_batch o.id b)
+        → IsOwnNow (batch_sealed s now o group r p b)
+    batch_sealed_own now o group r p b h k of e = either IsOwnNow (list_any is_taken b.results) (proposes s now o group r p (entry_of_batch o.id b) (Results b.results)) (ends now o.id (AllTurned b.results))
         (proposes_own now o group r p (entry_of_batch o.id b) (Results b.results) h k of e) (ends_own now o.id (AllTurned b.results) h)
 
-    unless_full_own : (now : Now) (o : Operation) (p : ℕ) (next : Now) → Stands now → Stands next → Stands (unless_full s now o p next)
-    unless_full_own now o p next h k = either Stands (nat_le (s.cluster.limit).0 p) (ends now o.id (LogFull (record { 0 = p }))) next (ends_own now o.id (LogFull (record { 0 = p })) h) k
+    unless_full_own : (now : Now) (o : Operation) (p : ℕ) (next : Now) → IsOwnNow now → IsOwnNow next → IsOwnNow (unless_full s now o p next)
+    unless_full_own now o p next h k = either IsOwnNow (nat_le (s.cluster.limit).0 p) (ends now o.id (LogFull (record { 0 = p }))) next (ends_own now o.id (LogFull (record { 0 = p })) h) k
 
     module _ (again : Now → Operation → Now) (more : Stays again) where
-      enters_own : (now : Now) (o : Operation) (group : GroupId) (r : Reading) (p : ℕ) (message : Option Enter) → Stands now → OperationOwn s.cluster.schema o → ((group : GroupId) → IsOf o.request group)
-          → Stands (enters s again now o group r p message)
+      enters_own : (now : Now) (o : Operation) (group : GroupId) (r : Reading) (p : ℕ) (message : Option Enter) → IsOwnNow now → OperationOwn s.cluster.schema o → ((group : GroupId) → IsOf o.request group)
+          → IsOwnNow (enters s again now o group r p message)
       enters_own now o group r p None h k of = picks_enter again more now o (asked_by r) h of
-      enters_own now o group r p (Some message) h k of = either Stands (is_named message.name (names_entered (take p (log_of now.met group)))) (picks_to_enter s again now o (asked_by r)) (proposes s now o group r p (enter_entry o.id message) (Replies []))
+      enters_own now o group r p (Some message) h k of = either IsOwnNow (is_named message.name (names_entered (take p (log_of now.met group)))) (picks_to_enter s again now o (asked_by r)) (proposes s now o group r p (enter_entry o.id message) (Replies []))
           (picks_enter again more now o (asked_by r) h of) (proposes_own now o group r p (enter_entry o.id message) (Replies []) h k (of group) tt)
 
-      handles_own : (now : Now) (o : Operation) (group : GroupId) (r : Reading) (p : ℕ) (message : Option Enter) → Stands now → OperationOwn s.cluster.schema o → ((group : GroupId) → IsOf o.request group)
-          → Stands (handles s again now o group r p message)
+      handles_own : (now : Now) (o : Operation) (group : GroupId) (r : Reading) (p : ℕ) (message : Option Enter) → IsOwnNow now → OperationOwn s.cluster.schema o → ((group : GroupId) → IsOf o.request group)
+          → IsOwnNow (handles s again now o group r p message)
       handles_own now o group r p None h k of = picks_handle again more now o (asked_by r) h of
-      handles_own now o group r p (Some message) h k of = either Stands (has s.handlers message.queue)
+      handles_own now o group r p (Some message) h k of = either IsOwnNow (has s.handlers message.queue)
           (proposes s now o group r p (handling s o.id group message (table_rows s.cluster.schema group (listed_at now group p))) (Replies [])) (ends now o.id (NoHandler message.queue))
           (proposes_own now o group r p (handling s o.id group message (table_rows s.cluster.schema group (listed_at now group p))) (Replies []) h k (of group)
           (handling_own s declared o.id group message (table_rows s.cluster.schema group (listed_at now group p))))
@@ -181,8 +181,8 @@ module _ (s : Setting) where
         abbrev one : Request → Phase → Operation
         one request phase = record { id = id; request = request; began = began; visited = visited; message = message; phase = phase }
 
-        finishes_own : (now : Now) (request : Request) (phase : Phase) (group : GroupId) (r : Reading) (p : ℕ) → Stands now → OperationOwn s.cluster.schema (one request phase) → IsOf request group
-            → Stands (finishes s again now (one request phase) group r p)
+        finishes_own : (now : Now) (request : Request) (phase : Phase) (group : GroupId) (r : Reading) (p : ℕ) → IsOwnNow now → OperationOwn s.cluster.schema (one request phase) → IsOf request group
+            → IsOwnNow (finishes s again now (one request phase) group r p)
         finishes_own now (Txn transaction) phase group r p h k of = unless_full_own now (one (Txn transaction) phase) p _ h
             (sealed_own now (one (Txn transaction) phase) group r p transaction (outcome s.cluster.schema transaction (rows_at now group p)) refl h k of of)
         finishes_own now (Batch own transactions) phase group r p h k of = unless_full_own now (one (Batch own transactions) phase) p _ h
@@ -196,10 +196,10 @@ module _ (s : Setting) where
 
         -- ---- an operation acts
 
-        reads_own : (now : Now) (request : Request) (group : GroupId) (noted : Option Epoch) (asked : List ℕ) (stage : Stage) → Stands now → OperationOwn s.cluster.schema (one request (Reads group (record { noted = noted; asked = asked; stage = stage })))
-            → Stands (reads_on s again now (one request (Reads group (record { noted = noted; asked = asked; stage = stage }))) group (record { noted = noted; asked = asked; stage = stage }))
+        reads_own : (now : Now) (request : Request) (group : GroupId) (noted : Option Epoch) (asked : List ℕ) (stage : Stage) → IsOwnNow now → OperationOwn s.cluster.schema (one request (Reads group (record { noted = noted; asked = asked; stage = stage })))
+            → IsOwnNow (reads_on s again now (one request (Reads group (record { noted = noted; asked = asked; stage = stage }))) group (record { noted = noted; asked = asked; stage = stage }))
         reads_own now request group noted asked (Polling heard best sent) h k = keeps_own now (one request (Reads group (record { noted = noted; asked = asked; stage = Polling heard best sent }))) h k
-        reads_own now request group noted asked (Catching p search) h k = either Stands (nat_le p (prefix_of now.met group))
+        reads_own now request group noted asked (Catching p search) h k = either IsOwnNow (nat_le p (prefix_of now.met group))
             (finishes s again (completes_read s now group r p) (one request (Reads group r)) group r p) (seeks_on (one request (Reads group r)) now group sought)
             (finishes_own (completes_read s now group r p) request (Reads group r) group r p (completes_own now group r p h) k k.about)
             (keeps_own (sends_more now sought.sends) (one request (Reads group sought.reading)) (sends_own now sought.sends h m.sends) (record { about = k.about; phase = m.reading }))
@@ -213,7 +213,7 @@ module _ (s : Setting) where
             m : ReadMoveOwn s.cluster.schema group sought
             m = seeks_own s.cluster.schema (reader_of s id group) r (prefix_of now.met group + 1) (clock_of now.met) k.phase
 
-        acts_by : (now : Now) (request : Request) (phase : Phase) → Stands now → OperationOwn s.cluster.schema (one request phase) → Stands (acts s again now (one request phase))
+        acts_by : (now : Now) (request : Request) (phase : Phase) → IsOwnNow now → OperationOwn s.cluster.schema (one request phase) → IsOwnNow (acts s again now (one request phase))
         acts_by now request (Reads group r) h k = reads_own now request group r.noted r.asked r.stage h (record { about = k.about; phase = record { stage = (k.phase).stage } })
         acts_by now request (Proposes group n asked p promised) h k = unless_decided_own now (one request (Proposes group n asked p promised)) n promised (decided now.met group n) h k
 
@@ -229,17 +229,17 @@ module _ (s : Setting) where
 
     -- ---- an operation begins
 
-    read_begun_own : (now : Now) (o : Operation) (request : ReadRequest) (mode : Mode) → Stands now → IsOf o.request request.group → Stands (read_begins s now o request mode)
+    read_begun_own : (now : Now) (o : Operation) (request : ReadRequest) (mode : Mode) → IsOwnNow now → IsOf o.request request.group → IsOwnNow (read_begins s now o request mode)
     read_begun_own now o request Current h of = begins_read_own (goes_on s) goes_own now o request.group None [] h of
     read_begun_own now o request Snapshot h of = ends_own now o.id _ h
     read_begun_own now o request Inconsistent h of = ends_own now o.id _ h
 
-    local_begun_own : (now : Now) (o : Operation) (request : FindRequest) (group : GroupId) (mode : Mode) → Stands now → IsOf o.request group → Stands (local_find_begins s now o request group mode)
+    local_begun_own : (now : Now) (o : Operation) (request : FindRequest) (group : GroupId) (mode : Mode) → IsOwnNow now → IsOf o.request group → IsOwnNow (local_find_begins s now o request group mode)
     local_begun_own now o request group Current h of = begins_read_own (goes_on s) goes_own now o group None [] h of
     local_begun_own now o request group Snapshot h of = ends_own now o.id _ h
     local_begun_own now o request group Inconsistent h of = ends_own now o.id _ h
 
-    find_begun_own : (now : Now) (o : Operation) (request : FindRequest) (group : Option GroupId) → Stands now → ((found : GroupId) → group ≡ Some found → IsOf o.request found) → Stands (find_begins s now o request group)
+    find_begun_own : (now : Now) (o : Operation) (request : FindRequest) (group : Option GroupId) → IsOwnNow now → ((found : GroupId) → group ≡ Some found → IsOf o.request found) → IsOwnNow (find_begins s now o request group)
     find_begun_own now o request None h of = ends_own now o.id _ h
     find_begun_own now o request (Some group) h of = local_begun_own now o request group request.mode h (of group refl)
 
@@ -247,7 +247,7 @@ module _ (s : Setting) where
       abbrev new : Request → Operation
       new request = record { id = id; request = request; began = began; visited = visited; message = message; phase = phase }
 
-      begins_by : (now : Now) (request : Request) → Stands now → Stands (begins s now (new request))
+      begins_by : (now : Now) (request : Request) → IsOwnNow now → IsOwnNow (begins s now (new request))
       begins_by now (Txn transaction) h = begins_read_own (goes_on s) goes_own now (new (Txn transaction)) transaction.group None [] h refl
       begins_by now (Batch group transactions) h = begins_read_own (goes_on s) goes_own now (new (Batch group transactions)) group None [] h refl
       begins_by now (Read request) h = read_begun_own now (new (Read request)) request request.mode h refl
@@ -256,6 +256,6 @@ module _ (s : Setting) where
       begins_by now PumpHandle h = picks_handle (goes_on s) goes_own now (new PumpHandle) [] h (λ g. tt)
       begins_by now Refresh h = ends_own now id _ h
 
-    pub begun_or_refused : (now : Now) (o : Operation) (refusal : Option Answer) → Stands now → Stands (unless_refused s now o refusal)
+    pub begun_or_refused : (now : Now) (o : Operation) (refusal : Option Answer) → IsOwnNow now → IsOwnNow (unless_refused s now o refusal)
     begun_or_refused now o None h = begins_by o.id o.began o.visited o.message o.phase now o.request h
     begun_or_refused now o (Some answer) h = ends_own now o.id answer h

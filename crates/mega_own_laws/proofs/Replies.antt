@@ -10,7 +10,7 @@ use Rattle.mega_base.specs.declared.names.Position.{Position}
 use Rattle.mega_ballot.specs.declared.ballot.Ballot.{Ballot}
 use Rattle.mega_ballot.specs.Order.{zero_ballot}
 use Rattle.mega_cluster.specs.declared.cluster.Cluster.{Cluster}
-use Rattle.mega_coordinator.specs.History.{Call, Ticks as Told, counted_cells, epoch_after, serving}
+use Rattle.mega_coordinator.specs.History.{Call, Ticks as CoordinatorTicks, counted_cells, epoch_after, serving}
 use Rattle.mega_entry.specs.declared.content.Content.{Content}
 use Rattle.mega_locks.specs.declared.asked.Asked.{Asked}
 use Rattle.mega_locks.specs.declared.asked.Asked.TheVariants as lock
@@ -80,7 +80,7 @@ module _ (schema : Schema) where
   lock_own : (cell : ℕ) (epoch : Epoch) (clock : ℕ) (asked : Asked) → CarriesOwn schema (lock_answer cell epoch clock asked)
   lock_own cell epoch clock lock.Granted = tt
   lock_own cell epoch clock lock.Renewed = tt
-  lock_own cell epoch clock (lock.Taken greatest) = tt
+  lock_own cell epoch clock (lock.GreaterHeld greatest) = tt
   lock_own cell epoch clock (lock.Over greatest) = tt
 
   answer_own : (c : Cluster) (me : ℕ) (met : List Met) (from : ℕ) (body : Body) → MetOwn schema met → CarriesOwn schema body → IsOption (CarriesOwn schema) (answer_to c me met from body)
@@ -123,4 +123,4 @@ module _ (schema : Schema) where
 
   pub acquires_at_own : (c : Cluster) (me : ℕ) (met : List Met) (now : ℕ) → AllTellOwn schema (acquires_at c me met now)
   acquires_at_own c me met now = either (AllTellOwn schema) (is_full c me && does_again c.retry (ticks_of met) now) _ []
-      (acquires_own c me (Told now ∷ coordinator_calls c met) (start_of met) now (epoch_after (start_of met) c.cells (Told now ∷ coordinator_calls c met))) tt
+      (acquires_own c me (CoordinatorTicks now ∷ coordinator_calls c met) (start_of met) now (epoch_after (start_of met) c.cells (CoordinatorTicks now ∷ coordinator_calls c met))) tt

@@ -38,7 +38,7 @@ use Rattle.mega_own_laws.proofs.Rounds.{due_own, settled_own, takes_own}
 use Rattle.mega_own_laws.proofs.Reading.{falls_due_own, hears_own, read_settled_own}
 use Rattle.mega_own_laws.proofs.Histories.{met_owns}
 use Rattle.mega_own_laws.proofs.Replies.{acquires_at_own, background_own, news_own, reply_own}
-use Rattle.mega_own_laws.proofs.Acting.{NowOwn, Stands, begun_or_refused, ends_own, goes_own, sends_own}
+use Rattle.mega_own_laws.proofs.Acting.{NowOwn, IsOwnNow, begun_or_refused, ends_own, goes_own, sends_own}
 
 -- ---- what is noted
 
@@ -150,7 +150,7 @@ ended_own schema node own locks durable applies sends now n o l d a m k = record
     notes = both_own schema (((locks ++ durable) ++ applies) ++ now.valid) now.answers (both_own schema ((locks ++ durable) ++ applies) now.valid (both_own schema (locks ++ durable) applies (both_own schema locks durable l d) a) k.valid) k.answers
 
 module _ (s : Setting) (declared : IsDeclared s.cluster.schema) where
-  turn_own : (now : Now) (t : Heard) → Stands s now → HeardOwn s.cluster.schema t → Stands s (acts_in_turn s now t)
+  turn_own : (now : Now) (t : Heard) → IsOwnNow s now → HeardOwn s.cluster.schema t → IsOwnNow s (acts_in_turn s now t)
   turn_own now t h k = goes_own s declared (sends_more now t.sends) t.operation (sends_own s now t.sends h k.sends) k.operation
 
   -- ---- a message is taken
@@ -171,8 +171,8 @@ module _ (s : Setting) (declared : IsDeclared s.cluster.schema) where
       acc : Now
       acc = all_act s (at_first met (stored_after s met node.stored d)) ts
 
-      done : Stands s acc
-      done = each_fold (Stands s) (HeardOwn s.cluster.schema) (acts_in_turn s) turn_own (at_first met (stored_after s met node.stored d)) ts (record { kept = tt; valid = tt; answers = tt; sends = tt }) heard
+      done : IsOwnNow s acc
+      done = each_fold (IsOwnNow s) (HeardOwn s.cluster.schema) (acts_in_turn s) turn_own (at_first met (stored_after s met node.stored d)) ts (record { kept = tt; valid = tt; answers = tt; sends = tt }) heard
 
   take_own : (node : Node) (m : Message) → NodeOwn s.cluster.schema node → TellsOwn s.cluster.schema m → StepOwn s.cluster.schema (take_step s node m)
   take_own node m n b = go (told_decision m.body) (told_own s.cluster.schema m.body b)
@@ -200,8 +200,8 @@ module _ (s : Setting) (declared : IsDeclared s.cluster.schema) where
 
   -- ---- a tick
 
-  ticked_own : (clock : ℕ) (acc : Now) (o : Operation) → Stands s acc → OperationOwn s.cluster.schema o → Stands s (ticked s clock acc o)
-  ticked_own clock acc o h k = either (Stands s) (is_out s clock o) (ends acc o.id (last_answer o)) (acts_in_turn s acc (does_due s clock o)) (ends_own s acc o.id (last_answer o) h) (turn_own acc (does_due s clock o) h (does_own s clock o k))
+  ticked_own : (clock : ℕ) (acc : Now) (o : Operation) → IsOwnNow s acc → OperationOwn s.cluster.schema o → IsOwnNow s (ticked s clock acc o)
+  ticked_own clock acc o h k = either (IsOwnNow s) (is_out s clock o) (ends acc o.id (last_answer o)) (acts_in_turn s acc (does_due s clock o)) (ends_own s acc o.id (last_answer o) h) (turn_own acc (does_due s clock o) h (does_own s clock o k))
 
   tick_own : (node : Node) (clock : ℕ) → NodeOwn s.cluster.schema node → StepOwn s.cluster.schema (tick_step s node clock)
   tick_own node clock n =
@@ -218,8 +218,8 @@ module _ (s : Setting) (declared : IsDeclared s.cluster.schema) where
       acc : Now
       acc = fold (ticked s clock) first node.open_operations
 
-      done : Stands s acc
-      done = each_fold (Stands s) (OperationOwn s.cluster.schema) (ticked s clock) (ticked_own clock) first node.open_operations (record { kept = tt; valid = tt; answers = tt; sends = tt }) n.open_operations
+      done : IsOwnNow s acc
+      done = each_fold (IsOwnNow s) (OperationOwn s.cluster.schema) (ticked s clock) (ticked_own clock) first node.open_operations (record { kept = tt; valid = tt; answers = tt; sends = tt }) n.open_operations
 
   -- ---- a request begins
 
@@ -236,7 +236,7 @@ module _ (s : Setting) (declared : IsDeclared s.cluster.schema) where
       now : Now
       now = unless_refused s first (new_operation (op_of s node.met) request (clock_of node.met)) (refusal s node request)
 
-      done : Stands s now
+      done : IsOwnNow s now
       done = begun_or_refused s declared first (new_operation (op_of s node.met) request (clock_of node.met)) (refusal s node request) (record { kept = n.open_operations; valid = tt; answers = tt; sends = tt })
 
   -- ---- any event

@@ -5,7 +5,7 @@ use Rattle.std.specs.Ordering.{nat_cmp, is_eq}
 use Rattle.std.specs.BTreeMap.{BTreeMap, get, Updates}
 use Rattle.std.proofs.lemmas.List.{drop_more}
 use Rattle.std.proofs.lemmas.Bool.Decides.{nat_tests}
-use Rattle.mega_picture.specs.declared.told.Told.{Told}
+use Rattle.mega_picture.specs.declared.item_line.ItemLine.{ItemLine}
 use Rattle.mega_picture.specs.declared.sheet.Sheet.{Sheet}
 use Rattle.mega_picture.specs.declared.bands.Band.TheVariants.{Serves}
 use Rattle.mega_picture.specs.declared.validity.Change.{Change}
@@ -30,7 +30,7 @@ changed old new gone key row updates = λ group. ap (λ o. unwrap_or o gone) (up
     by o true = refl
     by o false = refl
 
-module _ (keys : List (List ℕ)) (node : ℕ) (told : List Told) (ends : EndsAt) (at : ℕ) (one : Told) (some : 0 < at) (within : at ≤ length told) (is : one ≡ get_or told (at - 1) one) (known : Ends ends keys node at (drop at told)) where
+module _ (keys : List (List ℕ)) (node : ℕ) (told : List ItemLine) (ends : EndsAt) (at : ℕ) (one : ItemLine) (some : 0 < at) (within : at ≤ length told) (is : one ≡ get_or told (at - 1) one) (known : Ends ends keys node at (drop at told)) where
   next_is : at ≡ at - 1 + 1
   next_is = omega (arith, some)
 

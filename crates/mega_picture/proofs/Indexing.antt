@@ -5,7 +5,7 @@ use Rattle.std.specs.List.{position_from}
 use Rattle.std.proofs.lemmas.List.{take_more, length-take-le}
 use Rattle.mega_schema.specs.Named.{or_place}
 use Rattle.mega_picture.specs.Ways.{number_on, is_number, happens, first_row}
-use Rattle.mega_picture.specs.declared.told.Told.{Told}
+use Rattle.mega_picture.specs.declared.item_line.ItemLine.{ItemLine}
 use Rattle.mega_picture.specs.declared.journeys.Way.{Way}
 
 at_none : (b : Bool) (i j : ℕ) → i ≡ j → cond b (Some i) None ≡ or_place None b j
@@ -22,7 +22,7 @@ position_push test k (x ∷ xs) y = by (test x) (position_push test (k + 1) xs y
     by false e = e ∙ ap (or_place (position_from test (k + 1) xs) (test y)) (omega arith)
 
 -- the index after one line more
-pub first_row_on : (way : Way) (n : ℕ) (told : List Told) (i : ℕ) (one : Told) → i < length told → one ≡ get_or told i one → or_place (first_row way n (take i told)) (is_number n (number_on way one.item)) i ≡ first_row way n (take (i + 1) told)
+pub first_row_on : (way : Way) (n : ℕ) (told : List ItemLine) (i : ℕ) (one : ItemLine) → i < length told → one ≡ get_or told i one → or_place (first_row way n (take i told)) (is_number n (number_on way one.item)) i ≡ first_row way n (take (i + 1) told)
 first_row_on way n told i one lt is =
     ap (or_place (first_row way n (take i told)) (happens way n one)) (counted (length-take-le i told (omega arith)))
     ∙ (sym (position_push (happens way n) 0 (take i told) one)

@@ -7,7 +7,7 @@ use Rattle.std.specs.BTreeMap.{BTreeMap, get}
 use Rattle.std.proofs.lemmas.List.{drop_more}
 use Rattle.mega_syntax.specs.Names.{same}
 use Rattle.mega_schema.specs.Named.{or_place}
-use Rattle.mega_picture.specs.declared.told.Told.{Told}
+use Rattle.mega_picture.specs.declared.item_line.ItemLine.{ItemLine}
 use Rattle.mega_picture.specs.Groups.{key_in, place_of, Numbers, with_key, with_named}
 use Rattle.mega_picture.specs.Named.{keys_from}
 use Rattle.mega_picture.proofs.Indexing.{position_push}
@@ -20,7 +20,7 @@ numbers_more before after keys key numbers noted = λ n. noted n ∙ ap (λ o. o
     turned k = omega arith
 
 -- one line more was looked at, and the rest is still to come
-pub keys_on : (keys whole : List (List ℕ)) (told : List Told) (i : ℕ) (one : Told) → i < length told → one ≡ get_or told i one → keys_from keys (drop i told) ≡ whole → keys_from (with_named keys (key_in one.item)) (drop (i + 1) told) ≡ whole
+pub keys_on : (keys whole : List (List ℕ)) (told : List ItemLine) (i : ℕ) (one : ItemLine) → i < length told → one ≡ get_or told i one → keys_from keys (drop i told) ≡ whole → keys_from (with_named keys (key_in one.item)) (drop (i + 1) told) ≡ whole
 keys_on keys whole told i one lt is was =
     sym (ap (keys_from keys) (drop_more told i one lt ∙ ap (λ x. x ∷ drop (i + 1) told) (sym is))) ∙ was
 

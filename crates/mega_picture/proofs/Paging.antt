@@ -4,7 +4,7 @@ use Rattle.std.specs.List.{list_any}
 use Rattle.std.proofs.Math.ListN.{drop_of_length-le}
 use Rattle.std.proofs.lemmas.List.{drop_more}
 use Rattle.mega_base.specs.declared.values.NodeKind.{NodeKind}
-use Rattle.mega_picture.specs.declared.told.Told.{Told}
+use Rattle.mega_picture.specs.declared.item_line.ItemLine.{ItemLine}
 use Rattle.mega_picture.specs.declared.sheet.Sheet.{Sheet}
 use Rattle.mega_picture.specs.Texts.{all_to}
 use Rattle.mega_picture.specs.Pages.{lane_bands, number_at, name_at, names_at, group_text, groups_from, is_of_client}
@@ -16,7 +16,7 @@ all_on text out i = append_assoc out (all_to text i) (text i) ∙ ap (λ k. out 
     next : (k : ℕ) → suc k ≡ k + 1
     next k = omega arith
 
-pub bands_on : (out : List ℕ) (sheet : Sheet) (keys : List (List ℕ)) (told : List Told) (i : ℕ) → (out ++ all_to (lane_bands sheet keys told) i) ++ lane_bands sheet keys told i ≡ out ++ all_to (lane_bands sheet keys told) (i + 1)
+pub bands_on : (out : List ℕ) (sheet : Sheet) (keys : List (List ℕ)) (told : List ItemLine) (i : ℕ) → (out ++ all_to (lane_bands sheet keys told) i) ++ lane_bands sheet keys told i ≡ out ++ all_to (lane_bands sheet keys told) (i + 1)
 bands_on out sheet keys told i = all_on (lane_bands sheet keys told) out i
 
 pub numbers_on : (out : List ℕ) (first i : ℕ) → (out ++ all_to (number_at first) i) ++ number_at first i ≡ out ++ all_to (number_at first) (i + 1)
@@ -35,17 +35,17 @@ groups_on out sheet keys i key lt is =
     ∙ ap (λ rest. out ++ groups_from sheet i rest) (ap (λ k. k ∷ drop (i + 1) keys) is ∙ sym (drop_more keys i key lt))
 
 -- whether a message is of a client, one line more at a time
-abbrev of_client : Told → Bool
+abbrev of_client : ItemLine → Bool
 of_client one = is_of_client one.item
 
-client_parted : (told : List Told) (i : ℕ) (one : Told) → i < length told → one ≡ get_or told i one → list_any of_client (drop i told) ≡ (is_of_client one.item || list_any of_client (drop (i + 1) told))
+client_parted : (told : List ItemLine) (i : ℕ) (one : ItemLine) → i < length told → one ≡ get_or told i one → list_any of_client (drop i told) ≡ (is_of_client one.item || list_any of_client (drop (i + 1) told))
 client_parted told i one lt is = ap (list_any of_client) (drop_more told i one lt ∙ ap (λ x. x ∷ drop (i + 1) told) (sym is))
 
-pub client_on : (told : List Told) (i : ℕ) (one : Told) (whole : Bool) → i < length told → one ≡ get_or told i one → is_of_client one.item ≡ false → list_any (λ o. is_of_client o.item) (drop i told) ≡ whole → list_any (λ o. is_of_client o.item) (drop (i + 1) told) ≡ whole
+pub client_on : (told : List ItemLine) (i : ℕ) (one : ItemLine) (whole : Bool) → i < length told → one ≡ get_or told i one → is_of_client one.item ≡ false → list_any (λ o. is_of_client o.item) (drop i told) ≡ whole → list_any (λ o. is_of_client o.item) (drop (i + 1) told) ≡ whole
 client_on told i one whole lt is none was = sym (ap (λ b. b || list_any of_client (drop (i + 1) told)) none) ∙ (sym (client_parted told i one lt is) ∙ was)
 
-pub client_here : (told : List Told) (i : ℕ) (one : Told) (whole : Bool) → i < length told → one ≡ get_or told i one → is_of_client one.item ≡ true → list_any (λ o. is_of_client o.item) (drop i told) ≡ whole → true ≡ whole
+pub client_here : (told : List ItemLine) (i : ℕ) (one : ItemLine) (whole : Bool) → i < length told → one ≡ get_or told i one → is_of_client one.item ≡ true → list_any (λ o. is_of_client o.item) (drop i told) ≡ whole → true ≡ whole
 client_here told i one whole lt is some was = sym (ap (λ b. b || list_any of_client (drop (i + 1) told)) some) ∙ (sym (client_parted told i one lt is) ∙ was)
 
-pub client_none : (told : List Told) (i : ℕ) (whole : Bool) → length told ≤ i → list_any (λ o. is_of_client o.item) (drop i told) ≡ whole → false ≡ whole
+pub client_none : (told : List ItemLine) (i : ℕ) (whole : Bool) → length told ≤ i → list_any (λ o. is_of_client o.item) (drop i told) ≡ whole → false ≡ whole
 client_none told i whole le was = sym (ap (list_any of_client) (drop_of_length-le told le)) ∙ was

@@ -3,7 +3,7 @@ use Rattle.std.specs.Prelude.{ℕ, ◌+◌, ◌-◌, nat_lt, if◌then◌else◌
 use Rattle.mega_wire.specs.declared.message.Message.{Message}
 use Rattle.mega_transcript.specs.declared.item.Item.{Item}
 use Rattle.mega_transcript.specs.declared.item.Item.TheVariants as items
-use Rattle.mega_picture.specs.declared.told.Told.{Told}
+use Rattle.mega_picture.specs.declared.item_line.ItemLine.{ItemLine}
 use Rattle.mega_picture.specs.declared.sheet.Sheet.{Sheet}
 use Rattle.mega_picture.specs.Kinds.{kind_of, kind_name}
 use Rattle.mega_picture.specs.Sheets.{lane, step}
@@ -28,9 +28,9 @@ name_if sheet row (items.Sent number message) = message_name sheet row number me
 name_if sheet row _ = []
 
 -- the names of the lines from a row on
-abbrev pub arrow_names_from : Sheet → ℕ → List Told → List ℕ
+abbrev pub arrow_names_from : Sheet → ℕ → List ItemLine → List ℕ
 arrow_names_from sheet row [] = []
 arrow_names_from sheet row (one ∷ rest) = name_if sheet row one.item ++ arrow_names_from sheet (row + 1) rest
 
-abbrev pub arrow_names : Sheet → List Told → List ℕ
+abbrev pub arrow_names : Sheet → List ItemLine → List ℕ
 arrow_names sheet told = arrow_names_from sheet 0 told

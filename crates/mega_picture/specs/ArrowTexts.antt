@@ -1,6 +1,6 @@
 -- How arrows are spelled in a page.
 use Rattle.std.specs.Prelude.{ℕ, ◌+◌, ◌-◌, ◌*◌, ◌/◌, ◌%◌, ◌==◌, nat_lt, if◌then◌else◌, List, [], ◌∷◌, ◌++◌, codes, decimal, Option, Some, None}
-use Rattle.mega_picture.specs.declared.told.Told.{Told}
+use Rattle.mega_picture.specs.declared.item_line.ItemLine.{ItemLine}
 use Rattle.mega_picture.specs.declared.sheet.Sheet.{Sheet}
 use Rattle.mega_picture.specs.declared.arrows.End.{End}
 use Rattle.mega_picture.specs.declared.arrows.End.TheVariants.{Taken, Dropped, Fades, Again}
@@ -73,9 +73,9 @@ text_if sheet line None = []
 text_if sheet line (Some arrow) = arrow_text sheet arrow line
 
 -- the arrows of the lines from a row on
-abbrev pub arrow_texts_from : Sheet → List Told → ℕ → List Told → List ℕ
+abbrev pub arrow_texts_from : Sheet → List ItemLine → ℕ → List ItemLine → List ℕ
 arrow_texts_from sheet told row [] = []
 arrow_texts_from sheet told row (one ∷ rest) = text_if sheet one.line (arrow_of told row one.item) ++ arrow_texts_from sheet told (row + 1) rest
 
-abbrev pub arrow_texts : Sheet → List Told → List ℕ
+abbrev pub arrow_texts : Sheet → List ItemLine → List ℕ
 arrow_texts sheet told = arrow_texts_from sheet told 0 told

@@ -2,7 +2,7 @@
 use Rattle.std.specs.Prelude.{ℕ, ◌+◌, ◌-◌, ◌/◌, ◌==◌, Bool, true, false, List, [], ◌∷◌, ◌++◌, codes, decimal, Option, Some, None}
 use Rattle.mega_transcript.specs.declared.item.Item.{Item}
 use Rattle.mega_transcript.specs.declared.item.Item.TheVariants as items
-use Rattle.mega_picture.specs.declared.told.Told.{Told}
+use Rattle.mega_picture.specs.declared.item_line.ItemLine.{ItemLine}
 use Rattle.mega_picture.specs.declared.sheet.Sheet.{Sheet}
 use Rattle.mega_picture.specs.declared.bands.Band.{Band}
 use Rattle.mega_picture.specs.declared.bands.Band.TheVariants.{Up, Serves}
@@ -57,10 +57,10 @@ since_after since row Begins = Some row
 since_after since row Ends = None
 
 -- the bands of a node from a row on; the last one goes on to the foot of the page
-abbrev pub bands_from : Sheet → Band → ℕ → Option ℕ → ℕ → List Told → List ℕ
+abbrev pub bands_from : Sheet → Band → ℕ → Option ℕ → ℕ → List ItemLine → List ℕ
 bands_from sheet band node since row [] = ended sheet band node since sheet.steps
 bands_from sheet band node since row (one ∷ rest) =
     turned sheet band node since row (turn_of band node one.item) ++ bands_from sheet band node (since_after since row (turn_of band node one.item)) (row + 1) rest
 
-abbrev pub band_texts : Sheet → Band → ℕ → List Told → List ℕ
+abbrev pub band_texts : Sheet → Band → ℕ → List ItemLine → List ℕ
 band_texts sheet band node told = bands_from sheet band node None 0 told

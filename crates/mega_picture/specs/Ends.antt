@@ -2,7 +2,7 @@
 use Rattle.std.specs.Prelude.{◌≡◌, ℕ, List, unwrap_or}
 use Rattle.std.specs.Ordering.{nat_cmp}
 use Rattle.std.specs.BTreeMap.{get}
-use Rattle.mega_picture.specs.declared.told.Told.{Told}
+use Rattle.mega_picture.specs.declared.item_line.ItemLine.{ItemLine}
 use Rattle.mega_picture.specs.declared.validity.EndsAt.{EndsAt}
 use Rattle.mega_picture.specs.Validity.{end_from}
 
@@ -10,5 +10,5 @@ abbrev pub end_at : EndsAt → ℕ → ℕ
 end_at ends group = unwrap_or (get nat_cmp ends.next group) ends.gone
 
 -- it has the ends from a row on
-abbrev pub Ends : EndsAt → List (List ℕ) → ℕ → ℕ → List Told → Type 0
+abbrev pub Ends : EndsAt → List (List ℕ) → ℕ → ℕ → List ItemLine → Type 0
 Ends ends keys node row rest = (group : ℕ) → end_at ends group ≡ end_from keys node group row rest

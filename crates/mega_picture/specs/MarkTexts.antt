@@ -1,6 +1,6 @@
 -- How marks are spelled in a page.
 use Rattle.std.specs.Prelude.{ℕ, ◌+◌, ◌-◌, List, [], ◌∷◌, ◌++◌, codes, decimal, Option, Some, None}
-use Rattle.mega_picture.specs.declared.told.Told.{Told}
+use Rattle.mega_picture.specs.declared.item_line.ItemLine.{ItemLine}
 use Rattle.mega_picture.specs.declared.sheet.Sheet.{Sheet}
 use Rattle.mega_picture.specs.declared.marks.Place.{Place}
 use Rattle.mega_picture.specs.declared.marks.Place.TheVariants.{Right, Left, Across}
@@ -59,14 +59,14 @@ mark_text sheet row mark line label =
     mark_opening (tone_of mark.position) ++ (fitted (title_room sheet) line ++ figure_text sheet row mark label)
 
 -- the mark of a line, where it has one
-abbrev pub text_if : Sheet → List (List ℕ) → ℕ → Told → Option Mark → List ℕ
+abbrev pub text_if : Sheet → List (List ℕ) → ℕ → ItemLine → Option Mark → List ℕ
 text_if sheet keys row one None = []
 text_if sheet keys row one (Some mark) = mark_text sheet row mark one.line (label_of keys one.line one.item)
 
 -- the marks of the lines from a row on
-abbrev pub mark_texts_from : Sheet → List (List ℕ) → List Told → ℕ → List Told → List ℕ
+abbrev pub mark_texts_from : Sheet → List (List ℕ) → List ItemLine → ℕ → List ItemLine → List ℕ
 mark_texts_from sheet keys told row [] = []
 mark_texts_from sheet keys told row (one ∷ rest) = text_if sheet keys row one (mark_of told one.item) ++ mark_texts_from sheet keys told (row + 1) rest
 
-abbrev pub mark_texts : Sheet → List (List ℕ) → List Told → List ℕ
+abbrev pub mark_texts : Sheet → List (List ℕ) → List ItemLine → List ℕ
 mark_texts sheet keys told = mark_texts_from sheet keys told 0 told

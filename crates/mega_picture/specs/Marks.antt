@@ -3,7 +3,7 @@ use Rattle.std.specs.Prelude.{ℕ, nat_lt, if◌then◌else◌, List, codes, Opt
 use Rattle.mega_wire.specs.declared.message.Message.{Message}
 use Rattle.mega_transcript.specs.declared.item.Item.{Item}
 use Rattle.mega_transcript.specs.declared.item.Item.TheVariants as items
-use Rattle.mega_picture.specs.declared.told.Told.{Told}
+use Rattle.mega_picture.specs.declared.item_line.ItemLine.{ItemLine}
 use Rattle.mega_picture.specs.declared.journeys.Way.TheVariants as ways
 use Rattle.mega_picture.specs.declared.marks.Shape.{Shape}
 use Rattle.mega_picture.specs.declared.marks.Shape.TheVariants as shapes
@@ -45,7 +45,7 @@ arrival_of None = Across
 arrival_of (Some message) = side_of message
 
 -- where the mark stands of a message that is taken or dropped: on the lane of its receiver
-abbrev pub arrival_at : List Told → ℕ → Place
+abbrev pub arrival_at : List ItemLine → ℕ → Place
 arrival_at told number = arrival_of (message_at told (first_row ways.Sent number told))
 
 abbrev pub on_lane : ℕ → Shape → ℕ → Mark
@@ -64,7 +64,7 @@ dropped_mark (Right node) = record { place = Right node; shape = shapes.LostLeft
 dropped_mark Across = across shapes.LostLeft
 
 -- the mark of an item, on the lane of its node; grants and lapses are on that of the cell's node
-abbrev pub mark_of : List Told → Item → Option Mark
+abbrev pub mark_of : List ItemLine → Item → Option Mark
 mark_of told (items.Sent number message) = None
 mark_of told (items.Taken number) = Some (taken_mark (arrival_at told number))
 mark_of told (items.Dropped number) = Some (dropped_mark (arrival_at told number))

@@ -5,7 +5,7 @@ use Rattle.hex.specs.Hex.{encode_lower}
 use Rattle.mega_base.specs.declared.values.NodeKind.{NodeKind}
 use Rattle.mega_transcript.specs.declared.item.Item.{Item}
 use Rattle.mega_transcript.specs.declared.item.Item.TheVariants as items
-use Rattle.mega_picture.specs.declared.told.Told.{Told}
+use Rattle.mega_picture.specs.declared.item_line.ItemLine.{ItemLine}
 use Rattle.mega_picture.specs.declared.sheet.Sheet.{Sheet}
 use Rattle.mega_picture.specs.declared.bands.Band.TheVariants.{Up, Serves}
 use Rattle.mega_picture.specs.declared.style.TheConstants.{STYLE, SHAPES}
@@ -34,11 +34,11 @@ abbrev pub head : ℕ → ℕ → List ℕ
 head width height = head_with STYLE.now SHAPES.now width height
 
 -- the bands of a node, counted from 0
-unfoldable pub lane_bands : Sheet → List (List ℕ) → List Told → ℕ → List ℕ
+unfoldable pub lane_bands : Sheet → List (List ℕ) → List ItemLine → ℕ → List ℕ
 lane_bands sheet keys told index =
     band_texts sheet Serves (index + 1) told ++ (band_texts sheet Up (index + 1) told ++ validity_texts sheet keys (index + 1) told)
 
-abbrev pub all_bands : Sheet → List (List ℕ) → List Told → List ℕ
+abbrev pub all_bands : Sheet → List (List ℕ) → List ItemLine → List ℕ
 all_bands sheet keys told = all_to (lane_bands sheet keys told) sheet.nodes
 
 -- the number of the line in a row, where the first one has this number
@@ -81,11 +81,11 @@ abbrev pub is_of_client : Item → Bool
 is_of_client (items.Sent number message) = (message.from == 0) || (message.to == 0)
 is_of_client _ = false
 
-abbrev pub has_clients : List Told → Bool
+abbrev pub has_clients : List ItemLine → Bool
 has_clients told = list_any (λ one. is_of_client one.item) told
 
 -- the lane of clients is named where some message is of one
-unfoldable pub clients : List Told → List ℕ
+unfoldable pub clients : List ItemLine → List ℕ
 clients told = if has_clients told then codes "<text class=\"name\" x=\"66\" y=\"49\">clients</text>\n" else []
 
 -- which group a number stands for, by its key in hex
@@ -97,22 +97,22 @@ abbrev pub groups_from : Sheet → ℕ → List (List ℕ) → List ℕ
 groups_from sheet index [] = []
 groups_from sheet index (key ∷ keys) = group_text sheet (index + 1) key ++ groups_from sheet (index + 1) keys
 
-abbrev pub sheet_of : List NodeKind → List Told → Sheet
+abbrev pub sheet_of : List NodeKind → List ItemLine → Sheet
 sheet_of nodes told = record { nodes = min (length nodes) 255; steps = length told }
 
 -- what is drawn of the lines
-unfoldable pub drawing : Sheet → List (List ℕ) → List Told → List ℕ
+unfoldable pub drawing : Sheet → List (List ℕ) → List ItemLine → List ℕ
 drawing sheet keys told = all_bands sheet keys told ++ (arrow_texts sheet told ++ (arrow_names sheet told ++ mark_texts sheet keys told))
 
 -- what is written around it
-unfoldable pub writing : Sheet → List (List ℕ) → List NodeKind → ℕ → List Told → List ℕ
+unfoldable pub writing : Sheet → List (List ℕ) → List NodeKind → ℕ → List ItemLine → List ℕ
 writing sheet keys nodes first told =
     line_numbers sheet first ++ (all_names sheet nodes ++ (clients told ++ groups_from sheet 0 keys))
 
-unfoldable pub page_on : Sheet → List (List ℕ) → List NodeKind → ℕ → List Told → List ℕ
+unfoldable pub page_on : Sheet → List (List ℕ) → List NodeKind → ℕ → List ItemLine → List ℕ
 page_on sheet keys nodes first told =
     head (width sheet) (height sheet (length keys)) ++ (drawing sheet keys told ++ (writing sheet keys nodes first told ++ codes "</svg>\n"))
 
 -- the page of the lines drawn, of which the first has this number, under a header with these nodes
-abbrev pub page : List NodeKind → ℕ → List Told → List ℕ
+abbrev pub page : List NodeKind → ℕ → List ItemLine → List ℕ
 page nodes first told = page_on (sheet_of nodes told) (keys_of told) nodes first told

@@ -2,7 +2,7 @@
 use Rattle.std.specs.Prelude.{ℕ, ◌+◌, ◌-◌, ◌*◌, ◌%◌, ◌==◌, ◌||◌, Bool, true, false, if◌then◌else◌, List, [], ◌∷◌, ◌++◌, codes, decimal, Option, Some, None}
 use Rattle.mega_transcript.specs.declared.item.Item.{Item}
 use Rattle.mega_transcript.specs.declared.item.Item.TheVariants as items
-use Rattle.mega_picture.specs.declared.told.Told.{Told}
+use Rattle.mega_picture.specs.declared.item_line.ItemLine.{ItemLine}
 use Rattle.mega_picture.specs.declared.sheet.Sheet.{Sheet}
 use Rattle.mega_picture.specs.declared.bands.Turn.{Turn}
 use Rattle.mega_picture.specs.declared.bands.Turn.TheVariants.{Ends}
@@ -37,7 +37,7 @@ abbrev pub ends_band : ℕ → Option Change → Turn → Bool
 ends_band group change turn = is_of group change || is_end turn
 
 -- the row in which the band of a group ends, from a row on
-abbrev pub end_from : List (List ℕ) → ℕ → ℕ → ℕ → List Told → ℕ
+abbrev pub end_from : List (List ℕ) → ℕ → ℕ → ℕ → List ItemLine → ℕ
 end_from keys node group row [] = row
 end_from keys node group row (one ∷ rest) =
     if ends_band group (change_of keys node one.item) (turn_of Serves node one.item) then row else end_from keys node group (row + 1) rest
@@ -67,9 +67,9 @@ change_text sheet node row None end line = []
 change_text sheet node row (Some change) end line = validity_text sheet node change row (end change.group) line
 
 -- the bands of the groups of a node from a row on, the last one first
-abbrev pub validities_from : Sheet → List (List ℕ) → ℕ → ℕ → List Told → List ℕ
+abbrev pub validities_from : Sheet → List (List ℕ) → ℕ → ℕ → List ItemLine → List ℕ
 validities_from sheet keys node row [] = []
 validities_from sheet keys node row (one ∷ rest) = validities_from sheet keys node (row + 1) rest ++ change_text sheet node row (change_of keys node one.item) (λ group. end_from keys node group (row + 1) rest) one.line
 
-abbrev pub validity_texts : Sheet → List (List ℕ) → ℕ → List Told → List ℕ
+abbrev pub validity_texts : Sheet → List (List ℕ) → ℕ → List ItemLine → List ℕ
 validity_texts sheet keys node told = validities_from sheet keys node 0 told

@@ -2,9 +2,9 @@
 ghost use Rattle.std.specs.Prelude.{◌≡◌, ◌≤◌, ◌++◌, OnOk, length};
 ghost use Rattle.mega_picture.specs.ArrowNames.{right_name, left_name, message_name, name_if, arrow_names};
 
+use crate::item_line::ItemLine;
 use crate::kinds::{kind_name, kind_of};
 use crate::sheet::{Sheet, step};
-use crate::told::Told;
 use mega_base::{Bytes, NoMemory};
 use mega_transcript::Item;
 use mega_wire::Message;
@@ -94,7 +94,7 @@ pub fn put_arrow_names(
     alloc: Global,
     out: &mut Bytes,
     sheet: Sheet,
-    told: &[Told],
+    told: &[ItemLine],
 ) -> Result<(), NoMemory>
     requires { length told.now ≤ 4000 }
     ensures { OnOk result (out.new ≡ out.old ++ arrow_names sheet told.now) }

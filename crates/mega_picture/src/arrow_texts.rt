@@ -5,10 +5,10 @@ ghost use Rattle.mega_picture.specs.ArrowTexts.{class_of, line_path, back_path, 
 
 use crate::arrows::{Arrow, End, arrow_of};
 use crate::escape::put_fitted;
+use crate::item_line::ItemLine;
 use crate::journeys::Journeys;
 use crate::kinds::tone_of;
 use crate::sheet::{Sheet, step};
-use crate::told::Told;
 use mega_base::{Bytes, NoMemory};
 use std::alloc::Global;
 
@@ -194,7 +194,7 @@ pub fn put_arrows(
     out: &mut Bytes,
     sheet: Sheet,
     journeys: &Journeys,
-    told: &[Told],
+    told: &[ItemLine],
 ) -> Result<(), NoMemory>
     requires few { length told.now ≤ 4000 }
     requires rows { Follows journeys.now told.now }

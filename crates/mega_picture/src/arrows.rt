@@ -1,12 +1,12 @@
 //! The arrows of messages: from where one is sent to where it is taken, dropped, or never comes.
 ghost use Rattle.std.specs.Prelude.{◌≡◌, ◌≤◌, ℕ, List, length, Some};
-ghost use Rattle.mega_picture.specs.declared.told.Told.{Told as ToldValue};
+ghost use Rattle.mega_picture.specs.declared.item_line.ItemLine.{ItemLine as ItemLineValue};
 ghost use Rattle.mega_picture.specs.Rows.{Follows};
 ghost use Rattle.mega_picture.specs.Arrows.{end_of, arrow_with, is_row, again_of, arrow_of};
 
+use crate::item_line::ItemLine;
 use crate::journeys::{Journeys, message_at};
 use crate::kinds::position_of;
-use crate::told::Told;
 use mega_transcript::Item;
 use mega_wire::Message;
 
@@ -35,7 +35,7 @@ pub struct Arrow {
 
 /// How the arrow of a message ends: where it is first taken, else where it is dropped, else it fades out.
 fn end_of(journeys: &Journeys, number: u64) -> End
-    ensures { (told : List ToldValue) → Follows journeys.now told → result ≡ end_of told number }
+    ensures { (told : List ItemLineValue) → Follows journeys.now told → result ≡ end_of told number }
 {
     if let Some(row) = journeys.taken(number) {
         return End::Taken { row };
@@ -70,7 +70,7 @@ fn is_row(first: Option<u32>, row: u32) -> bool
 }
 
 /// The thin arrow of a message that is taken in a row, where that is not the first time.
-fn again_of(journeys: &Journeys, told: &[Told], row: u32, number: u64) -> Option<Arrow>
+fn again_of(journeys: &Journeys, told: &[ItemLine], row: u32, number: u64) -> Option<Arrow>
     requires { Follows journeys.now told.now }
     ensures { result ≡ again_of told.now row number }
 {
@@ -85,7 +85,7 @@ fn again_of(journeys: &Journeys, told: &[Told], row: u32, number: u64) -> Option
 }
 
 /// The arrow that an item in a row has: a message that is sent has one, and one that is taken again a thin one.
-pub fn arrow_of(journeys: &Journeys, told: &[Told], row: u32, item: &Item) -> Option<Arrow>
+pub fn arrow_of(journeys: &Journeys, told: &[ItemLine], row: u32, item: &Item) -> Option<Arrow>
     requires { Follows journeys.now told.now }
     ensures { result ≡ arrow_of told.now row item.now }
 {

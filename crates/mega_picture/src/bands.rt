@@ -2,8 +2,8 @@
 ghost use Rattle.std.specs.Prelude.{◌≡◌, ◌≤◌, ◌++◌, OnOk, length};
 ghost use Rattle.mega_picture.specs.Bands.{turn_if, turn_of, width_of, class_of, rect_text, band_text, ended, turned, since_after, band_texts};
 
+use crate::item_line::ItemLine;
 use crate::sheet::{Sheet, step};
-use crate::told::Told;
 use mega_base::{Bytes, NoMemory};
 use mega_transcript::Item;
 use std::alloc::Global;
@@ -161,7 +161,7 @@ pub fn put_bands(
     sheet: Sheet,
     band: Band,
     node: u8,
-    told: &[Told],
+    told: &[ItemLine],
 ) -> Result<(), NoMemory>
     requires { length told.now ≤ 4000 }
     ensures { OnOk result (out.new ≡ out.old ++ band_texts sheet band node told.now) }

@@ -1,11 +1,11 @@
 //! Which items cannot be drawn.
 ghost use Rattle.std.specs.Prelude.{◌≡◌, ◌≤◌, IfOk, length, List, if◌then◌else◌, Some, None};
-ghost use Rattle.mega_picture.specs.declared.told.Told.{Told as ToldValue};
+ghost use Rattle.mega_picture.specs.declared.item_line.ItemLine.{ItemLine as ItemLineValue};
 ghost use Rattle.mega_picture.specs.Rows.{Follows};
 ghost use Rattle.mega_picture.specs.Flaws.{greatest_node, is_before, is_sent_before, message_flaw, flaw_at, flaw_of};
 
+use crate::item_line::ItemLine;
 use crate::journeys::Journeys;
-use crate::told::Told;
 use mega_base::NoMemory;
 use mega_transcript::Item;
 use std::alloc::Global;
@@ -83,14 +83,14 @@ fn if_sent(is_sent: bool, row: u32, number: u64) -> Option<Flaw>
 
 /// Whether a message was sent before a row.
 fn is_sent_before(journeys: &Journeys, number: u64, row: u32) -> bool
-    ensures { (told : List ToldValue) → Follows journeys.now told → result ≡ is_sent_before told number row }
+    ensures { (told : List ItemLineValue) → Follows journeys.now told → result ≡ is_sent_before told number row }
 {
     is_before(journeys.sent(number), row)
 }
 
 /// Why the message of an item in a row cannot be drawn, if so.
 fn message_flaw(journeys: &Journeys, row: u32, item: &Item) -> Option<Flaw>
-    ensures { (told : List ToldValue) → Follows journeys.now told → result ≡ message_flaw told row item.now }
+    ensures { (told : List ItemLineValue) → Follows journeys.now told → result ≡ message_flaw told row item.now }
 {
     match item {
         Item::Taken { number } => {
@@ -108,7 +108,7 @@ fn message_flaw(journeys: &Journeys, row: u32, item: &Item) -> Option<Flaw>
 
 /// Why the item in a row cannot be drawn, if so.
 fn flaw_at(journeys: &Journeys, nodes: u8, row: u32, item: &Item) -> Option<Flaw>
-    ensures { (told : List ToldValue) → Follows journeys.now told → result ≡ flaw_at told nodes row item.now }
+    ensures { (told : List ItemLineValue) → Follows journeys.now told → result ≡ flaw_at told nodes row item.now }
 {
     let node = greatest_node(item);
     if nodes < node {
@@ -119,7 +119,7 @@ fn flaw_at(journeys: &Journeys, nodes: u8, row: u32, item: &Item) -> Option<Flaw
 
 /// The first item that cannot be drawn with so many nodes, if there is one.
 #[tactic(auto, using(crate::proofs::Flawing::flaw_on, crate::proofs::Flawing::flaw_here))]
-pub fn flaw_of(alloc: Global, nodes: u8, told: &[Told]) -> Result<Option<Flaw>, NoMemory>
+pub fn flaw_of(alloc: Global, nodes: u8, told: &[ItemLine]) -> Result<Option<Flaw>, NoMemory>
     requires { length told.now ≤ 4000 }
     ensures { IfOk result (λ flaw. flaw ≡ flaw_of nodes told.now) }
 {

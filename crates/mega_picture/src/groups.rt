@@ -9,7 +9,7 @@ ghost use Rattle.mega_schema.specs.Named.{or_place};
 ghost use Rattle.mega_picture.specs.Groups.{key_in, place_of, number_in, with_key, with_named};
 ghost use Rattle.mega_picture.specs.Named.{keys_of};
 
-use crate::told::Told;
+use crate::item_line::ItemLine;
 use mega_base::{Bytes, Copied, GroupId, Items, NoMemory};
 use mega_transcript::Item;
 use std::alloc::Global;
@@ -65,7 +65,7 @@ impl Model for Groups {
 impl Groups {
     /// Those that the marks of the lines drawn name.
     #[tactic(auto, using(crate::proofs::Numbering::keys_on, crate::proofs::Numbering::short_on))]
-    pub fn new(alloc: Global, told: &[Told]) -> Result<Groups, NoMemory>
+    pub fn new(alloc: Global, told: &[ItemLine]) -> Result<Groups, NoMemory>
         requires { length told.now ≤ 4000 }
         ensures value { IfOk result (λ groups. groups ≡ keys_of told.now) }
         ensures few { IfOk result (λ groups. length groups ≤ 4000) }

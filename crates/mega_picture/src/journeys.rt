@@ -6,7 +6,7 @@ ghost use Rattle.std.specs.Option.{option_copied};
 ghost use Rattle.mega_picture.specs.Ways.{number_on, is_number, first_row, message_of, message_at};
 ghost use Rattle.mega_schema.specs.Named.{or_place};
 
-use crate::told::Told;
+use crate::item_line::ItemLine;
 use mega_base::NoMemory;
 use mega_transcript::Item;
 use mega_wire::Message;
@@ -49,7 +49,11 @@ fn note(rows: &mut BTreeMap<u64, u32>, number: Option<u64>, row: u32) -> Result<
 
 /// The row in which this first happens to each message.
 #[tactic(auto, using(crate::proofs::Indexing::first_row_on))]
-pub fn first_rows(alloc: Global, way: Way, told: &[Told]) -> Result<BTreeMap<u64, u32>, NoMemory>
+pub fn first_rows(
+    alloc: Global,
+    way: Way,
+    told: &[ItemLine],
+) -> Result<BTreeMap<u64, u32>, NoMemory>
     requires { length told.now ≤ 4000 }
     ensures { IfOk result (λ rows. (n : ℕ) → get nat_cmp rows n ≡ first_row way n told.now) }
 {
@@ -70,11 +74,11 @@ pub struct Journeys {
 
 impl Journeys {
     ghost use Rattle.mega_picture.specs.Rows.{Follows};
-    ghost use Rattle.mega_picture.specs.declared.told.Told.{Told as ToldValue};
+    ghost use Rattle.mega_picture.specs.declared.item_line.ItemLine.{ItemLine as ItemLineValue};
     ghost use Rattle.mega_picture.specs.declared.journeys.Way.TheVariants.{Sent, Taken, Dropped};
 
     /// Those of the lines drawn.
-    pub fn new(alloc: Global, told: &[Told]) -> Result<Journeys, NoMemory>
+    pub fn new(alloc: Global, told: &[ItemLine]) -> Result<Journeys, NoMemory>
         requires { length told.now ≤ 4000 }
         ensures { IfOk result (λ journeys. Follows journeys told.now) }
     {
@@ -90,21 +94,21 @@ impl Journeys {
 
     /// The row in which a message is sent.
     pub fn sent(&self, number: u64) -> Option<u32>
-        ensures { (told : List ToldValue) → Follows self.now told → result ≡ first_row Sent number told }
+        ensures { (told : List ItemLineValue) → Follows self.now told → result ≡ first_row Sent number told }
     {
         self.sent.get(&number).copied()
     }
 
     /// The row in which a message is first taken.
     pub fn taken(&self, number: u64) -> Option<u32>
-        ensures { (told : List ToldValue) → Follows self.now told → result ≡ first_row Taken number told }
+        ensures { (told : List ItemLineValue) → Follows self.now told → result ≡ first_row Taken number told }
     {
         self.taken.get(&number).copied()
     }
 
     /// The row in which a message is first dropped.
     pub fn dropped(&self, number: u64) -> Option<u32>
-        ensures { (told : List ToldValue) → Follows self.now told → result ≡ first_row Dropped number told }
+        ensures { (told : List ItemLineValue) → Follows self.now told → result ≡ first_row Dropped number told }
     {
         self.dropped.get(&number).copied()
     }
@@ -121,7 +125,7 @@ fn message_of(item: &Item) -> Option<&Message>
 }
 
 /// The message that is sent in a row.
-pub fn message_at(told: &[Told], row: Option<u32>) -> Option<&Message>
+pub fn message_at(told: &[ItemLine], row: Option<u32>) -> Option<&Message>
     ensures { option_copied result ≡ message_at told.now row }
 {
     let Some(row) = row else {

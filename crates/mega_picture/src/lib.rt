@@ -8,6 +8,7 @@ mod bands;
 mod drawable;
 mod escape;
 mod groups;
+mod item_line;
 mod journeys;
 mod kinds;
 mod labels;
@@ -17,9 +18,8 @@ mod page;
 mod page_notes;
 mod sheet;
 mod style;
-mod told;
 mod validity;
 
 pub use drawable::{Flaw, flaw_of};
+pub use item_line::{ItemLine, MOST};
 pub use page::put_page;
-pub use told::{MOST, Told};

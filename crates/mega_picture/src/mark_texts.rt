@@ -5,12 +5,12 @@ ghost use Rattle.mega_picture.specs.MarkTexts.{x_of, beside_of, class_of, room_o
 
 use crate::escape::{put_cut, put_fitted};
 use crate::groups::Groups;
+use crate::item_line::ItemLine;
 use crate::journeys::Journeys;
 use crate::kinds::tone_of;
 use crate::labels::put_label;
 use crate::marks::{Mark, Place, mark_of, word_of};
 use crate::sheet::{Sheet, step};
-use crate::told::Told;
 use mega_base::{Bytes, NoMemory};
 use std::alloc::Global;
 
@@ -165,7 +165,7 @@ fn put_if(
     groups: &Groups,
     row: u32,
     mark: Option<Mark>,
-    one: &Told,
+    one: &ItemLine,
 ) -> Result<(), NoMemory>
     ensures { OnOk result (out.new ≡ out.old ++ text_if sheet groups.now row one.now mark) }
 {
@@ -186,7 +186,7 @@ pub fn put_marks(
     sheet: Sheet,
     journeys: &Journeys,
     groups: &Groups,
-    told: &[Told],
+    told: &[ItemLine],
 ) -> Result<(), NoMemory>
     requires few { length told.now ≤ 4000 }
     requires rows { Follows journeys.now told.now }

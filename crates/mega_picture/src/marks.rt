@@ -4,8 +4,8 @@ ghost use Rattle.std.specs.Option.{option_copied};
 ghost use Rattle.mega_picture.specs.Rows.{Follows};
 ghost use Rattle.mega_picture.specs.Marks.{word_of, side_of, arrival_of, on_lane, across, taken_mark, dropped_mark, arrival_at, mark_of};
 
+use crate::item_line::ItemLine;
 use crate::journeys::{Journeys, message_at};
-use crate::told::Told;
 use mega_transcript::Item;
 use mega_wire::Message;
 
@@ -157,7 +157,7 @@ fn dropped_mark(place: Place) -> Mark
 }
 
 /// Where the mark of a message by its number stands.
-fn arrival_at(journeys: &Journeys, told: &[Told], number: u64) -> Place
+fn arrival_at(journeys: &Journeys, told: &[ItemLine], number: u64) -> Place
     requires { Follows journeys.now told.now }
     ensures { result ≡ arrival_at told.now number }
 {
@@ -165,7 +165,7 @@ fn arrival_at(journeys: &Journeys, told: &[Told], number: u64) -> Place
 }
 
 /// The mark of an item; a message that is sent has its arrow instead.
-pub fn mark_of(journeys: &Journeys, told: &[Told], item: &Item) -> Option<Mark>
+pub fn mark_of(journeys: &Journeys, told: &[ItemLine], item: &Item) -> Option<Mark>
     requires { Follows journeys.now told.now }
     ensures { result ≡ mark_of told.now item.now }
 {

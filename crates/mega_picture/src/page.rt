@@ -6,12 +6,12 @@ use crate::arrow_names::put_arrow_names;
 use crate::arrow_texts::put_arrows;
 use crate::bands::{Band, put_bands};
 use crate::groups::Groups;
+use crate::item_line::ItemLine;
 use crate::journeys::Journeys;
 use crate::mark_texts::put_marks;
 use crate::page_notes::put_writing;
 use crate::sheet::Sheet;
 use crate::style::{SHAPES, STYLE};
-use crate::told::Told;
 use crate::validity::put_validities;
 use mega_base::{Bytes, NoMemory, NodeKind};
 use std::alloc::Global;
@@ -66,7 +66,7 @@ fn put_lane(
     out: &mut Bytes,
     sheet: Sheet,
     groups: &Groups,
-    told: &[Told],
+    told: &[ItemLine],
     index: u8,
 ) -> Result<(), NoMemory>
     requires few { length told.now ≤ 4000 }
@@ -86,7 +86,7 @@ fn put_lanes(
     out: &mut Bytes,
     sheet: Sheet,
     groups: &Groups,
-    told: &[Told],
+    told: &[ItemLine],
 ) -> Result<(), NoMemory>
     requires { length told.now ≤ 4000 }
     ensures { OnOk result (out.new ≡ out.old ++ all_bands sheet groups.now told.now) }
@@ -104,7 +104,7 @@ fn put_drawing(
     out: &mut Bytes,
     sheet: Sheet,
     groups: &Groups,
-    told: &[Told],
+    told: &[ItemLine],
 ) -> Result<(), NoMemory>
     requires { length told.now ≤ 4000 }
     ensures { OnOk result (out.new ≡ out.old ++ drawing sheet groups.now told.now) }
@@ -124,7 +124,7 @@ pub fn put_page(
     out: &mut Bytes,
     nodes: &[NodeKind],
     first: u64,
-    told: &[Told],
+    told: &[ItemLine],
 ) -> Result<(), NoMemory>
     requires { length told.now ≤ 4000 }
     ensures { OnOk result (out.new ≡ out.old ++ page nodes.now first told.now) }

@@ -2,9 +2,9 @@
 ghost use Rattle.std.specs.Prelude.{◌≡◌, ◌≤◌, ◌<◌, ◌++◌, OnOk, length, Option};
 ghost use Rattle.mega_picture.specs.Pages.{line_number, number_text, number_at, line_numbers, name_text, kind_text, name_at, lane_names, names_at, all_names, is_of_client, has_clients, clients, group_text, groups_from, writing};
 
+use crate::item_line::ItemLine;
 use crate::kinds::node_word;
 use crate::sheet::{NAMED, Sheet, step};
-use crate::told::Told;
 use mega_base::{Bytes, NoMemory, NodeKind};
 use mega_transcript::Item;
 use std::alloc::Global;
@@ -166,7 +166,7 @@ fn is_of_client(item: &Item) -> bool
 
 /// Whether some message comes from a client or goes to one.
 #[tactic(auto, using(crate::proofs::Paging::client_on, crate::proofs::Paging::client_here, crate::proofs::Paging::client_none))]
-fn has_clients(told: &[Told]) -> bool
+fn has_clients(told: &[ItemLine]) -> bool
     ensures { result ≡ has_clients told.now }
 {
     for one in told {
@@ -179,7 +179,7 @@ fn has_clients(told: &[Told]) -> bool
 
 /// Writes the name of the lane of clients, where some message is of one.
 #[tactic(auto, unfolding(crate::specs::Pages::clients))]
-fn put_clients(out: &mut Bytes, told: &[Told]) -> Result<(), NoMemory>
+fn put_clients(out: &mut Bytes, told: &[ItemLine]) -> Result<(), NoMemory>
     ensures { OnOk result (out.new ≡ out.old ++ clients told.now) }
 {
     if has_clients(told) {
@@ -227,7 +227,7 @@ pub fn put_writing(
     keys: &[Bytes],
     nodes: &[NodeKind],
     first: u64,
-    told: &[Told],
+    told: &[ItemLine],
 ) -> Result<(), NoMemory>
     requires { length keys.now ≤ 4000 }
     ensures { OnOk result (out.new ≡ out.old ++ writing sheet keys.now nodes.now first told.now) }

@@ -6,8 +6,8 @@ ghost use Rattle.mega_picture.specs.Ends.{end_at};
 use crate::bands::{Band, Turn, turn_of};
 use crate::escape::put_fitted;
 use crate::groups::Groups;
+use crate::item_line::ItemLine;
 use crate::sheet::{Sheet, step};
-use crate::told::Told;
 use mega_base::{Bytes, NoMemory};
 use mega_transcript::Item;
 use std::alloc::Global;
@@ -236,7 +236,7 @@ pub fn put_validities(
     sheet: Sheet,
     groups: &Groups,
     node: u8,
-    told: &[Told],
+    told: &[ItemLine],
 ) -> Result<(), NoMemory>
     requires { length told.now ≤ 4000 }
     ensures { OnOk result (out.new ≡ out.old ++ validity_texts sheet groups.now node told.now) }

@@ -8,8 +8,8 @@ use Rattle.mega_voter.specs.Used.{LogUsed}
 use Rattle.mega_wal.specs.declared.answers.LogFault.{LogFault}
 use Rattle.mega_wal.specs.declared.answers.LogFault.TheVariants as log
 use Rattle.mega_replica.specs.Used.{StoreUsed}
-use Rattle.mega_durable.specs.of_core.of_taking.declared.fault.StepFault.{StepFault}
-use Rattle.mega_durable.specs.of_core.of_taking.declared.fault.StepFault.TheVariants as fault
+use Rattle.mega_durable.specs.of_core.of_node_events.declared.fault.StepFault.{StepFault}
+use Rattle.mega_durable.specs.of_core.of_node_events.declared.fault.StepFault.TheVariants as fault
 use Rattle.mega_durable.specs.of_core.Faults.{of_store}
 use Rattle.mega_cluster.specs.declared.cluster.Cluster.{Cluster}
 use Rattle.mega_handler.specs.Named.{Meanings}

@@ -10,7 +10,7 @@ use Rattle.mega_rules.specs.Met.{Met, Crashes}
 use Rattle.mega_rules.specs.Operations.{Node as RuleNode}
 use Rattle.mega_rules.specs.Steps.{Begin, Event, Step as RuleStep, Take, Tick, crashed, onto, step}
 use Rattle.mega_node_laws.specs.Acted.{own_item}
-use Rattle.mega_durable.specs.of_core.of_stepping.declared.step.Step.{Step}
+use Rattle.mega_durable.specs.of_core.of_step_parts.declared.step.Step.{Step}
 use Rattle.mega_durable.specs.declared.cut.Cut.{Cut}
 use Rattle.mega_durable.specs.Replying.{owed_by}
 use Rattle.mega_promises.specs.Runs.{Standing, after_append, appends, is_burning, is_kept, left_by, met_in, owes, replies_in, set_at, setting, whole_step}

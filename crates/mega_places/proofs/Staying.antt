@@ -10,7 +10,7 @@ use Rattle.mega_coordinator.specs.declared.answers.Counted.{Counted}
 use Rattle.mega_coordinator.specs.declared.answers.Counted.TheVariants.{No, Yes, Serving}
 use Rattle.mega_coordinator.specs.declared.answers.NotValid.{NotValid}
 use Rattle.mega_locks.specs.declared.asked.Asked.{Asked}
-use Rattle.mega_locks.specs.declared.asked.Asked.TheVariants.{Granted as GrantedAnswer, Renewed, Taken, Over}
+use Rattle.mega_locks.specs.declared.asked.Asked.TheVariants.{Granted as GrantedAnswer, Renewed, GreaterHeld, Over}
 use Rattle.mega_wire.specs.declared.message.Message.{Message}
 use Rattle.mega_wire.specs.declared.message.Body.{Body}
 use Rattle.mega_wire.specs.declared.message.Body.TheVariants.{Where, Top, Accept, Accepted, Refused, Prepare, Promise, Invalidate, Invalidated, Dead, Held, Unheld, Decide, Fetch, Have, HaveNot, Acquire, Granted, Past, Request as Requested, Reply}
@@ -112,7 +112,7 @@ if_steady false notes steady = All-nil IsSteady
 grant_steady : (node : ℕ) (epoch : Epoch) (asked : Asked) → All IsSteady (grant_note node epoch asked)
 grant_steady node epoch GrantedAnswer = All-cons IsSteady (Grants node epoch) [] refl (All-nil IsSteady)
 grant_steady node epoch Renewed = All-nil IsSteady
-grant_steady node epoch (Taken greatest) = All-nil IsSteady
+grant_steady node epoch (GreaterHeld greatest) = All-nil IsSteady
 grant_steady node epoch (Over greatest) = All-nil IsSteady
 
 first_count_steady : (cell : ℕ) (epoch : Epoch) (was_counted : Bool) → All IsSteady (cond was_counted [] (Counts cell epoch ∷ []))

@@ -8,15 +8,15 @@ use Rattle.mega_disk.specs.Fuse.{Unset, after_append as less, is_short, keeps_re
 use Rattle.mega_disk.specs.MemDisk.{fuse_of, image_of}
 use Rattle.mega_rows.specs.declared.rows.VersionedRows.{VersionedRows}
 use Rattle.mega_handler.specs.Named.{Meaning, Meanings}
-use Rattle.mega_durable.specs.of_actions.of_proposing.Settings.{setting as at_node}
+use Rattle.mega_durable.specs.of_actions.of_step_work.Settings.{setting as at_node}
 use Rattle.mega_leases.specs.Opening.{AreOwed}
 use Rattle.mega_rules.specs.Met.{Crashes}
 use Rattle.mega_rules.specs.Operations.{Node as RuleNode, Setting}
 use Rattle.mega_rules.specs.Steps.{Event, step}
 use Rattle.mega_node_laws.specs.Acted.{own_item}
 use Rattle.mega_durable.specs.of_core.declared.node.Node.{Node}
-use Rattle.mega_durable.specs.of_core.of_stepping.declared.step.Step.{Step}
-use Rattle.mega_durable.specs.of_core.of_stepping.Notes.{met_of}
+use Rattle.mega_durable.specs.of_core.of_step_parts.declared.step.Step.{Step}
+use Rattle.mega_durable.specs.of_core.of_step_parts.Notes.{met_of}
 use Rattle.mega_durable.specs.declared.cut.Cut.{Cut}
 use Rattle.mega_durable.specs.Cut.{HoldsCut}
 use Rattle.mega_durable.specs.Replying.{owed_by}

@@ -1,7 +1,7 @@
 -- The fault of a world where a node of it did not step.
 use Rattle.std.specs.Prelude.{Bool, true, false, Option, Some, None}
-use Rattle.mega_durable.specs.of_core.of_taking.declared.fault.StepFault.{StepFault}
-use Rattle.mega_durable.specs.of_core.of_taking.declared.fault.StepFault.TheVariants as step
+use Rattle.mega_durable.specs.of_core.of_node_events.declared.fault.StepFault.{StepFault}
+use Rattle.mega_durable.specs.of_core.of_node_events.declared.fault.StepFault.TheVariants as step
 use Rattle.mega_wal.specs.declared.answers.LogFault.{LogFault}
 use Rattle.mega_wal.specs.declared.answers.LogFault.TheVariants as log
 use Rattle.mega_places.specs.declared.fault.WorldFault.{WorldFault}

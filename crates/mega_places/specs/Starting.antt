@@ -9,7 +9,7 @@ use Rattle.mega_leases.specs.Opening.{AreOwed}
 use Rattle.mega_rules.specs.Met.{Met, Starts}
 use Rattle.mega_rules.specs.Steps.{onto, start, start_notes}
 use Rattle.mega_voter.specs.Holding.{HoldsMet}
-use Rattle.mega_durable.specs.of_core.of_stepping.Notes.{met_of}
+use Rattle.mega_durable.specs.of_core.of_step_parts.Notes.{met_of}
 use Rattle.mega_promises.specs.Runs.{Fuse, after_append, is_burning, is_kept, left_by, setting}
 use Rattle.mega_durable.specs.declared.cut.Cut.{Cut}
 use Rattle.mega_durable.specs.declared.down.Down.{Down as DownNode}

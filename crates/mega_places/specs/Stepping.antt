@@ -10,10 +10,10 @@ use Rattle.mega_node_laws.specs.Acted.{own_item}
 use Rattle.mega_rules.specs.Met.{Crashes}
 use Rattle.mega_rules.specs.Operations.{Node as RuleNode}
 use Rattle.mega_leases.specs.Taking.{IsByStranger, IsLate}
-use Rattle.mega_durable.specs.of_actions.of_proposing.Servable.{is_served}
+use Rattle.mega_durable.specs.of_actions.of_step_work.Servable.{is_served}
 use Rattle.mega_rules.specs.Steps.{Begin, Event, Step as RuleStep, Take, Tick, step}
-use Rattle.mega_durable.specs.of_core.of_stepping.declared.step.Step.{Step}
-use Rattle.mega_durable.specs.of_core.of_stepping.Notes.{met_of}
+use Rattle.mega_durable.specs.of_core.of_step_parts.declared.step.Step.{Step}
+use Rattle.mega_durable.specs.of_core.of_step_parts.Notes.{met_of}
 use Rattle.mega_durable.specs.declared.cut.Cut.{Cut}
 use Rattle.mega_durable.specs.Cut.{HoldsCut}
 use Rattle.mega_durable.specs.Replying.{owed_by}

@@ -3,7 +3,7 @@ ghost use Rattle.std.specs.Prelude.{◌≡◌, ◌≢◌, ◌⊎◌, ◌+◌, �
 ghost use Rattle.mega_cluster.specs.declared.cluster.Cluster.{Cluster};
 ghost use Rattle.mega_rules.specs.Clock.{clock_of};
 ghost use Rattle.mega_rules.specs.Operations.{Node as RuleNode};
-ghost use Rattle.mega_durable.specs.of_core.of_stepping.Events.{event_of};
+ghost use Rattle.mega_durable.specs.of_core.of_step_parts.Events.{event_of};
 ghost use Rattle.mega_promises.specs.Runs.{Fuse, after_append, new_fuse};
 ghost use Rattle.mega_places.specs.declared.fault.WorldFault.TheVariants.{Limit, Refused};
 ghost use Rattle.mega_places.specs.declared.not_made.NotMade.TheVariants.{Fault};
@@ -15,7 +15,7 @@ use crate::fault::{fault_of, log_fault_of};
 use crate::log_fuse::{LogFuse, after_append};
 use crate::not_made::NotMade;
 use mega_disk::MemRecords;
-use mega_durable::mega_core::mega_stepping::{Event, Step};
+use mega_durable::mega_core::mega_step_parts::{Event, Step};
 use mega_durable::{Up, UpFault};
 use mega_meanings::QueueHandlers;
 use mega_rows::VersionedRows;

@@ -18,7 +18,7 @@ use crate::remains::Remains;
 use mega_base::{Items, NoMemory};
 use mega_cluster::Cluster;
 use mega_disk::MemRecords;
-use mega_durable::mega_core::mega_stepping::Note;
+use mega_durable::mega_core::mega_step_parts::Note;
 use mega_durable::{Cut, Down, NotStarted, Started, Up};
 use mega_rows::VersionedRows;
 use mega_verdicts::CutAt;

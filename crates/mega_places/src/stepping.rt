@@ -3,7 +3,7 @@ ghost use Rattle.std.specs.Prelude.{◌≡◌, ◌≢◌, ◌⊎◌, ◌≤◌, 
 ghost use Rattle.mega_cluster.specs.declared.cluster.Cluster.{Cluster};
 ghost use Rattle.mega_handler.specs.Named.{Meanings};
 ghost use Rattle.mega_rules.specs.Steps.{Begin, Event as RuleEvent, op_of};
-ghost use Rattle.mega_durable.specs.of_core.of_stepping.Events.{event_of};
+ghost use Rattle.mega_durable.specs.of_core.of_step_parts.Events.{event_of};
 ghost use Rattle.mega_rules.specs.Clock.{is_up};
 ghost use Rattle.mega_promises.specs.Runs.{Standing, setting};
 ghost use Rattle.mega_places.specs.declared.fault.WorldFault.{WorldFault as FaultValue};
@@ -21,7 +21,7 @@ use crate::not_made::NotMade;
 use crate::place::Place;
 use crate::places::cut_down;
 use mega_base::{OpId, Text};
-use mega_durable::mega_core::mega_stepping::{Event, Step};
+use mega_durable::mega_core::mega_step_parts::{Event, Step};
 use mega_meanings::QueueHandlers;
 use mega_outcome::Request;
 use std::alloc::Global;

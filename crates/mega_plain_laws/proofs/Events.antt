@@ -23,19 +23,19 @@ use Rattle.mega_format_laws.specs.Histories.{IsCluster}
 use Rattle.mega_format_laws.specs.Requests.{AreHandlers}
 use Rattle.mega_format_laws.specs.Rounds.{Each}
 use Rattle.mega_plain_laws.specs.Formed.{AreFormed, IsAsked, IsSpelled}
-use Rattle.mega_held.specs.Held.{HoldsItem}
+use Rattle.mega_field_ranges.specs.Held.{HoldsItem}
 use Rattle.mega_plain_laws.proofs.Showing.{message_formed}
 use Rattle.mega_plain_laws.proofs.Forming.{Formed, at_back, at_formed, crash_reached, start_reached}
 
 -- of the format, where its tape is held
-abbrev pub Reached : Cluster → Standing → Type 0
-Reached c now = Each HoldsItem now.tape → Formed c now
+abbrev pub FormedIfHeld : Cluster → Standing → Type 0
+FormedIfHeld c now = Each HoldsItem now.tape → Formed c now
 
-marked_reached : (c : Cluster) (now : Standing) (item : Item) → IsSpelled c.schema item → Reached c now → Reached c (marked now item)
+marked_reached : (c : Cluster) (now : Standing) (item : Item) → IsSpelled c.schema item → FormedIfHeld c now → FormedIfHeld c (marked now item)
 marked_reached c now item is reached held = let f = reached held.1 in record { nodes = f.nodes; marks = f.marks; owed = f.owed; members = f.members; items = (is, f.items) }
 
 -- a delivery to a node that is up
-handed_reached : (c : Cluster) (h : Meanings) (cuts : Cuts) (now : Standing) (j : ℕ) (o : Option Message) → IsCluster c → AreHandlers h → message_of now.tape j ≡ o → receiver_up (up now) o ≡ true → Reached c now → Reached c (handed c h cuts now j o)
+handed_reached : (c : Cluster) (h : Meanings) (cuts : Cuts) (now : Standing) (j : ℕ) (o : Option Message) → IsCluster c → AreHandlers h → message_of now.tape j ≡ o → receiver_up (up now) o ≡ true → FormedIfHeld c now → FormedIfHeld c (handed c h cuts now j o)
 handed_reached c h cuts now j None cluster handlers is receives reached = reached
 handed_reached c h cuts now j (Some m) cluster handlers is receives reached = λ held.
     let f = reached (at_back HoldsItem c h now m.to (Taken j ∷ []) (Take m) (cuts now m.to) held) in
@@ -52,21 +52,21 @@ found test (x ∷ xs) j h = go (test x) refl h (found test xs j)
     go true e k again = subst (λ y. test y ≡ true) (some_same x j k) e
     go false e k again = again k
 
-deliverable_reached : (c : Cluster) (h : Meanings) (cuts : Cuts) (now : Standing) (j : ℕ) → IsCluster c → AreHandlers h → next_delivery (up now) now.tape ≡ Some j → Reached c now → Reached c (delivered c h cuts now j)
+deliverable_reached : (c : Cluster) (h : Meanings) (cuts : Cuts) (now : Standing) (j : ℕ) → IsCluster c → AreHandlers h → next_delivery (up now) now.tape ≡ Some j → FormedIfHeld c now → FormedIfHeld c (delivered c h cuts now j)
 deliverable_reached c h cuts now j cluster handlers e reached =
     handed_reached c h cuts now j (message_of now.tape j) cluster handlers refl
     (and_parts (not (is_taken now.tape j) && not (is_dropped now.tape j)) (receiver_up (up now) (message_of now.tape j)) (found (is_deliverable (up now) now.tape) _ j e)).1 reached
 
-drained_reached : (c : Cluster) (h : Meanings) (cuts : Cuts) (most : ℕ) (now : Standing) → IsCluster c → AreHandlers h → Reached c now → Reached c (drained c h cuts now most)
+drained_reached : (c : Cluster) (h : Meanings) (cuts : Cuts) (most : ℕ) (now : Standing) → IsCluster c → AreHandlers h → FormedIfHeld c now → FormedIfHeld c (drained c h cuts now most)
 drained_reached c h cuts zero now cluster handlers reached = go (next_delivery (up now) now.tape)
   where
-    go : (o : Option ℕ) → Reached c (unless_none now (λ j. marked now CutItem) o)
+    go : (o : Option ℕ) → FormedIfHeld c (unless_none now (λ j. marked now CutItem) o)
     go None = reached
     go (Some j) = marked_reached c now CutItem tt reached
 drained_reached c h cuts (suc most) now cluster handlers reached = go (next_delivery (up now) now.tape) refl (λ j. drained_reached c h cuts most (delivered c h cuts now j) cluster handlers)
   where
-    go : (o : Option ℕ) → next_delivery (up now) now.tape ≡ o → ((j : ℕ) → Reached c (delivered c h cuts now j) → Reached c (drained c h cuts (delivered c h cuts now j) most))
-        → Reached c (unless_none now (λ j. drained c h cuts (delivered c h cuts now j) most) o)
+    go : (o : Option ℕ) → next_delivery (up now) now.tape ≡ o → ((j : ℕ) → FormedIfHeld c (delivered c h cuts now j) → FormedIfHeld c (drained c h cuts (delivered c h cuts now j) most))
+        → FormedIfHeld c (unless_none now (λ j. drained c h cuts (delivered c h cuts now j) most) o)
     go None e more = reached
     go (Some j) e more = more j (deliverable_reached c h cuts now j cluster handlers e reached)
 
@@ -74,11 +74,11 @@ not_because : (t : Bool) (why : ℕ) (other : Option ℕ) → because t why othe
 not_because true why other h = cc
 not_because false why other h = (refl, h)
 
-delivered_reached : (c : Cluster) (h : Meanings) (cuts : Cuts) (now : Standing) (j : ℕ) (o : Option Message) → IsCluster c → AreHandlers h → message_of now.tape j ≡ o → receiver_down now o ≡ false → Reached c now → Reached c (handed c h cuts now j o)
+delivered_reached : (c : Cluster) (h : Meanings) (cuts : Cuts) (now : Standing) (j : ℕ) (o : Option Message) → IsCluster c → AreHandlers h → message_of now.tape j ≡ o → receiver_down now o ≡ false → FormedIfHeld c now → FormedIfHeld c (handed c h cuts now j o)
 delivered_reached c h cuts now j None cluster handlers is r reached = reached
 delivered_reached c h cuts now j (Some m) cluster handlers is r reached = handed_reached c h cuts now j (Some m) cluster handlers is (not-false (up now m.to) r) reached
 
-event_reached : (c : Cluster) (h : Meanings) (cuts : Cuts) (now : Standing) (event : WorldEvent) → IsCluster c → AreHandlers h → IsAsked event → refusal c now event ≡ None → Reached c now → Reached c (after_event c h cuts now event)
+event_reached : (c : Cluster) (h : Meanings) (cuts : Cuts) (now : Standing) (event : WorldEvent) → IsCluster c → AreHandlers h → IsAsked event → refusal c now event ≡ None → FormedIfHeld c now → FormedIfHeld c (after_event c h cuts now event)
 event_reached c h cuts now (TickEvent node clock) cluster handlers asked r reached = λ held.
     let first = not_because (not (is_node c node.0)) 6 _ r in
     at_formed c h now node.0 (shown node.0 (Ticks clock)) (Tick clock) (cuts now node.0) cluster handlers (reached (at_back HoldsItem c h now node.0 (shown node.0 (Ticks clock)) (Tick clock) (cuts now node.0) held)) (not-false (is_node c node.0) first.0) asked (tt, tt)
@@ -98,16 +98,16 @@ event_reached c h cuts now (BeginEvent node request text) cluster handlers asked
     at_formed c h now node.0 (shown node.0 (Begins (op_of (setting c h node.0) (now.node node.0).met) text)) (Begin request text) (cuts now node.0) cluster handlers
     (reached (at_back HoldsItem c h now node.0 (shown node.0 (Begins (op_of (setting c h node.0) (now.node node.0).met) text)) (Begin request text) (cuts now node.0) held)) (not-false (is_node c node.0) first.0) asked.0 (asked.1, tt)
 
-events_reached : (c : Cluster) (cuts : Cuts) (events : List Happening) (now : Standing) → IsCluster c → AreFormed events → Reached c now → Reached c (goes_on c cuts now events)
+events_reached : (c : Cluster) (cuts : Cuts) (events : List Happening) (now : Standing) → IsCluster c → AreFormed events → FormedIfHeld c now → FormedIfHeld c (goes_on c cuts now events)
 events_reached c cuts [] now cluster formed reached = reached
 events_reached c cuts (one ∷ events) now cluster formed reached =
     events_reached c cuts events (unless_refused now (after_event c one.handlers cuts now one.event) (refusal c now one.event)) cluster formed.1 (go (refusal c now one.event) refl)
   where
-    go : (o : Option ℕ) → refusal c now one.event ≡ o → Reached c (unless_refused now (after_event c one.handlers cuts now one.event) o)
+    go : (o : Option ℕ) → refusal c now one.event ≡ o → FormedIfHeld c (unless_refused now (after_event c one.handlers cuts now one.event) o)
     go None r = event_reached c one.handlers cuts now one.event cluster (formed.0).handlers (formed.0).asked r reached
     go (Some why) r = reached
 
-nothing_reached : (c : Cluster) → Reached c nothing_yet
+nothing_reached : (c : Cluster) → FormedIfHeld c nothing_yet
 nothing_reached c held = record {
   nodes = λ me. record { met = tt; open_operations = tt };
   marks = λ me. refl;
@@ -116,7 +116,7 @@ nothing_reached c held = record {
   items = tt;
 }
 
-opened_reached : (c : Cluster) (h : Meanings) (those : List ℕ) (now : Standing) → Each (λ me. is_node c me ≡ true) those → Reached c now → Reached c (fold (λ now me. fated_start c h now me Whole) now those)
+opened_reached : (c : Cluster) (h : Meanings) (those : List ℕ) (now : Standing) → Each (λ me. is_node c me ≡ true) those → FormedIfHeld c now → FormedIfHeld c (fold (λ now me. fated_start c h now me Whole) now those)
 opened_reached c h [] now members reached = reached
 opened_reached c h (me ∷ those) now members reached = opened_reached c h those (fated_start c h now me Whole) members.1 (start_reached c h now me Whole members.0 reached)
 
@@ -127,7 +127,7 @@ each_member : (c : Cluster) (a n : ℕ) → 1 ≤ a → a + n ≤ length c.nodes
 each_member c a zero low high = tt
 each_member c a (suc n) low high = (both_le a (length c.nodes) low (omega (arith, high)), each_member c (a + 1) n (omega (arith, low)) (omega (arith, high)))
 
-pub run_reached : (c : Cluster) (first : Meanings) (events : List Happening) (cuts : Cuts) → IsCluster c → AreFormed events → Reached c (goes_on c cuts (opening c first) events)
+pub run_reached : (c : Cluster) (first : Meanings) (events : List Happening) (cuts : Cuts) → IsCluster c → AreFormed events → FormedIfHeld c (goes_on c cuts (opening c first) events)
 run_reached c first events cuts cluster formed =
     events_reached c cuts events (opening c first) cluster formed
     (opened_reached c first (nodes c) nothing_yet (each_member c 1 (length c.nodes) (omega arith) (omega arith)) (nothing_reached c))

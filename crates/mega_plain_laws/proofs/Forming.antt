@@ -30,7 +30,7 @@ use Rattle.mega_format_laws.proofs.Replies.{reply_formed}
 use Rattle.mega_format_laws.proofs.Steps.{crash_formed, started}
 use Rattle.mega_format_laws.proofs.Whole.{whole_step as step_formed}
 use Rattle.mega_plain_laws.specs.Formed.{IsSpelled}
-use Rattle.mega_held.specs.Held.{HoldsItem}
+use Rattle.mega_field_ranges.specs.Held.{HoldsItem}
 use Rattle.mega_plain_laws.proofs.Showing.{IsNote, IsSaid, each_pair, notes_spelled, sends_spelled, with_back, with_each, with_first}
 use Rattle.mega_plain_laws.proofs.Noting.{starts_formed, starts_still}
 use Rattle.mega_plain_laws.proofs.Marking.{marks_onto}

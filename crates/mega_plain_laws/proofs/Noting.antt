@@ -7,7 +7,7 @@ use Rattle.mega_coordinator.specs.declared.answers.Counted.{Counted}
 use Rattle.mega_coordinator.specs.declared.answers.Counted.TheVariants.{No, Yes, Serving}
 use Rattle.mega_coordinator.specs.History.{epoch_after}
 use Rattle.mega_locks.specs.declared.asked.Asked.{Asked}
-use Rattle.mega_locks.specs.declared.asked.Asked.TheVariants.{Granted as AnswerGranted, Renewed, Taken as AnswerTaken, Over}
+use Rattle.mega_locks.specs.declared.asked.Asked.TheVariants.{Granted as AnswerGranted, Renewed, GreaterHeld, Over}
 use Rattle.mega_locks.specs.History.{lapse_for, nodes as lock_nodes}
 use Rattle.mega_wire.specs.declared.message.Body.{Body}
 use Rattle.mega_wire.specs.declared.message.Body.TheVariants.{Acquire, Granted, Invalidate}
@@ -45,7 +45,7 @@ each_one f h (x ∷ xs) = (h x, each_one f h xs)
 grant_still : (node : ℕ) (epoch : Epoch) (a : Asked) → Each IsStill (grant_note node epoch a)
 grant_still node epoch AnswerGranted = (tt, tt)
 grant_still node epoch Renewed = tt
-grant_still node epoch (AnswerTaken greatest) = tt
+grant_still node epoch (GreaterHeld greatest) = tt
 grant_still node epoch (Over greatest) = tt
 
 counts_still : (cell : ℕ) (epoch : Epoch) (was : Bool) (counted : Counted) → Each IsStill (counts_notes cell epoch was counted)

@@ -38,7 +38,7 @@ use Rattle.mega_format_laws.specs.Histories.{IsCluster}
 use Rattle.mega_format_laws.proofs.Each.{all_of_each, each_of_all}
 use Rattle.mega_plain_laws.specs.Answers.{AreOfKinds, AreRefused, IsFit, IsFound, IsFoundIn, IsNamed, IsWord, shows_rows}
 use Rattle.mega_plain_laws.specs.Formed.{AreFormed, IsSpelled, is_of_rows}
-use Rattle.mega_held.specs.Held.{HoldsAnswer, HoldsCell, HoldsFound, HoldsItem, HoldsResult, HoldsTurn}
+use Rattle.mega_field_ranges.specs.Held.{HoldsAnswer, HoldsCell, HoldsFound, HoldsItem, HoldsResult, HoldsTurn}
 use Rattle.mega_plain_laws.proofs.Showing.{each_stands}
 use Rattle.mega_plain_laws.proofs.Events.{run_spelled}
 

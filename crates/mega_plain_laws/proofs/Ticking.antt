@@ -27,7 +27,7 @@ use Rattle.mega_format_laws.specs.Rounds.{Each}
 use Rattle.mega_format_laws.proofs.Each.{all_of_each}
 use Rattle.mega_plain_laws.specs.Answers.{IsNamed}
 use Rattle.mega_plain_laws.specs.Formed.{AreFormed}
-use Rattle.mega_held.specs.Held.{HoldsItem}
+use Rattle.mega_field_ranges.specs.Held.{HoldsItem}
 
 pub formed : IsCluster cluster
 formed = record { nodes = omega arith; cells = omega arith; limit = omega arith }

@@ -1,3 +1,3 @@
 pub mod Answers
 pub mod Formed
-pub use Rattle.mega_held.specs as of_held
+pub use Rattle.mega_field_ranges.specs as of_field_ranges

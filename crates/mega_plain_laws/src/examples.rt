@@ -7,7 +7,7 @@ ghost use Rattle.mega_promises.specs.Worked.{happens, tick};
 ghost use Rattle.mega_format_laws.specs.Histories.{IsCluster};
 ghost use Rattle.mega_plain_laws.specs.Answers.{IsNamed};
 ghost use Rattle.mega_plain_laws.specs.Formed.{AreFormed};
-ghost use Rattle.mega_held.specs.Held.{HoldsItem};
+ghost use Rattle.mega_field_ranges.specs.Held.{HoldsItem};
 
 /// Three nodes that start, and a tick at which node 1 asks the cells, meet the premises of the laws.
 pub fn a_tick_meets_the_premises()

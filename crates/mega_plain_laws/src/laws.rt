@@ -10,7 +10,7 @@ ghost use Rattle.mega_promises.specs.Runs.{Happening, IsRun};
 ghost use Rattle.mega_format_laws.specs.Histories.{IsCluster};
 ghost use Rattle.mega_plain_laws.specs.Answers.{IsNamed};
 ghost use Rattle.mega_plain_laws.specs.Formed.{AreFormed, IsSpelled, is_of_rows};
-ghost use Rattle.mega_held.specs.Held.{HoldsItem};
+ghost use Rattle.mega_field_ranges.specs.Held.{HoldsItem};
 
 /// In every run of a cluster of the format, with events of the format, what an item shows is of the format: its message, its entry, the text with
 /// which an operation begins, and its answer, where that shows no rows of a read. Messages may be lost, repeated or taken in any order, and

@@ -151,9 +151,7 @@ IsCause c h before op request (Conflict n other) =
 IsCause c h before op request (Turned turn) = IsTurned c before op request turn
 IsCause c h before op request (AllTurned results) = AreTurned c before request results
 IsCause c h before op (ReadRequested request) (ReadAnswer p rows) = ShowsRead c before op request request.mode (ReadAnswer p rows)
-IsCause c h before op request (ReadAnswer p rows) = ⊥
 IsCause c h before op (Find request) (FoundAnswer marks found) = ShowsFind c before op request request.group (FoundAnswer marks found)
-IsCause c h before op request (FoundAnswer marks found) = ⊥
 IsCause c h before op request (Refreshed marks) = (request ≡ Refresh) × ((group : GroupId) → marked_at marks group ≡ applied_on before op.node group)
 IsCause c h before op request Unknown = IsOut c before op × HasProposed before op
 IsCause c h before op request TimedOut = IsOut c before op × (HasProposed before op → ⊥)
@@ -164,6 +162,7 @@ IsCause c h before op request Worn = last_number ≤ begun_on before op.node
 IsCause c h before op request (NotHere kind) = missing_kind request (kind_of c op.node.0) ≡ Some kind
 IsCause c h before op request (NothingToDo marks) = HasNothing before op request marks
 IsCause c h before op request (NoHandler queue) = (request ≡ PumpHandle) × (has h queue ≡ false)
+IsCause c h before op request _ = ⊥
 
 pub record HasCause (c : Cluster) (meaning : List ℕ → Option Request) (h : Meanings) (before : List Item) (op : OpId) (answer : Answer) : Type 0 where
   pub request : Request

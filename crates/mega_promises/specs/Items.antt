@@ -4,7 +4,7 @@ use Rattle.mega_base.specs.declared.names.NodeId.{NodeId}
 use Rattle.mega_wire.specs.declared.message.Message.{Message}
 use Rattle.mega_transcript.specs.declared.item.Item.{Item}
 use Rattle.mega_transcript.specs.declared.item.Item.TheVariants.{Start, Unsent, Tick, Begin, Sent, Grant, Lapse, Counts as CountsItem, Forgets as ForgetsItem, Serving, Lost, Valid, Invalid, Decide, Apply, Answer, Crash}
-use Rattle.mega_rules.specs.Met.{Met, Starts, Crashes, Ticks, Begins, Takes, Sends, Unsends, Grants, Lapses, Counts, Forgets, Serves, Loses, Validates, Invalidates, Decides, Applies, Answers}
+use Rattle.mega_rules.specs.Met.{Met, Starts, Crashes, Ticks, Begins, Unsends, Grants, Lapses, Counts, Forgets, Serves, Loses, Validates, Invalidates, Decides, Applies, Answers}
 
 abbrev pub number : ℕ → NodeId
 number node = record { 0 = node }
@@ -15,8 +15,6 @@ shown me (Starts start) = Start (number me) start ∷ []
 shown me Crashes = Crash (number me) ∷ []
 shown me (Ticks now) = Tick (number me) now ∷ []
 shown me (Begins op text) = Begin op text ∷ []
-shown me (Takes message) = []
-shown me (Sends message) = []
 shown me (Unsends message) = Unsent (number me) message ∷ []
 shown me (Grants node epoch) = Grant me (number node) epoch ∷ []
 shown me (Lapses node epoch) = Lapse me (number node) epoch ∷ []
@@ -29,6 +27,7 @@ shown me (Invalidates group position) = Invalid (number me) group (record { 0 = 
 shown me (Decides group position entry) = Decide (number me) group (record { 0 = position }) entry ∷ []
 shown me (Applies group position) = Apply (number me) group (record { 0 = position }) ∷ []
 shown me (Answers op answer) = Answer op answer ∷ []
+shown me _ = []
 
 -- what is sent, numbered from the next number on
 abbrev pub numbered : ℕ → List Message → List Item

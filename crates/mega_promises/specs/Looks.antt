@@ -1,17 +1,17 @@
 -- When a step uses rows: it begins with full ones, or an operation looks at rows in it.
-use Rattle.std.specs.Prelude.{ℕ, ◌+◌, ◌&&◌, ◌||◌, Bool, true, false, not, nat_le, List, [], ◌∷◌, ◌++◌, fold, is_some}
+use Rattle.std.specs.Prelude.{ℕ, ◌+◌, ◌&&◌, ◌||◌, Bool, true, false, not, nat_le, [], ◌∷◌, ◌++◌, fold, is_some}
 use Rattle.std.specs.List.{list_any}
 use Rattle.mega_base.specs.declared.names.GroupId.{GroupId}
 use Rattle.mega_base.specs.declared.names.OpId.{OpId}
 use Rattle.mega_outcome.specs.declared.answer.Answer.{Answer}
 use Rattle.mega_outcome.specs.declared.answer.Answer.TheVariants.{AllTurned, Batched, Committed, Conflict, Found, Read as ReadAnswer, Turned}
 use Rattle.mega_outcome.specs.declared.request.Request.{Request}
-use Rattle.mega_outcome.specs.declared.request.Request.TheVariants.{Txn, Batch, Read, Find, PumpEnter, PumpHandle, Refresh}
+use Rattle.mega_outcome.specs.declared.request.Request.TheVariants.{Find, PumpEnter, Refresh}
 use Rattle.mega_wal.specs.Same.{same_op}
 use Rattle.mega_rules.specs.Met.{Met, Answers}
 use Rattle.mega_rules.specs.Logs.{groups_of}
-use Rattle.mega_rules.specs.Operations.{Node, Operation, Phase, Proposes, Reads, Setting}
-use Rattle.mega_rules.specs.Steps.{Event, Begin, Step, Take, Tick, new_operation, op_of}
+use Rattle.mega_rules.specs.Operations.{Node, Operation, Proposes, Reads, Setting}
+use Rattle.mega_rules.specs.Steps.{Event, Begin, Step, new_operation, op_of}
 
 -- rows are full, and are spilled at the beginning of a step, where 1,024 versions of them stand in memory: so many writes are stored then at least
 abbrev pub may_be_full : Node → Bool
@@ -19,13 +19,10 @@ may_be_full node = nat_le 1024 (fold (λ (sum : ℕ) (group : GroupId). sum + no
 
 -- requests that look at rows once their read is complete: a pump that enters a message looks at logs alone, and a global index is in memory
 abbrev pub is_of_rows : Request → Bool
-is_of_rows (Txn transaction) = true
-is_of_rows (Batch group transactions) = true
-is_of_rows (Read request) = true
 is_of_rows (Find request) = is_some request.group
 is_of_rows PumpEnter = false
-is_of_rows PumpHandle = true
 is_of_rows Refresh = false
+is_of_rows _ = true
 
 -- answers that come of rows, or of an entry that was made of rows
 abbrev pub is_from_rows : Answer → Bool
@@ -39,11 +36,7 @@ is_from_rows (AllTurned results) = true
 is_from_rows _ = false
 
 abbrev pub is_reading : Operation → Bool
-is_reading o = by o.phase
-  where
-    by : Phase → Bool
-    by (Reads group r) = true
-    by (Proposes group n asked p promised) = false
+is_reading o = elim o.phase [ Reads group r ↦ true | Proposes group n asked p promised ↦ false ]
 
 -- a step answers an operation from rows, or lets it propose
 abbrev pub answers_from_rows : OpId → Met → Bool
@@ -58,10 +51,6 @@ abbrev pub looks : Step → Operation → Bool
 looks made o =
     (is_reading o && is_of_rows o.request) && (list_any (answers_from_rows o.id) made.notes || list_any (is_proposing o.id) made.node.open_operations)
 
-abbrev pub begun_by : Setting → Node → Event → List Operation
-begun_by s node (Begin request text) = new_operation (op_of s node.met) request 0 ∷ []
-begun_by s node (Take message) = []
-begun_by s node (Tick now) = []
-
 abbrev pub looks_at_rows : Setting → Node → Event → Step → Bool
-looks_at_rows s node event made = list_any (looks made) (node.open_operations ++ begun_by s node event)
+looks_at_rows s node event made = list_any (looks made) (
+    node.open_operations ++ (elim event [ Begin request text ↦ new_operation (op_of s node.met) request 0 ∷ [] | _ ↦ [] ]))

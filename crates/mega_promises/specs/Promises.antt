@@ -1,10 +1,13 @@
 -- What is promised of every run: one decided log a group, transactions as of one thread, and messages at most once.
 use Rattle.std.specs.Prelude.{◌≡◌, ◌≢◌, ℕ, zero, suc, ◌+◌, ◌-◌, ◌<◌, ◌≤◌, ◌==◌, ◌&&◌, ◌⊎◌, Contains, Bool, true, false, not, if◌then◌else◌, List, [], ◌∷◌, ◌++◌, take, length, map, find, flat_map, slice_get, IsSome, Option, Some, None, Result, Ok, Err}
 use Rattle.std.specs.List.{list_any}
+pub use Rattle.std.specs.Option.{option_or as or_else}
 use Rattle.mega_base.specs.declared.names.GroupId.{GroupId}
 use Rattle.mega_base.specs.declared.names.OpId.{OpId}
 use Rattle.mega_base.specs.declared.names.NodeId.{NodeId}
 use Rattle.mega_base.specs.declared.names.Position.{Position}
+pub use Rattle.mega_base.specs.ListWords.{then_more}
+pub use Rattle.mega_base.specs.ListWords.{Stands}
 use Rattle.mega_cluster.specs.declared.cluster.Cluster.{Cluster}
 use Rattle.mega_schema.specs.declared.schema.Schema.{Schema}
 use Rattle.mega_entry.specs.declared.content.Content.{Content}
@@ -18,7 +21,7 @@ use Rattle.mega_ballot.specs.Order.{zero_ballot}
 use Rattle.mega_wire.specs.declared.message.Body.{Body}
 use Rattle.mega_wire.specs.declared.message.Body.TheVariants.{Accept, Where}
 use Rattle.mega_outcome.specs.declared.answer.Answer.{Answer}
-use Rattle.mega_outcome.specs.declared.answer.Answer.TheVariants.{Committed, Conflict, Turned, Unknown, TimedOut, Read as ReadAnswer, Found as FoundAnswer, Refreshed, LogFull, Busy, Worn, NotHere, NothingToDo, NoHandler, Batched, AllTurned}
+use Rattle.mega_outcome.specs.declared.answer.Answer.TheVariants.{Committed, Conflict, Turned, Unknown, Read as ReadAnswer, Found as FoundAnswer, Refreshed, Batched, AllTurned}
 use Rattle.mega_outcome.specs.declared.answer.Shown.{Shown}
 use Rattle.mega_outcome.specs.declared.answer.Done.{Done}
 use Rattle.mega_outcome.specs.declared.answer.Mark.{Mark}
@@ -37,30 +40,17 @@ use Rattle.mega_rules.specs.Queues.{Log as GroupLog, Posted, entered_in, handled
 use Rattle.mega_rules.specs.Acting.{table_rows}
 use Rattle.mega_rules.specs.Steps.{is_current}
 
--- an item stands on the tape
-abbrev pub Stands : Item → List Item → Type 0
-Stands item [] = ⊥
-Stands item (other ∷ before) = (other ≡ item) ⊎ Stands item before
-
 -- it stood before another one that stands
 abbrev pub StoodBefore : Item → Item → List Item → Type 0
 StoodBefore first item [] = ⊥
 StoodBefore first item (other ∷ before) = ((other ≡ item) × Stands first before) ⊎ StoodBefore first item before
 
 -- the log of a group: the entries of the first decides of positions 1, 2 and so on, up to the first position that has none
-abbrev pub or_else : Option Content → Option Content → Option Content
-or_else None other = other
-or_else (Some entry) other = Some entry
-
 abbrev pub first_decided : List Item → GroupId → ℕ → Option Content
 first_decided [] group n = None
 first_decided (Decide node g position entry ∷ before) group n =
     or_else (first_decided before group n) (if same_group g group && position.0 == n then Some entry else None)
 first_decided (_ ∷ before) group n = first_decided before group n
-
-abbrev pub then_more : Option Content → List Content → List Content
-then_more None more = []
-then_more (Some entry) more = entry ∷ more
 
 abbrev pub log_from : List Item → GroupId → ℕ → ℕ → List Content
 log_from tape group zero n = []
@@ -76,21 +66,15 @@ Agree tape =
     → Stands (Decide i group n d) tape → Stands (Decide j group n e) tape → d ≡ e
 
 -- what an operation asked for: the meaning of the text with which it began
-abbrev pub meant : (List ℕ → Option Request) → OpId → OpId → List ℕ → Option Request → Option Request
-meant meaning op began text other = if same_op began op then meaning text else other
-
 abbrev pub asked_for : (List ℕ → Option Request) → List Item → OpId → Option Request
 asked_for meaning [] op = None
-asked_for meaning (Begin began text ∷ before) op = meant meaning op began text (asked_for meaning before op)
+asked_for meaning (Begin began text ∷ before) op = if same_op began op then meaning text else asked_for meaning before op
 asked_for meaning (_ ∷ before) op = asked_for meaning before op
 
 -- the entry is what the request comes to over the entries below it
 abbrev pub comes_to : Schema → OpId → Request → List Content → Option Content
-comes_to schema op (Txn transaction) below = by (outcome schema transaction (after below no_rows))
-  where
-    by : Result Done Turn → Option Content
-    by (Ok done) = Some (entry_of_done op done)
-    by (Err turn) = None
+comes_to schema op (Txn transaction) below =
+    elim (outcome schema transaction (after below no_rows)) [ Ok done ↦ Some (entry_of_done op done) | Err turn ↦ None ]
 comes_to schema op (BatchRequest group transactions) below = Some (entry_of_batch op (batch_outcome schema group transactions (after below no_rows)))
 comes_to schema op _ below = None
 
@@ -108,22 +92,13 @@ is_write _ = false
 
 -- an operation that was answered so is committed nowhere
 abbrev pub is_negative : Answer → Bool
-is_negative (Conflict position other) = true
-is_negative (Turned turn) = true
-is_negative TimedOut = true
-is_negative (LogFull position) = true
-is_negative (Busy count) = true
-is_negative Worn = true
-is_negative (NotHere kind) = true
-is_negative (NothingToDo marks) = true
-is_negative (NoHandler queue) = true
-is_negative (AllTurned results) = true
 is_negative (Committed position replies) = false
-is_negative Unknown = false
+is_negative (Batched position results) = false
 is_negative (ReadAnswer position rows) = false
 is_negative (FoundAnswer marks rows) = false
 is_negative (Refreshed marks) = false
-is_negative (Batched position results) = false
+is_negative Unknown = false
+is_negative _ = true
 
 -- the rows were read and written as one thread's in the order of the log
 pub record IsSerial (schema : Schema) (meaning : List ℕ → Option Request) (tape : List Item) : Type 0 where

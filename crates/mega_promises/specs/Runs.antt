@@ -1,8 +1,8 @@
 -- A run of a cluster: its tape is the opening starts, and then one piece for each event.
-use Rattle.std.specs.Prelude.{◌≡◌, ℕ, zero, suc, ◌+◌, ◌*◌, ◌/◌, ◌==◌, ◌&&◌, ◌||◌, Bool, true, false, not, if◌then◌else◌, nat_le, nat_lt, List, [], ◌∷◌, ◌++◌, map, filter, flat_map, fold, Option, Some, None, is_some}
+use Rattle.std.specs.Prelude.{◌≡◌, ℕ, zero, suc, ◌+◌, ◌*◌, ◌/◌, ◌==◌, ◌&&◌, ◌||◌, Bool, true, false, not, if◌then◌else◌, nat_le, nat_lt, List, [], ◌∷◌, ◌++◌, map, filter, flat_map, fold, Option, Some, None, is_some, option_map}
 use Rattle.std.specs.List.{list_any}
 use Rattle.mega_base.specs.declared.names.Epoch.{Epoch}
-use Rattle.mega_base.specs.declared.names.GroupId.{GroupId}
+pub use Rattle.mega_base.specs.ListWords.{is_empty}
 use Rattle.mega_cluster.specs.declared.cluster.Cluster.{Cluster}
 use Rattle.mega_disk.specs.declared.pair.Device.{Device}
 use Rattle.mega_disk.specs.declared.pair.Device.TheVariants.{Log, Data}
@@ -11,7 +11,7 @@ use Rattle.mega_wire.specs.declared.message.Message.{Message}
 use Rattle.mega_wire.specs.declared.message.Body.{Body}
 use Rattle.mega_wire.specs.declared.message.Body.TheVariants.{Accepted, Promise}
 use Rattle.mega_outcome.specs.declared.request.Request.{Request}
-use Rattle.mega_outcome.specs.declared.request.Request.TheVariants.{Txn, Batch, Read, Find, PumpEnter, PumpHandle, Refresh}
+use Rattle.mega_outcome.specs.declared.request.Request.TheVariants.{Txn, Batch, Read, Find}
 use Rattle.mega_coordinator.specs.Lease.{counted_by}
 use Rattle.mega_coordinator.specs.History.{epoch_after, lease_of}
 use Rattle.mega_coordinator.specs.Groups.{is_same}
@@ -179,16 +179,14 @@ fate_by now me cut calls = fate_of now me calls (cut calls)
 
 -- a fuse after an append
 abbrev pub after_append : Option Fuse → Option Fuse
-after_append None = None
-after_append (Some fuse) = Some (record fuse { appended = fuse.appended + 1 })
+after_append fuse = option_map (λ (fuse : Fuse). record fuse { appended = fuse.appended + 1 }) fuse
 
 abbrev pub log_fuse_after : Standing → ℕ → Bool → ℕ → Option Fuse
 log_fuse_after now me is_appending = set_at now.log_fuse me (if is_appending then after_append (now.log_fuse me) else now.log_fuse me)
 
 -- the records on the log after a step
 abbrev pub records_after : Standing → ℕ → Bool → ℕ → ℕ
-records_after now me is_appending =
-    set_at now.records me ((if compacts now me then 0 else now.records me) + (if is_appending then 1 else 0))
+records_after now me is_appending = set_at now.records me ((if compacts now me then 0 else now.records me) + (if is_appending then 1 else 0))
 
 -- and after a cut; of a start the record alone counts
 abbrev pub records_left : Standing → ℕ → Left → ℕ → ℕ
@@ -197,9 +195,8 @@ records_left now me Compacted = set_at now.records me 0
 records_left now me Recorded = records_after now me true
 
 abbrev pub is_kept : Left → Bool
-is_kept AsItWas = false
-is_kept Compacted = false
 is_kept Recorded = true
+is_kept _ = false
 
 -- a step is whole: the event's own item, its notes, and what it sends with the next numbers
 abbrev pub whole_step : Cluster → Standing → ℕ → List Item → Step → Standing
@@ -230,8 +227,7 @@ fated c now me own met made replies (CutByData left) = cut_step c now me own met
 -- the reply of a step: to the message that it takes
 abbrev pub replies_in : Cluster → ℕ → List Met → Event → List Message
 replies_in c me met (Take message) = reply_to c me met message
-replies_in c me met (Tick now) = []
-replies_in c me met (Begin request text) = []
+replies_in c me met _ = []
 
 abbrev pub met_in : Setting → List Met → Event → Met
 met_in s met (Tick now) = Ticks now
@@ -337,15 +333,6 @@ after_event c h cuts now (FuseEvent node calls image device) = fused now node.0 
 after_event c h cuts now (BeginEvent node request text) =
     at_node c h now node.0 (shown node.0 (Begins (op_of (setting c h node.0) (now.node node.0).met) text)) (Begin request text) (cuts now node.0)
 
--- a list of no bytes
-abbrev pub is_empty : List ℕ → Bool
-is_empty [] = true
-is_empty (byte ∷ bytes) = false
-
-abbrev pub names_no_group : Option GroupId → Bool
-names_no_group None = false
-names_no_group (Some group) = is_empty group.key
-
 -- why an event is refused: 6 for no such node, 3 for no such message, 4 for a dropped one, 1 at a node that is down, 2 for a start of one
 -- that is up, 5 where the clock goes back, 7 where the request names no group or index of the schema; tried in this order
 
@@ -356,10 +343,8 @@ abbrev pub names_nothing : Request → Bool
 names_nothing (Txn transaction) = is_empty (transaction.group).key
 names_nothing (Batch group transactions) = is_empty group.key
 names_nothing (Read request) = is_empty (request.group).key
-names_nothing (Find request) = request.index == 0 || names_no_group request.group
-names_nothing PumpEnter = false
-names_nothing PumpHandle = false
-names_nothing Refresh = false
+names_nothing (Find request) = request.index == 0 || (elim request.group [ None ↦ false | Some group ↦ is_empty group.key ])
+names_nothing _ = false
 
 abbrev pub receiver_down : Standing → Option Message → Bool
 receiver_down now None = false

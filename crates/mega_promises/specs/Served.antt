@@ -6,14 +6,13 @@ use Rattle.mega_cluster.specs.declared.cluster.Cluster.{Cluster}
 use Rattle.mega_schema.specs.declared.schema.Schema.{Schema}
 use Rattle.mega_handler.specs.Named.{Meanings}
 use Rattle.mega_wire.specs.declared.message.Message.{Message}
-use Rattle.mega_wire.specs.declared.message.Body.{Body}
-use Rattle.mega_wire.specs.declared.message.Body.TheVariants.{Accepted, Promise, Request as Requests}
+use Rattle.mega_wire.specs.declared.message.Body.TheVariants.{Request as Requests}
 use Rattle.mega_wire.specs.Messages.{message_at}
 use Rattle.mega_base.specs.Reading.{whole_of}
 use Rattle.mega_outcome.specs.declared.answer.Answer.{Answer}
 use Rattle.mega_outcome.specs.declared.request.Request.{Request}
 use Rattle.mega_wal.specs.declared.item.JournalItem.{JournalItem}
-use Rattle.mega_wal.specs.declared.item.JournalItem.TheVariants.{Start as Started, Promise as Promises, Accept as Accepts, Decide as Decided, Grant as Granted, Lapse as Lapsed}
+use Rattle.mega_wal.specs.declared.item.JournalItem.TheVariants.{Start as Started}
 use Rattle.mega_wal.specs.Same.{same_op}
 use Rattle.mega_wal.specs.declared.kept.Kept.{Kept}
 use Rattle.mega_wal.specs.Compaction.{compacted}
@@ -22,10 +21,11 @@ use Rattle.mega_wal.specs.Kept.{Represents}
 use Rattle.mega_transcript.specs.declared.item.Item.{Item}
 use Rattle.mega_transcript.specs.Answers.{answer_words}
 pub use Rattle.mega_transcript.specs.Recorded.{Got, Line, Noted, OfClient, OfNode, Peer, Put, joined, put_in, put_out, reply_line}
-use Rattle.mega_rules.specs.Met.{Met, Answers, Begins, Decides, Grants, Lapses, Ticks}
+use Rattle.mega_rules.specs.Met.{Met, Answers, Begins, Ticks}
 use Rattle.mega_rules.specs.Operations.{Node, Operation}
 use Rattle.mega_rules.specs.Steps.{Event, Begin, Step, Take, Tick, op_of, start, start_items, step}
-use Rattle.mega_promises.specs.Items.{number, shown}
+pub use Rattle.mega_rules.specs.Kept.{kept_of_body, kept_of_note}
+use Rattle.mega_promises.specs.Items.{shown}
 use Rattle.mega_promises.specs.NodeRuns.{met_of}
 use Rattle.mega_promises.specs.Runs.{names_nothing, setting}
 
@@ -54,17 +54,6 @@ pub record Served : Type 0 where
   pub waiting : List Waiting
 
 -- what a step appends to the journal: its grants, its lapses and its decision, and then its promise or vote
-abbrev pub kept_of_body : Body → Option JournalItem
-kept_of_body (Promise op group n ballot vote) = Some (Promises group n ballot)
-kept_of_body (Accepted op group n ballot entry) = Some (Accepts group n ballot entry)
-kept_of_body _ = None
-
-abbrev pub kept_of_note : Met → Option JournalItem
-kept_of_note (Decides group n entry) = Some (Decided group (record { 0 = n }) entry)
-kept_of_note (Grants node epoch) = Some (Granted (number node) epoch)
-kept_of_note (Lapses node epoch) = Some (Lapsed (number node) epoch)
-kept_of_note _ = None
-
 abbrev pub kept_of : Step → List JournalItem
 kept_of made = filter_map kept_of_note made.notes ++ filter_map (λ (m : Message). kept_of_body m.body) made.sends
 
@@ -83,21 +72,17 @@ answer_line schema me waiting _ = []
 abbrev pub is_open_at : Node → OpId → Bool
 is_open_at node op = list_any (λ (o : Operation). same_op o.id op) node.open_operations
 
-abbrev pub still_waiting : Node → List Waiting → List Waiting
-still_waiting node waiting = filter (λ (one : Waiting). is_open_at node one.op) waiting
-
 -- a step goes into the record: the event's own lines, its notes, what it puts to nodes, and then its replies to clients
 abbrev pub recorded : Cluster → ℕ → Served → List Line → List Waiting → Step → Served
 recorded c me now own waiting made = record {
   node = made.node;
   lines = now.lines ++ (((own ++ noted me made.notes) ++ put_out made.sends) ++ flat_map (answer_line c.schema me waiting) made.notes);
   journal = reverse (kept_of made) ++ now.journal;
-  waiting = still_waiting made.node waiting;
+  waiting = filter (λ (one : Waiting). is_open_at made.node one.op) waiting;
 }
 
 abbrev pub ticked : Cluster → ℕ → Meanings → ℕ → Served → Served
-ticked c me handlers clock now =
-    recorded c me now (noted me (Ticks clock ∷ [])) now.waiting (step (setting c handlers me) now.node (Tick clock))
+ticked c me handlers clock now = recorded c me now (noted me (Ticks clock ∷ [])) now.waiting (step (setting c handlers me) now.node (Tick clock))
 
 -- a datagram that is no message, or none of its sender to this node, is recorded and changes nothing
 abbrev pub with_lines : Served → List Line → Served
@@ -122,11 +107,8 @@ wished c me handlers now got client token (Asks request text) =
 
 abbrev pub takes_message : Cluster → ℕ → (List ℕ → Wish) → Meanings → Served → List Line → Peer → Message → Served
 takes_message c me wish handlers now got (OfNode node) m = recorded c me now got now.waiting (step (setting c handlers me) now.node (Take m))
-takes_message c me wish handlers now got (OfClient client) m = by m.body
-  where
-    by : Body → Served
-    by (Requests token json) = wished c me handlers now got client token (wish json)
-    by _ = with_lines now got
+takes_message c me wish handlers now got (OfClient client) m =
+    elim m.body [ Requests token json ↦ wished c me handlers now got client token (wish json) | _ ↦ with_lines now got ]
 
 abbrev pub given : Cluster → ℕ → (List ℕ → Wish) → Meanings → Served → List Line → Peer → Result Message ℕ → Served
 given c me wish handlers now got from (Err at) = with_lines now got
@@ -139,8 +121,7 @@ received c me wish handlers now (Some one) = given c me wish handlers now (Got o
 
 -- a turn: the tick of the reading, and then the step of the datagram
 abbrev pub turned : Cluster → ℕ → (List ℕ → Wish) → Served → Turn → Served
-turned c me wish now turn =
-    received c me wish turn.handlers (ticked c me turn.handlers turn.clock now) turn.datagram
+turned c me wish now turn = received c me wish turn.handlers (ticked c me turn.handlers turn.clock now) turn.datagram
 
 -- a start counts itself in the journal; what it finds of earlier starts stands in the journal, and in no line
 abbrev pub served_start : Cluster → ℕ → Meanings → List JournalItem → Served

@@ -103,18 +103,18 @@ compacting = crash 1 ∷ start 1 ∷ fuse_log 1 0 0 ∷ tick 1 5 ∷ []
 
 -- what is looked at of the items
 
-pub record Told : Type 0 where
+pub record OpAnswer : Type 0 where
   pub op : OpId
   pub answer : Answer
 
-abbrev pub answer_in : Item → Option Told
+abbrev pub answer_in : Item → Option OpAnswer
 answer_in (Answered op answer) = Some (record { op = op; answer = answer })
 answer_in _ = None
 
-abbrev pub answers : List Item → List Told
+abbrev pub answers : List Item → List OpAnswer
 answers items = filter_map answer_in items
 
-abbrev pub told : OpId → Answer → Told
+abbrev pub told : OpId → Answer → OpAnswer
 told op answer = record { op = op; answer = answer }
 
 abbrev pub op : ℕ → ℕ → ℕ → OpId

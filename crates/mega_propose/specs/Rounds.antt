@@ -5,6 +5,7 @@ use Rattle.std.specs.List.{list_all, list_any, range_with_len}
 use Rattle.mega_base.specs.declared.names.OpId.{OpId}
 use Rattle.mega_base.specs.declared.names.GroupId.{GroupId}
 use Rattle.mega_base.specs.declared.names.Position.{Position}
+pub use Rattle.mega_base.specs.Names.{greatest_u32 as last_round}
 use Rattle.mega_ballot.specs.declared.ballot.Ballot.{Ballot}
 use Rattle.mega_ballot.specs.Order.{zero_ballot}
 use Rattle.mega_entry.specs.declared.content.Content.{Content}
@@ -13,6 +14,7 @@ use Rattle.mega_wire.specs.declared.message.Body.{Body}
 use Rattle.mega_wire.specs.declared.message.Body.TheVariants.{Accept, Accepted, Refused, Prepare, Promise, Invalidate, Invalidated, Dead, Unheld}
 use Rattle.mega_wal.specs.Same.{same_entry, same_group, same_op}
 use Rattle.mega_wal.specs.Acceptor.{is_ballot_below}
+pub use Rattle.mega_wal.specs.Acceptor.{is_same_ballot as same_ballot}
 use Rattle.mega_propose.specs.Members.{has, is_majority, joined, others, with_node, without}
 use Rattle.mega_propose.specs.declared.round.Site.{Site}
 use Rattle.mega_propose.specs.declared.round.Report.{Report}
@@ -43,15 +45,12 @@ dead_to s node cell = message s cell (Dead s.op cell (record { 0 = node }))
 -- a round as it goes on
 
 abbrev pub move : Proposal → Round → List Message → Move
-move p round sends = record { proposal = record { own = p.own; seen = p.seen; round = round }; sends = sends }
+move p round sends = record { proposal = record p { round = round }; sends = sends }
 
 abbrev pub stays : Proposal → Move
 stays p = move p p.round []
 
 -- a new ballot, one round above all that were seen; after the last round there is none
-abbrev pub last_round : ℕ
-last_round = 4294967295
-
 abbrev pub next_ballot : Site → Proposal → Ballot
 next_ballot s p = record { round = p.seen + 1; op = s.op }
 
@@ -84,16 +83,16 @@ abbrev pub with_free : Free → List Free → List Free
 with_free free frees = if list_any (is_same_free free) frees then frees else frees ++ free ∷ []
 
 abbrev pub with_accepted : Cover → ℕ → Cover
-with_accepted cover node = record { accepted = with_node node cover.accepted; invalidated = cover.invalidated; free = cover.free; told = cover.told }
+with_accepted cover node = record cover { accepted = with_node node cover.accepted }
 
 abbrev pub with_invalidated : Cover → ℕ → Cover
-with_invalidated cover node = record { accepted = cover.accepted; invalidated = with_node node cover.invalidated; free = cover.free; told = cover.told }
+with_invalidated cover node = record cover { invalidated = with_node node cover.invalidated }
 
 abbrev pub with_cell : Cover → Free → Cover
-with_cell cover free = record { accepted = cover.accepted; invalidated = cover.invalidated; free = with_free free cover.free; told = cover.told }
+with_cell cover free = record cover { free = with_free free cover.free }
 
 abbrev pub with_told : Cover → List ℕ → Cover
-with_told cover nodes = record { accepted = cover.accepted; invalidated = cover.invalidated; free = cover.free; told = joined cover.told nodes }
+with_told cover nodes = record cover { told = joined cover.told nodes }
 
 -- a full node is covered: it accepted at this ballot, it is invalidated, or a majority of the cells holds nothing for it. The last two
 -- count only as answers to what was sent while covering this position
@@ -128,90 +127,54 @@ proposes s p ballot reports sent now =
 
 -- what an answer leads to
 
-abbrev pub same_ballot : Ballot → Ballot → Bool
-same_ballot a b = a.round == b.round && same_op a.op b.op
-
 -- the entry is the one that was sent at the present ballot
 abbrev pub is_sent : Ballot → Content → Ballot → Content → Bool
 is_sent ballot entry b e = same_ballot ballot b && same_entry entry e
 
 -- a voter accepted: the leader while it is asked, then the others
 abbrev pub accepted : Site → Proposal → ℕ → ℕ → Ballot → Content → Move
-accepted s p from now b e = by p.round
-  where
-    by : Round → Move
-    by (Asking leader sent) =
-        if from == leader && is_sent zero_ballot p.own b e
-        then move p (accepts s zero_ballot p.own (if has leader s.voters then leader ∷ [] else []) now) (map (accept_to s zero_ballot p.own) (others leader s.voters))
-        else stays p
-    by (Accepting ballot entry voted sent) =
-        if is_sent ballot entry b e && has from s.voters
-        then move p (accepts s ballot entry (with_node from voted) sent) []
-        else stays p
-    by (Covering ballot entry cover sent) =
-        if is_sent ballot entry b e && has from s.voters
-        then move p (covers s ballot entry (with_accepted cover from) sent) []
-        else stays p
-    by (Preparing ballot reports sent) = stays p
-    by (Settled entry told) = stays p
-    by Waiting = stays p
+accepted s p from now b e = elim p.round [
+  | Asking leader sent ↦
+      if from == leader && is_sent zero_ballot p.own b e
+      then move p (accepts s zero_ballot p.own (if has leader s.voters then leader ∷ [] else []) now) (map (accept_to s zero_ballot p.own) (others leader s.voters))
+      else stays p
+  | Accepting ballot entry voted sent ↦
+      if is_sent ballot entry b e && has from s.voters then move p (accepts s ballot entry (with_node from voted) sent) [] else stays p
+  | Covering ballot entry cover sent ↦
+      if is_sent ballot entry b e && has from s.voters then move p (covers s ballot entry (with_accepted cover from) sent) [] else stays p
+  | _ ↦ stays p
+]
 
 -- the leader refused: the operation prepares. Elsewhere a refusal is only remembered
 abbrev pub refused : Site → Proposal → ℕ → Move
-refused s p now = by p.round
-  where
-    by : Round → Move
-    by (Asking leader sent) = prepares s p now
-    by (Preparing ballot reports sent) = stays p
-    by (Accepting ballot entry voted sent) = stays p
-    by (Covering ballot entry cover sent) = stays p
-    by (Settled entry told) = stays p
-    by Waiting = stays p
+refused s p now = elim p.round [ Asking leader sent ↦ prepares s p now | _ ↦ stays p ]
 
 -- a voter promised: its first promise of the ballot counts
 abbrev pub promised : Site → Proposal → ℕ → ℕ → Ballot → Option (Ballot × Content) → Move
-promised s p from now b vote = by p.round
-  where
-    by : Round → Move
-    by (Preparing ballot reports sent) =
-        if same_ballot ballot b && has from s.voters && not (list_any (λ (report : Report). report.voter == from) reports)
-        then proposes s p ballot (reports ++ record { voter = from; vote = vote } ∷ []) sent now
-        else stays p
-    by (Asking leader sent) = stays p
-    by (Accepting ballot entry voted sent) = stays p
-    by (Covering ballot entry cover sent) = stays p
-    by (Settled entry told) = stays p
-    by Waiting = stays p
+promised s p from now b vote = elim p.round [
+  | Preparing ballot reports sent ↦
+      if same_ballot ballot b && has from s.voters && not (list_any (λ (report : Report). report.voter == from) reports)
+      then proposes s p ballot (reports ++ record { voter = from; vote = vote } ∷ []) sent now
+      else stays p
+  | _ ↦ stays p
+]
 
 -- a coordinator is invalidated
 abbrev pub invalidated : Site → Proposal → ℕ → Move
-invalidated s p from = by p.round
-  where
-    by : Round → Move
-    by (Covering ballot entry cover sent) =
-        if has from cover.told
-        then move p (covers s ballot entry (with_invalidated cover from) sent) []
-        else stays p
-    by (Asking leader sent) = stays p
-    by (Preparing ballot reports sent) = stays p
-    by (Accepting ballot entry voted sent) = stays p
-    by (Settled entry told) = stays p
-    by Waiting = stays p
+invalidated s p from = elim p.round [
+  | Covering ballot entry cover sent ↦ if has from cover.told then move p (covers s ballot entry (with_invalidated cover from) sent) [] else stays p
+  | _ ↦ stays p
+]
 
 -- a cell holds nothing for a node
 abbrev pub unheld : Site → Proposal → ℕ → ℕ → Move
-unheld s p cell node = by p.round
-  where
-    by : Round → Move
-    by (Covering ballot entry cover sent) =
-        if nat_le cell s.cells && has node cover.told
-        then move p (covers s ballot entry (with_cell cover (record { cell = cell; node = node })) sent) []
-        else stays p
-    by (Asking leader sent) = stays p
-    by (Preparing ballot reports sent) = stays p
-    by (Accepting ballot entry voted sent) = stays p
-    by (Settled entry told) = stays p
-    by Waiting = stays p
+unheld s p cell node = elim p.round [
+  | Covering ballot entry cover sent ↦
+      if nat_le cell s.cells && has node cover.told
+      then move p (covers s ballot entry (with_cell cover (record { cell = cell; node = node })) sent) []
+      else stays p
+  | _ ↦ stays p
+]
 
 -- the rounds that a message for this place shows are seen
 abbrev pub vote_round : Option (Ballot × Content) → ℕ
@@ -219,7 +182,7 @@ vote_round None = 0
 vote_round (Some vote) = (vote.0).round
 
 abbrev pub sees : Proposal → ℕ → Proposal
-sees p round = record { own = p.own; seen = max p.seen round; round = p.round }
+sees p round = record p { seen = max p.seen round }
 
 -- a message is for this place
 abbrev pub is_here : Site → OpId → GroupId → Position → Bool
@@ -227,8 +190,7 @@ is_here s op group position = same_op s.op op && same_group s.group group && pos
 
 -- what an operation does that takes a message from a node
 abbrev pub takes : Site → Proposal → ℕ → ℕ → Body → Move
-takes s p from now (Accepted op group position b e) =
-    if is_here s op group position then accepted s (sees p b.round) from now b e else stays p
+takes s p from now (Accepted op group position b e) = if is_here s op group position then accepted s (sees p b.round) from now b e else stays p
 takes s p from now (Refused op group position asked shown e) =
     if is_here s op group position then refused s (sees p (max asked.round shown.round)) now else stays p
 takes s p from now (Promise op group position b vote) =
@@ -256,15 +218,13 @@ tells s p ballot entry cover now =
     (presses s (uncovered s cover))
 
 abbrev pub due : Site → Proposal → ℕ → ℕ → Move
-due s p retry now = by p.round
-  where
-    by : Round → Move
-    by (Asking leader sent) = if is_due sent retry now then prepares s p now else stays p
-    by (Preparing ballot reports sent) = if is_due sent retry now then prepares s p now else stays p
-    by (Accepting ballot entry voted sent) = if is_due sent retry now then prepares s p now else stays p
-    by (Covering ballot entry cover sent) = if is_due sent retry now then tells s p ballot entry cover now else stays p
-    by (Settled entry told) = stays p
-    by Waiting = stays p
+due s p retry now = elim p.round [
+  | Asking leader sent ↦ if is_due sent retry now then prepares s p now else stays p
+  | Preparing ballot reports sent ↦ if is_due sent retry now then prepares s p now else stays p
+  | Accepting ballot entry voted sent ↦ if is_due sent retry now then prepares s p now else stays p
+  | Covering ballot entry cover sent ↦ if is_due sent retry now then tells s p ballot entry cover now else stays p
+  | _ ↦ stays p
+]
 
 -- a round begins: with the leader at ballot zero, or, to complete a position, with prepares
 abbrev pub asks : Site → ℕ → Content → ℕ → Move
@@ -275,24 +235,8 @@ completes s own now = prepares s (record { own = own; seen = 0; round = Waiting 
 
 -- the entry that this round settled
 abbrev pub settled : Proposal → Option Content
-settled p = by p.round
-  where
-    by : Round → Option Content
-    by (Settled entry told) = Some entry
-    by (Asking leader sent) = None
-    by (Preparing ballot reports sent) = None
-    by (Accepting ballot entry voted sent) = None
-    by (Covering ballot entry cover sent) = None
-    by Waiting = None
+settled p = elim p.round [ Settled entry told ↦ Some entry | _ ↦ None ]
 
 -- the nodes about which this round asked the cells
 abbrev pub told_in : Proposal → List ℕ
-told_in p = by p.round
-  where
-    by : Round → List ℕ
-    by (Covering ballot entry cover sent) = cover.told
-    by (Asking leader sent) = []
-    by (Preparing ballot reports sent) = []
-    by (Accepting ballot entry voted sent) = []
-    by (Settled entry told) = told
-    by Waiting = []
+told_in p = elim p.round [ Covering ballot entry cover sent ↦ cover.told | Settled entry told ↦ told | _ ↦ [] ]

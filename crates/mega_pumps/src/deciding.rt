@@ -21,7 +21,7 @@ use crate::digest::Digest;
 use mega_base::{Copied, GroupId, NoMemory, OpId, Position};
 use mega_disk::{Records, StoreError, Versions};
 use mega_entry::{Enter, Entry};
-use mega_handling::{handling, rows_of_tables};
+use mega_handler_entries::{handling, rows_of_tables};
 use mega_meanings::QueueHandlers;
 use mega_outcome::Answer;
 use mega_queues::enter_entry;

@@ -13,7 +13,7 @@ use crate::picking::Picked;
 use mega_base::{Copied, GroupId, Items, NoMemory, OpId};
 use mega_disk::Records;
 use mega_leases::Leases;
-use mega_operations::{Heard, Kept, Members, Operation, Phase};
+use mega_operations::{Heard, Members, Operation, OperationBase, Phase};
 use mega_propose::is_same_group;
 use mega_read::local_read;
 use mega_voter::Voter;
@@ -78,7 +78,7 @@ fn visit_of<R: Records>(
     members: &Members,
     voter: &Voter<R>,
     leases: &Leases,
-    kept: &Kept,
+    kept: &OperationBase,
     group: &GroupId,
     asked: Items<u8>,
 ) -> Result<Visit, NoMemory>
@@ -93,11 +93,11 @@ fn visit_of<R: Records>(
 }
 
 /// The operation that reads this group, and what it sends for that.
-fn visiting(kept: Kept, picked: Picked, visit: Visit) -> Heard
+fn visiting(kept: OperationBase, picked: Picked, visit: Visit) -> Heard
     ensures request { result.operation.request ≡ kept.request }
     ensures heard { (phase : OpenPhase) → visit.visited ≡ kept.visited ++ picked.group ∷ [] → result ≡ record { operation = visiting (whole kept phase) picked.group picked.message visit.made; sends = visit.made.sends } }
 {
-    let Kept {
+    let OperationBase {
         id,
         request,
         began,
@@ -127,7 +127,7 @@ pub fn visits<R: Records>(
     members: &Members,
     voter: &Voter<R>,
     leases: &Leases,
-    kept: Kept,
+    kept: OperationBase,
     picked: Picked,
     asked: Items<u8>,
 ) -> Result<Heard, NoMemory>

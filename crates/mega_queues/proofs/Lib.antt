@@ -5,4 +5,4 @@ pub mod Posting
 pub mod Noting
 pub mod Picking
 pub mod Lengths
-pub mod Reached
+pub mod HaveEntries

@@ -1,11 +1,12 @@
 -- A current read of a group: it is local or polls, and then completes what its node has not decided (CIDR 2011, reads and catch-up).
-use Rattle.std.specs.Prelude.{ℕ, ◌+◌, ◌==◌, ◌&&◌, ◌||◌, max, Bool, false, not, if◌then◌else◌, List, [], ◌∷◌, ◌++◌, length, map, Option, Some, None}
+use Rattle.std.specs.Prelude.{ℕ, ◌+◌, ◌==◌, ◌&&◌, ◌||◌, max, Bool, false, not, if◌then◌else◌, List, [], ◌∷◌, ◌++◌, length, map, Option, Some, None, option_map}
 use Rattle.std.specs.List.{list_all}
 use Rattle.mega_base.specs.declared.names.OpId.{OpId}
 use Rattle.mega_base.specs.declared.names.Epoch.{Epoch}
 use Rattle.mega_base.specs.declared.names.GroupId.{GroupId}
 use Rattle.mega_base.specs.declared.names.Position.{Position}
 use Rattle.mega_entry.specs.declared.content.Content.{Content}
+use Rattle.mega_entry.specs.Entries.{entry_by}
 use Rattle.mega_propose.specs.of_wire.declared.message.Message.{Message}
 use Rattle.mega_propose.specs.of_wire.declared.message.Body.{Body}
 use Rattle.mega_propose.specs.of_wire.declared.message.Body.TheVariants.{Where, Top, Fetch, HaveNot}
@@ -30,7 +31,7 @@ first_reading now = record { noted = None; asked = []; stage = Polling [] 0 now 
 -- a read as it goes on
 
 abbrev pub move : Reading → Stage → List Message → Move
-move r stage sends = record { reading = record { noted = r.noted; asked = r.asked; stage = stage }; sends = sends }
+move r stage sends = record { reading = record r { stage = stage }; sends = sends }
 
 abbrev pub stays : Reading → Move
 stays r = move r r.stage []
@@ -63,18 +64,19 @@ topped who r from top heard best sent =
 
 -- a no-op: it names its proposer's node as the next leader, and nothing else
 abbrev pub no_op : Reader → Content
-no_op who = record { id = None; leader = who.op.node; writes = []; sends = []; enters = []; handles = []; cuts = [] }
+no_op who = record (entry_by who.op) { id = None }
 
 abbrev pub site : Reader → List ℕ → ℕ → Site
 site who asked position =
     record { op = who.op; group = who.group; position = position; voters = who.voters; full = who.full; cells = who.cells; asked = asked }
 
+-- the round of a no-op goes on
+abbrev pub filled : Reading → ℕ → ℕ → RoundMove → Move
+filled r through position t = move r (Catching through (Some (Filling position t.proposal))) t.sends
+
 -- a no-op is proposed at a position
 abbrev pub fills : Reader → Reading → ℕ → ℕ → ℕ → Move
-fills who r through position now = by (completes (site who r.asked position) (no_op who) now)
-  where
-    by : RoundMove → Move
-    by t = move r (Catching through (Some (Filling position t.proposal))) t.sends
+fills who r through position now = filled r through position (completes (site who r.asked position) (no_op who) now)
 
 -- the voters that can be asked for an entry
 abbrev pub helpers : Reader → List ℕ
@@ -82,11 +84,10 @@ helpers who = others who.op.node.0 who.voters
 
 -- an entry is fetched from all other voters; where there is none, a no-op is proposed at once
 abbrev pub fetches : Reader → Reading → ℕ → ℕ → ℕ → Move
-fetches who r through position now = by (helpers who)
-  where
-    by : List ℕ → Move
-    by [] = fills who r through position now
-    by (voter ∷ voters) = move r (Catching through (Some (Fetching position [] now))) (map (fetch_to who position) (voter ∷ voters))
+fetches who r through position now = elim (helpers who) [
+  | [] ↦ fills who r through position now
+  | voter ∷ voters ↦ move r (Catching through (Some (Fetching position [] now))) (map (fetch_to who position) (voter ∷ voters))
+]
 
 -- a voter has not decided the position: once all others said so, a no-op is proposed
 abbrev pub denied : Reader → Reading → ℕ → ℕ → ℕ → List ℕ → ℕ → ℕ → Move
@@ -95,10 +96,6 @@ denied who r from through position denials sent now =
     then fills who r through position now
     else move r (Catching through (Some (Fetching position (with_node from denials) sent))) []
 
--- the round of a no-op goes on
-abbrev pub filled : Reading → ℕ → ℕ → RoundMove → Move
-filled r through position t = move r (Catching through (Some (Filling position t.proposal))) t.sends
-
 -- what a read does that takes a message from a node
 abbrev pub hears : Reader → Reading → ℕ → ℕ → Body → Move
 hears who r from now body = by r.stage body
@@ -106,60 +103,41 @@ hears who r from now body = by r.stage body
     by : Stage → Body → Move
     by (Polling heard best sent) (Top op group top) =
         if same_op who.op op && same_group who.group group then topped who r from top.0 heard best sent else stays r
-    by (Polling heard best sent) other = stays r
-    by (Catching through None) other = stays r
     by (Catching through (Some (Fetching position denials sent))) (HaveNot op group n) =
         if same_op who.op op && same_group who.group group && n.0 == position && has from (helpers who)
         then denied who r from through position denials sent now
         else stays r
-    by (Catching through (Some (Fetching position denials sent))) other = stays r
     by (Catching through (Some (Filling position proposal))) other = filled r through position (takes (site who r.asked position) proposal from now other)
+    by _ _ = stays r
 
 -- what is due at a tick: a poll asks those again that have not answered, a fetch gives way to a no-op, and its round goes on
 abbrev pub falls_due : Reader → Reading → ℕ → ℕ → Move
-falls_due who r retry now = by r.stage
-  where
-    by : Stage → Move
-    by (Polling heard best sent) =
-        if is_due sent retry now then move r (Polling heard best now) (map (where_to who) (without heard who.voters)) else stays r
-    by (Catching through None) = stays r
-    by (Catching through (Some (Fetching position denials sent))) = if is_due sent retry now then fills who r through position now else stays r
-    by (Catching through (Some (Filling position proposal))) = filled r through position (due (site who r.asked position) proposal retry now)
+falls_due who r retry now = elim r.stage [
+  | Polling heard best sent ↦
+      if is_due sent retry now then move r (Polling heard best now) (map (where_to who) (without heard who.voters)) else stays r
+  | Catching through None ↦ stays r
+  | Catching through (Some (Fetching position denials sent)) ↦ if is_due sent retry now then fills who r through position now else stays r
+  | Catching through (Some (Filling position proposal)) ↦ filled r through position (due (site who r.asked position) proposal retry now)
+]
 
 -- the entry that the read's round settled, and where
 abbrev pub settled_there : ℕ → Option Content → Option (ℕ × Content)
-settled_there position None = None
-settled_there position (Some entry) = Some (position, entry)
+settled_there position entry = option_map (λ (entry : Content). (position, entry)) entry
 
 abbrev pub read_settled : Reading → Option (ℕ × Content)
-read_settled r = by r.stage
-  where
-    by : Stage → Option (ℕ × Content)
-    by (Catching through (Some (Filling position proposal))) = settled_there position (settled proposal)
-    by (Catching through (Some (Fetching position denials sent))) = None
-    by (Catching through None) = None
-    by (Polling heard best sent) = None
+read_settled r = elim r.stage [ Catching through (Some (Filling position proposal)) ↦ settled_there position (settled proposal) | _ ↦ None ]
 
 -- the position through which the read reads, once it has it
 abbrev pub through_of : Reading → Option ℕ
-through_of r = by r.stage
-  where
-    by : Stage → Option ℕ
-    by (Polling heard best sent) = None
-    by (Catching through search) = Some through
+through_of r = elim r.stage [ Polling heard best sent ↦ None | Catching through search ↦ Some through ]
 
 -- the nodes about which a read asked the cells, with those of its present round
 abbrev pub search_told : Option Search → List ℕ
-search_told None = []
-search_told (Some (Fetching position denials sent)) = []
 search_told (Some (Filling position proposal)) = told_in proposal
+search_told _ = []
 
 abbrev pub asked_by : Reading → List ℕ
-asked_by r = by r.stage
-  where
-    by : Stage → List ℕ
-    by (Polling heard best sent) = r.asked
-    by (Catching through search) = joined r.asked (search_told search)
+asked_by r = elim r.stage [ Polling heard best sent ↦ r.asked | Catching through search ↦ joined r.asked (search_told search) ]
 
 -- the position that a search completes
 abbrev pub searched : Option Search → Option ℕ
@@ -173,11 +151,10 @@ is_position n (Some position) = position == n
 
 -- a read turns to the least position that its node has not decided, where it does not complete that one already
 abbrev pub seeks : Reader → Reading → ℕ → ℕ → Move
-seeks who r least now = by r.stage
-  where
-    by : Stage → Move
-    by (Polling heard best sent) = stays r
-    by (Catching through search) =
-        if is_position least (searched search)
-        then stays r
-        else fetches who (record { noted = r.noted; asked = asked_by r; stage = r.stage }) through least now
+seeks who r least now = elim r.stage [
+  | Polling heard best sent ↦ stays r
+  | Catching through search ↦
+      if is_position least (searched search)
+      then stays r
+      else fetches who (record r { asked = asked_by r }) through least now
+]

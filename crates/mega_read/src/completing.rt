@@ -5,7 +5,7 @@ ghost use Rattle.mega_propose.specs.Members.{has};
 ghost use Rattle.mega_read.specs.Catching.{denied, fetches, fills, helpers, no_op, site};
 ghost use Rattle.mega_read.specs.declared.reading.Stage.TheVariants.{Catching};
 
-use crate::kept::Kept;
+use crate::kept::ReadBase;
 use crate::reading::{Move, Reader, Stage};
 use mega_base::{Copied, Items, NoMemory};
 use mega_entry::{Content, Entry};
@@ -52,7 +52,7 @@ impl Reader {
     pub(crate) fn fills(
         &self,
         alloc: Global,
-        kept: Kept,
+        kept: ReadBase,
         through: u64,
         position: u64,
         now: u64,
@@ -69,7 +69,7 @@ impl Reader {
     pub(crate) fn fetches(
         &self,
         alloc: Global,
-        kept: Kept,
+        kept: ReadBase,
         through: u64,
         position: u64,
         now: u64,
@@ -97,7 +97,7 @@ impl Reader {
     pub(crate) fn denied(
         &self,
         alloc: Global,
-        kept: Kept,
+        kept: ReadBase,
         from: u8,
         through: u64,
         position: u64,

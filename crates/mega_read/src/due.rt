@@ -5,7 +5,7 @@ ghost use Rattle.mega_read.specs.Catching.{asked_by, falls_due, is_position, rea
 ghost use Rattle.mega_read.specs.declared.reading.Search.TheVariants.{Fetching, Filling};
 ghost use Rattle.mega_read.specs.declared.reading.Stage.TheVariants.{Catching, Polling};
 
-use crate::kept::Kept;
+use crate::kept::ReadBase;
 use crate::reading::{Move, Reader, Reading, Search, Stage};
 use mega_base::{Copied, Items, NoMemory};
 use mega_entry::Entry;
@@ -48,7 +48,7 @@ impl Reader {
     fn polling_due(
         &self,
         alloc: Global,
-        kept: Kept,
+        kept: ReadBase,
         heard: Items<u8>,
         best: u64,
         sent: u64,
@@ -77,7 +77,7 @@ impl Reader {
     fn fetching_due(
         &self,
         alloc: Global,
-        kept: Kept,
+        kept: ReadBase,
         through: u64,
         position: u64,
         denied: Items<u8>,
@@ -99,7 +99,7 @@ impl Reader {
     fn filling_due(
         &self,
         alloc: Global,
-        kept: Kept,
+        kept: ReadBase,
         through: u64,
         position: u64,
         proposal: Proposal,
@@ -139,7 +139,7 @@ impl Reading {
             asked,
             stage,
         } = self;
-        let kept = Kept { noted, asked };
+        let kept = ReadBase { noted, asked };
         match stage {
             Stage::Polling { heard, best, sent } => {
                 who.polling_due(alloc, kept, heard, best, sent, retry, now)
@@ -221,17 +221,17 @@ impl Reading {
         match stage {
             Stage::Polling { heard, best, sent } => {
                 let stage = Stage::Polling { heard, best, sent };
-                Ok(Kept { noted, asked }.at(stage, Items::new(alloc)))
+                Ok(ReadBase { noted, asked }.at(stage, Items::new(alloc)))
             }
             Stage::Catching { through, search } => {
                 if is_searched(least, &search) {
                     let stage = Stage::Catching { through, search };
-                    return Ok(Kept { noted, asked }.at(stage, Items::new(alloc)));
+                    return Ok(ReadBase { noted, asked }.at(stage, Items::new(alloc)));
                 }
                 match joined(alloc, asked, search_told(&search)) {
                     Ok(asked) => {
                         drop(search);
-                        who.fetches(alloc, Kept { noted, asked }, through, least, now)
+                        who.fetches(alloc, ReadBase { noted, asked }, through, least, now)
                     }
                     Err(refused) => {
                         drop(search);

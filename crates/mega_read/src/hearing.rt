@@ -6,7 +6,7 @@ ghost use Rattle.mega_read.specs.Catching.{hears, helpers, topped};
 ghost use Rattle.mega_read.specs.declared.reading.Search.TheVariants.{Fetching, Filling};
 ghost use Rattle.mega_read.specs.declared.reading.Stage.TheVariants.{Catching, Polling};
 
-use crate::kept::Kept;
+use crate::kept::ReadBase;
 use crate::reading::{Move, Reader, Reading, Search, Stage};
 use mega_base::{GroupId, Items, NoMemory, OpId};
 use mega_propose::mega_wire::Body;
@@ -33,7 +33,7 @@ impl Reader {
     fn topped(
         &self,
         alloc: Global,
-        kept: Kept,
+        kept: ReadBase,
         from: u8,
         top: u64,
         heard: Items<u8>,
@@ -62,7 +62,7 @@ impl Reader {
     fn hears_polling(
         &self,
         alloc: Global,
-        kept: Kept,
+        kept: ReadBase,
         from: u8,
         body: &Body,
         heard: Items<u8>,
@@ -87,7 +87,7 @@ impl Reader {
     fn hears_fetching(
         &self,
         alloc: Global,
-        kept: Kept,
+        kept: ReadBase,
         from: u8,
         now: u64,
         body: &Body,
@@ -117,7 +117,7 @@ impl Reader {
     fn hears_filling(
         &self,
         alloc: Global,
-        kept: Kept,
+        kept: ReadBase,
         from: u8,
         now: u64,
         body: &Body,
@@ -158,7 +158,7 @@ impl Reading {
             asked,
             stage,
         } = self;
-        let kept = Kept { noted, asked };
+        let kept = ReadBase { noted, asked };
         match stage {
             Stage::Polling { heard, best, sent } => {
                 who.hears_polling(alloc, kept, from, body, heard, best, sent)

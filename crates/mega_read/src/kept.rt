@@ -11,12 +11,12 @@ use mega_propose::mega_wire::Message;
 
 /// What a read keeps through its stages: the epoch that it noted, and the nodes about which it asked the cells.
 #[derive(Drop)]
-pub(crate) struct Kept {
+pub(crate) struct ReadBase {
     pub noted: Option<Epoch>,
     pub asked: Items<u8>,
 }
 
-impl Kept {
+impl ReadBase {
     /// The read at a stage, and what is sent for that.
     pub(crate) fn at(self, stage: Stage, sends: Items<Message>) -> Move
         ensures { result ≡ record { reading = record { noted = self.noted; asked = self.asked; stage = stage }; sends = sends } }

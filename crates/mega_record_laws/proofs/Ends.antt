@@ -2,7 +2,7 @@
 use Rattle.std.proofs.Common.{ℕ, List, [], ◌∷◌, ◌++◌, refl, codes}
 use Rattle.hex.specs.Hex.{encode_lower}
 use Rattle.mega_schema.specs.declared.schema.Schema.{Schema}
-use Rattle.mega_transcript_reading.proofs.LineEnds.{IsLine, NoEnd, NoEnds, hex, line_told, told, u32, u8}
+use Rattle.mega_transcript_reader.proofs.LineEnds.{IsLine, NoEnd, NoEnds, hex, line_told, told, u32, u8}
 use Rattle.mega_promises.specs.Served.{Got, Line, Noted, OfClient, OfNode, Peer, Put}
 use Rattle.mega_promises.specs.Records.{peer_words, record_line}
 use Rattle.mega_record_laws.specs.Plain.{IsPlainLine, IsPlainPeer}

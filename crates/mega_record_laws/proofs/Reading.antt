@@ -10,8 +10,8 @@ use Rattle.mega_transcript.specs.declared.item.Item.{Item}
 use Rattle.mega_transcript.specs.declared.item.Item.TheVariants as items
 use Rattle.mega_transcript.specs.Lines.{line}
 use Rattle.mega_transcript.specs.Reading.{Read}
-use Rattle.mega_transcript_reading.specs.ReadingItems.{parsed}
-use Rattle.mega_transcript_reading.proofs.ItemLaws.{parsed_again, parsed_found}
+use Rattle.mega_transcript_reader.specs.ReadingItems.{parsed}
+use Rattle.mega_transcript_reader.proofs.ItemLaws.{parsed_again, parsed_found}
 use Rattle.mega_promises.specs.Served.{Got, Line, Noted, OfClient, OfNode, Peer, Put}
 use Rattle.mega_promises.specs.Records.{record_line}
 use Rattle.mega_record_laws.specs.Plain.{IsPlainLine}

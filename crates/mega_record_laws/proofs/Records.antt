@@ -12,7 +12,7 @@ use Rattle.mega_promises.specs.Served.{Line}
 use Rattle.mega_promises.specs.Records.{record_line, record_text}
 use Rattle.mega_record_laws.specs.Plain.{IsPlainLine}
 use Rattle.mega_record_laws.specs.Reading.{and_more, read_line, read_lines, read_record}
-use Rattle.mega_transcript_reading.proofs.LineEnds.{IsLine, NoEnd}
+use Rattle.mega_transcript_reader.proofs.LineEnds.{IsLine, NoEnd}
 use Rattle.mega_record_laws.proofs.Ends.{record_line_told}
 use Rattle.mega_record_laws.proofs.Reading.{line_again, line_found}
 

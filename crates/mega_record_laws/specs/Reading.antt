@@ -5,7 +5,7 @@ use Rattle.mega_io.specs.TextLines.{ended_lines}
 use Rattle.mega_schema.specs.declared.schema.Schema.{Schema}
 use Rattle.mega_syntax.specs.Names.{same}
 use Rattle.mega_transcript.specs.Reading.{Field, Read, hex_field, made, two, u8_field, u32_field}
-use Rattle.mega_transcript_reading.specs.ReadingItems.{parsed}
+use Rattle.mega_transcript_reader.specs.ReadingItems.{parsed}
 use Rattle.mega_promises.specs.Served.{Got, Line, Noted, OfClient, OfNode, Peer, Put}
 use Rattle.mega_promises.specs.Records.{record_line}
 

@@ -4,8 +4,8 @@ use Rattle.mega_base.specs.declared.names.GroupId.{GroupId}
 use Rattle.mega_cluster.specs.declared.cluster.Cluster.{Cluster}
 use Rattle.mega_disk.specs.declared.disk.Disk.{Ghosts as DiskGhosts}
 use Rattle.mega_disk.specs.declared.pair.Pair.{Pair}
-use Rattle.mega_heading.specs.Known.{Told}
-use Rattle.mega_heading.specs.Parts.{cluster_in, header_text}
+use Rattle.mega_header.specs.Known.{IfKnown}
+use Rattle.mega_header.specs.Parts.{cluster_in, header_text}
 use Rattle.mega_io.specs.Pieces.{AppendsFront}
 use Rattle.mega_checkpoint.specs.Format.{list_of}
 use Rattle.mega_tape_laws.proofs.DeclaredClusters.{cluster_declared}
@@ -15,11 +15,12 @@ use Rattle.mega_backup_words.proofs.Endings.{unwritten}
 use Rattle.mega_words.specs.declared.command.Command.{Command}
 use Rattle.mega_words.specs.declared.command.Command.TheVariants.{Backup, Gen, Node, Replay, Restore, Two}
 use Rattle.mega_words.specs.Commands.{MayWant}
-use Rattle.mega_replay.specs.Backups.{BringsBack, HasBackedUp}
+use Rattle.mega_replay.specs.Backups.{BringsBack}
+use Rattle.mega_replay.specs.Run.{HasBackedUp}
 use Rattle.mega_replay.specs.Statuses.{IsStatusOf}
 
 -- where memory was wanting for the group, nothing was done
-reads : (least : ℕ) (input : Option (List ℕ)) → (header : Result Cluster ℕ) × Told input (λ input. cluster_in least input ≡ header)
+reads : (least : ℕ) (input : Option (List ℕ)) → (header : Result Cluster ℕ) × IfKnown input (λ input. cluster_in least input ≡ header)
 reads least None = (Err 1, tt)
 reads least (Some input) = (cluster_in least input, refl)
 
@@ -55,6 +56,6 @@ brings_back : (at : ℕ) (input : List ℕ) → BringsBack at input
 brings_back at input c lines backup txns header behind is made back =
     read_back c.schema (cluster_declared 1 (header_text input) c header) lines backup is made at txns back
 
-pub rows_come_back : (at : ℕ) (input : Option (List ℕ)) → Told input (BringsBack at)
+pub rows_come_back : (at : ℕ) (input : Option (List ℕ)) → IfKnown input (BringsBack at)
 rows_come_back at None = tt
 rows_come_back at (Some input) = brings_back at input

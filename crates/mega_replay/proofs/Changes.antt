@@ -5,10 +5,11 @@ use Rattle.mega_node.specs.Outside.{Outside}
 use Rattle.mega_two_words.specs.declared.last.Last.TheVariants.{Header}
 use Rattle.mega_two_driver_laws.proofs.Saw.{begun_seen, recovered_seen}
 use Rattle.mega_two_turns.specs.Turns.{driven, start}
-use Rattle.mega_two_run_laws.specs.Tolds.{tolds}
+use Rattle.mega_two_run_laws.specs.TurnResults.{tolds}
 use Rattle.mega_two_run_laws.proofs.Recovering.{recovered_run}
 use Rattle.mega_two_run_laws.proofs.Turns.{goes, is_over}
-use Rattle.mega_replay.specs.Changes.{HasDriven, SeesBefore}
+use Rattle.mega_replay.specs.Changes.{SeesBefore}
+use Rattle.mega_replay.specs.Run.{HasDriven}
 
 pub sees_before : (number : ℕ) → SeesBefore number
 sees_before number = record {

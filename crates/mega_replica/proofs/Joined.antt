@@ -14,7 +14,7 @@ use Rattle.mega_wal.proofs.Orders.{is_group_is}
 use Rattle.mega_wal.proofs.Sames.{same_group_equal}
 use Rattle.mega_replica.specs.declared.progress.Progress.{Progress}
 use Rattle.mega_replica.specs.Stored.{Counts, GroupLogs, Tells, last_write, stored_with}
-use Rattle.mega_replica.specs.Following.{Follows, IsPlace, Stands, count_of, no_progress, progress_at}
+use Rattle.mega_replica.specs.Following.{Follows, IsPlace, FollowsGroup, count_of, no_progress, progress_at}
 use Rattle.mega_replica.proofs.Growing.{none_at}
 use Rattle.mega_replica.proofs.Places.{place_total}
 use Rattle.mega_replica.proofs.Telling.{count_own, count_other, counts_same, tells_count}
@@ -28,7 +28,7 @@ module _ (version : Versions) (at : GroupId → Progress) (log : GroupLogs) (sto
   pub count_before : (p : Progress) → p ≡ at group → count_of p (log group) ≡ stored group
   count_before p is = ap (λ (q : Progress). count_of q (log group)) is ∙ sym (follows.counts group)
 
-  pub stands_before : (p : Progress) → p ≡ at group → Stands version group p log stored
+  pub stands_before : (p : Progress) → p ≡ at group → FollowsGroup version group p log stored
   stands_before p is = record {
     place = subst (λ (q : Progress). IsPlace q (log group)) (sym is) (follows.places group);
     versions = subst (λ (counts : Counts). Tells version log counts) (counts_same stored group (count_of p (log group)) (sym (count_before p is))) follows.versions;
@@ -47,7 +47,7 @@ module _ (old mid new : GroupId → Progress) (group : GroupId) (progress : Prog
   at_other other test is = sets other ∙ ap (λ (b : Bool). cond b progress (mid other)) (is_group_is group other ∙ is) ∙ ap (λ (p : Progress). cond test progress p) (same other)
 
   -- the group has its new progress, and its new count
-  pub follows_on : (was version : Versions) (log : GroupLogs) (stored : Counts) (count : ℕ) → Follows was old log stored → Stands version group progress log stored → count_of progress (log group) ≡ count
+  pub follows_on : (was version : Versions) (log : GroupLogs) (stored : Counts) (count : ℕ) → Follows was old log stored → FollowsGroup version group progress log stored → count_of progress (log group) ≡ count
       → Follows version new log (stored_with stored group count)
   follows_on was version log stored count follows stands is = record {
     places = λ other. places other (same_group group other) refl;

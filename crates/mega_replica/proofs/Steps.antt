@@ -7,7 +7,7 @@ use Rattle.mega_disk.specs.VersionMaps.{Versions, Puts}
 use Rattle.mega_replica.specs.Applying.{after_portion, after_read, writes_of, writes_through}
 use Rattle.mega_replica.specs.declared.progress.Progress.{Progress}
 use Rattle.mega_replica.specs.Stored.{Counts, GroupLogs, Tells, stored_with}
-use Rattle.mega_replica.specs.Following.{IsPlace, Stands, count_of}
+use Rattle.mega_replica.specs.Following.{IsPlace, FollowsGroup, count_of}
 use Rattle.mega_replica.proofs.Places.{place_end, place_next, place_passed, place_total, place_writes, through_later, through_more, through_total}
 use Rattle.mega_replica.proofs.Telling.{tells_count, tells_put}
 
@@ -19,13 +19,13 @@ put_next group log counts e w entry rest writes write old new is same lt read pu
     tells_put group log counts e w entry rest write old new is
     (subst (λ (ws : List Write). w < length ws) (sym same) lt) (subst (λ (ws : List Write). write ≡ get_or ws w write) (sym same) read) puts
 
-module _ (log : GroupLogs) (counts : Counts) (group : GroupId) (p : Progress) (entry : Content) (rest : List Content) (is : drop p.entries (log group) ≡ entry ∷ rest) (old new : Versions) (stands : Stands old group p log counts) (w : ℕ)
+module _ (log : GroupLogs) (counts : Counts) (group : GroupId) (p : Progress) (entry : Content) (rest : List Content) (is : drop p.entries (log group) ≡ entry ∷ rest) (old new : Versions) (stands : FollowsGroup old group p log counts) (w : ℕ)
     (le : w ≤ max p.writes (length entry.writes)) (tells : Tells new log (stored_with counts group (writes_through p.entries (log group) + w))) where
   no_more : w ≤ length entry.writes
   no_more = let before = place_writes p (log group) entry rest stands.place is in omega (arith, before, le)
 
   -- some more writes of the next entry
-  pub stands_within : Stands new group (record { entries = p.entries; writes = w }) log counts
+  pub stands_within : FollowsGroup new group (record { entries = p.entries; writes = w }) log counts
   stands_within = record { place = place_next (log group) p.entries w entry rest is no_more; versions = tells }
 
   module _ (all : length entry.writes ≤ w) where
@@ -33,7 +33,7 @@ module _ (log : GroupLogs) (counts : Counts) (group : GroupId) (p : Progress) (e
     pub count_passed : writes_through (p.entries + 1) (log group) + 0 ≡ writes_through p.entries (log group) + w
     count_passed = let more = through_more (log group) p.entries entry rest is in let most = no_more in omega (arith, more, most, all)
 
-    pub stands_passed : Stands new group (record { entries = p.entries + 1; writes = 0 }) log counts
+    pub stands_passed : FollowsGroup new group (record { entries = p.entries + 1; writes = 0 }) log counts
     stands_passed = record {
       place = place_passed (log group) p.entries entry rest is;
       versions = tells_count new log counts group (writes_through p.entries (log group) + w) (writes_through (p.entries + 1) (log group) + 0) (sym count_passed) tells;

@@ -32,7 +32,7 @@ abbrev pub count_of : Progress → List Content → ℕ
 count_of progress log = writes_through progress.entries log + progress.writes
 
 -- the versions tell what is stored, where one group is at this place, and the others have these counts
-pub record Stands (version : Versions) (group : GroupId) (progress : Progress) (log : GroupLogs) (stored : Counts) : Type 0 where
+pub record FollowsGroup (version : Versions) (group : GroupId) (progress : Progress) (log : GroupLogs) (stored : Counts) : Type 0 where
   pub place : IsPlace progress (log group)
   pub versions : Tells version log (stored_with stored group (count_of progress (log group)))
 

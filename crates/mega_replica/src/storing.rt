@@ -7,7 +7,7 @@ ghost use Rattle.mega_wal.specs.declared.item.JournalItem.{JournalItem as Item};
 ghost use Rattle.mega_wal.specs.Kept.{Represents};
 ghost use Rattle.mega_replica.specs.Applying.{writes_through, after_portion, after_read};
 ghost use Rattle.mega_replica.specs.Stored.{GroupLogs, log_in, stored_with, Counts, Tells};
-ghost use Rattle.mega_replica.specs.Following.{Stands, count_of};
+ghost use Rattle.mega_replica.specs.Following.{FollowsGroup, count_of};
 ghost use Rattle.mega_replica.specs.Puts.{OnlyPuts};
 
 use crate::progress::Progress;
@@ -88,13 +88,13 @@ pub fn store_some<V: Versions, R: Records>(
     most: u64,
 ) -> Result<(), StoreError>
     ensures stands { (items : List Item) (log : GroupLogs) (counts : Counts) → Represents logs.now.kept items →
-        log group.now ≡ log_in items group.now → Stands (V.version rows.old) group.now progress.old log counts →
-        Stands (V.version rows.new) group.now progress.new log counts
+        log group.now ≡ log_in items group.now → FollowsGroup (V.version rows.old) group.now progress.old log counts →
+        FollowsGroup (V.version rows.new) group.now progress.new log counts
         × (count_of progress.old (log group.now) ≤ count_of progress.new (log group.now))
         × (count_of progress.new (log group.now) ≤ after_portion most (log group.now) (count_of progress.old (log group.now))) }
     ensures all { OnOk result ((items : List Item) (log : GroupLogs) (counts : Counts) →
         Represents logs.now.kept items → log group.now ≡ log_in items group.now →
-        Stands (V.version rows.old) group.now progress.old log counts →
+        FollowsGroup (V.version rows.old) group.now progress.old log counts →
         count_of progress.new (log group.now) ≡ after_portion most (log group.now) (count_of progress.old (log group.now))) }
     ensures memory { OnErr result (result ≡ Err StoreError.NoMemory) }
     ensures only { OnlyPuts V.Versions rows.old rows.new }
@@ -134,13 +134,13 @@ pub fn store_through<V: Versions, R: Records>(
     position: Position,
 ) -> Result<(), StoreError>
     ensures stands { (items : List Item) (log : GroupLogs) (counts : Counts) → Represents logs.now.kept items →
-        log group.now ≡ log_in items group.now → Stands (V.version rows.old) group.now progress.old log counts →
-        Stands (V.version rows.new) group.now progress.new log counts
+        log group.now ≡ log_in items group.now → FollowsGroup (V.version rows.old) group.now progress.old log counts →
+        FollowsGroup (V.version rows.new) group.now progress.new log counts
         × (count_of progress.old (log group.now) ≤ count_of progress.new (log group.now))
         × (count_of progress.new (log group.now) ≤ after_read position.0 (log group.now) (count_of progress.old (log group.now))) }
     ensures all { OnOk result ((items : List Item) (log : GroupLogs) (counts : Counts) →
         Represents logs.now.kept items → log group.now ≡ log_in items group.now →
-        Stands (V.version rows.old) group.now progress.old log counts →
+        FollowsGroup (V.version rows.old) group.now progress.old log counts →
         count_of progress.new (log group.now) ≡ after_read position.0 (log group.now) (count_of progress.old (log group.now))) }
     ensures memory { OnErr result (result ≡ Err StoreError.NoMemory) }
     ensures only { OnlyPuts V.Versions rows.old rows.new }

@@ -81,8 +81,8 @@ known_shown c nodes me met notes items tape among known g n e h = elim (decided_
 -- ---- standings
 
 -- what each node decided stands on the tape
-abbrev pub Told : Standing → Type 0
-Told now = (me : ℕ) → Known me (now.node me).met now.tape
+abbrev pub EachKnows : Standing → Type 0
+EachKnows now = (me : ℕ) → Known me (now.node me).met now.tape
 
 -- one node met more
 told_at : (tape more : List Item) (node : ℕ → Node) (me : ℕ) (next : Node) → Stood tape more → Known me next.met more → ((other : ℕ) → Known other (node other).met tape)
@@ -95,7 +95,7 @@ told_at tape more node me next stood known told other = by (me == other) refl
 
 module _ (c : Cluster) where
   whole_told : (now : Standing) (me : ℕ) (own : List Item) (first : Met) (made : Step) → ((g : GroupId) (n : ℕ) → decided (first ∷ (now.node me).met) g n ≡ decided (now.node me).met g n)
-      → made.node.met ≡ onto (map Sends made.sends) (onto made.notes (first ∷ (now.node me).met)) → Told now → Told (whole_step c now me own made)
+      → made.node.met ≡ onto (map Sends made.sends) (onto made.notes (first ∷ (now.node me).met)) → EachKnows now → EachKnows (whole_step c now me own made)
   whole_told now me own first made none is told =
       told_at now.tape (with_items c (set_at now.node me made.node) now.tape items) now.node me made.node (with_items_stood c (set_at now.node me made.node) items now.tape) known told
     where
@@ -113,7 +113,7 @@ module _ (c : Cluster) where
           (with_items c (set_at now.node me made.node) now.tape items) (with_items c (set_at now.node me made.node) now.tape items) (sends_on made.sends (onto made.notes (first ∷ (now.node me).met))).decides (λ item s. s) noted)
 
   cut_told : (now : Standing) (me : ℕ) (own : List Item) (first : Met) (left : Left) (owed : List Met) (log_fuse data_fuse : ℕ → Option Fuse)
-      → ((g : GroupId) (n : ℕ) → decided (first ∷ (now.node me).met) g n ≡ decided (now.node me).met g n) → Told now → Told (cut_step c now me own first left owed log_fuse data_fuse)
+      → ((g : GroupId) (n : ℕ) → decided (first ∷ (now.node me).met) g n ≡ decided (now.node me).met g n) → EachKnows now → EachKnows (cut_step c now me own first left owed log_fuse data_fuse)
   cut_told now me own first left owed log_fuse data_fuse none told =
       told_at now.tape (with_items c (set_at now.node me next) now.tape (own ++ shown me Crashes)) now.node me next (with_items_stood c (set_at now.node me next) (own ++ shown me Crashes) now.tape)
       (known_stood me (now.node me).met next.met now.tape (with_items c (set_at now.node me next) now.tape (own ++ shown me Crashes)) none (with_items_stood c (set_at now.node me next) (own ++ shown me Crashes) now.tape) (told me)) told
@@ -123,24 +123,24 @@ module _ (c : Cluster) where
 
   fated_told : (now : Standing) (me : ℕ) (own : List Item) (first : Met) (made : Step) (replies : List Message) (fate : Fate)
       → ((g : GroupId) (n : ℕ) → decided (first ∷ (now.node me).met) g n ≡ decided (now.node me).met g n)
-      → made.node.met ≡ onto (map Sends made.sends) (onto made.notes (first ∷ (now.node me).met)) → Told now → Told (fated c now me own first made replies fate)
+      → made.node.met ≡ onto (map Sends made.sends) (onto made.notes (first ∷ (now.node me).met)) → EachKnows now → EachKnows (fated c now me own first made replies fate)
   fated_told now me own first made replies Whole none is told = whole_told now me own first made none is told
   fated_told now me own first made replies (CutByLog left) none is told =
       cut_told now me own first left (cond (is_kept left) (owes made replies) []) (set_at now.log_fuse me None) now.data_fuse none told
   fated_told now me own first made replies (CutByData left) none is told = cut_told now me own first left [] now.log_fuse (set_at now.data_fuse me None) none told
 
-  tick_told : (h : Meanings) (now : Standing) (me clock : ℕ) (cut : Calls → Fate) → Told now → Told (at_node c h now me (shown me (Ticks clock)) (Tick clock) cut)
+  tick_told : (h : Meanings) (now : Standing) (me clock : ℕ) (cut : Calls → Fate) → EachKnows now → EachKnows (at_node c h now me (shown me (Ticks clock)) (Tick clock) cut)
   tick_told h now me clock cut told =
       let made = step (setting c h me) (now.node me) (Tick clock) in
       fated_told now me (shown me (Ticks clock)) (Ticks clock) made [] (fate_by now me cut (calls_of c h now me (Tick clock) made)) (λ g n. refl) (step_met (setting c h me) (now.node me) (Tick clock)) told
 
-  take_told : (h : Meanings) (now : Standing) (me : ℕ) (own : List Item) (message : Message) (cut : Calls → Fate) → Told now → Told (at_node c h now me own (Take message) cut)
+  take_told : (h : Meanings) (now : Standing) (me : ℕ) (own : List Item) (message : Message) (cut : Calls → Fate) → EachKnows now → EachKnows (at_node c h now me own (Take message) cut)
   take_told h now me own message cut told =
       let made = step (setting c h me) (now.node me) (Take message) in
       fated_told now me own (Takes message) made (replies_in c me (now.node me).met (Take message)) (fate_by now me cut (calls_of c h now me (Take message) made)) (λ g n. refl) (step_met (setting c h me) (now.node me) (Take message)) told
 
-  begin_told : (h : Meanings) (now : Standing) (me : ℕ) (request : Request) (text : List ℕ) (cut : Calls → Fate) → Told now
-      → Told (at_node c h now me (shown me (Begins (op_of (setting c h me) (now.node me).met) text)) (Begin request text) cut)
+  begin_told : (h : Meanings) (now : Standing) (me : ℕ) (request : Request) (text : List ℕ) (cut : Calls → Fate) → EachKnows now
+      → EachKnows (at_node c h now me (shown me (Begins (op_of (setting c h me) (now.node me).met) text)) (Begin request text) cut)
   begin_told h now me request text cut told =
       let made = step (setting c h me) (now.node me) (Begin request text) in
       let own = Begins (op_of (setting c h me) (now.node me).met) text in
@@ -148,7 +148,7 @@ module _ (c : Cluster) where
 
   -- ---- starts and crashes
 
-  crash_told : (now : Standing) (me : ℕ) → Told now → Told (crashes now me)
+  crash_told : (now : Standing) (me : ℕ) → EachKnows now → EachKnows (crashes now me)
   crash_told now me told =
       told_at now.tape (flat_map (shown me) (Crashes ∷ []) ++ now.tape) now.node me next (λ item s. inr s)
       (known_stood me (now.node me).met next.met now.tape (flat_map (shown me) (Crashes ∷ []) ++ now.tape) (λ g n. refl) (λ item s. inr s) (told me)) told
@@ -156,40 +156,40 @@ module _ (c : Cluster) where
       next : Node
       next = record { met = Crashes ∷ (now.node me).met; open_operations = []; stored = (now.node me).stored }
 
-  start_told : (now : Standing) (me : ℕ) (items : List Met) (node : Node) → node.met ≡ onto items (now.node me).met → Told now → Told (whole_start c now me items node)
+  start_told : (now : Standing) (me : ℕ) (items : List Met) (node : Node) → node.met ≡ onto items (now.node me).met → EachKnows now → EachKnows (whole_start c now me items node)
   start_told now me items node is told =
       told_at now.tape (with_items c (set_at now.node me node) now.tape (flat_map (shown me) items)) now.node me node (with_items_stood c (set_at now.node me node) (flat_map (shown me) items) now.tape)
       (subst (λ met. Known me met (with_items c (set_at now.node me node) now.tape (flat_map (shown me) items))) (sym is)
       (known_shown c (set_at now.node me node) me (now.node me).met items (flat_map (shown me) items) now.tape (λ item i. i) (told me))) told
 
-  fated_start_told : (h : Meanings) (now : Standing) (me : ℕ) (fate : Fate) → Told now → Told (fated_start c h now me fate)
+  fated_start_told : (h : Meanings) (now : Standing) (me : ℕ) (fate : Fate) → EachKnows now → EachKnows (fated_start c h now me fate)
   fated_start_told h now me Whole told = start_told now me (start_items (setting c h me) (now.starts me + 1) (now.owed me) (now.node me).met) _ refl told
   fated_start_told h now me (CutByLog left) told = crash_told now me told
   fated_start_told h now me (CutByData left) told = crash_told now me told
 
   -- ---- events
 
-  marked_told : (now : Standing) (item : Item) → Told now → Told (marked now item)
+  marked_told : (now : Standing) (item : Item) → EachKnows now → EachKnows (marked now item)
   marked_told now item told me g n e h = inr (told me g n e h)
 
-  handed_told : (h : Meanings) (cuts : Cuts) (now : Standing) (k : ℕ) (o : Option Message) → Told now → Told (handed c h cuts now k o)
+  handed_told : (h : Meanings) (cuts : Cuts) (now : Standing) (k : ℕ) (o : Option Message) → EachKnows now → EachKnows (handed c h cuts now k o)
   handed_told h cuts now k None told = told
   handed_told h cuts now k (Some message) told = take_told h now message.to (Taken k ∷ []) message (cuts now message.to) told
 
-  drained_told : (h : Meanings) (cuts : Cuts) (most : ℕ) (now : Standing) → Told now → Told (drained c h cuts now most)
+  drained_told : (h : Meanings) (cuts : Cuts) (most : ℕ) (now : Standing) → EachKnows now → EachKnows (drained c h cuts now most)
   drained_told h cuts zero now told = by (next_delivery (up now) now.tape)
     where
-      by : (o : Option ℕ) → Told (unless_none now (λ k. marked now CutItem) o)
+      by : (o : Option ℕ) → EachKnows (unless_none now (λ k. marked now CutItem) o)
       by None = told
       by (Some k) = marked_told now CutItem told
   drained_told h cuts (suc most) now told =
       by (next_delivery (up now) now.tape) (λ k. drained_told h cuts most (delivered c h cuts now k) (handed_told h cuts now k (message_of now.tape k) told))
     where
-      by : (o : Option ℕ) → ((k : ℕ) → Told (drained c h cuts (delivered c h cuts now k) most)) → Told (unless_none now (λ k. drained c h cuts (delivered c h cuts now k) most) o)
+      by : (o : Option ℕ) → ((k : ℕ) → EachKnows (drained c h cuts (delivered c h cuts now k) most)) → EachKnows (unless_none now (λ k. drained c h cuts (delivered c h cuts now k) most) o)
       by None more = told
       by (Some k) more = more k
 
-  event_told : (h : Meanings) (cuts : Cuts) (now : Standing) (event : WorldEvent) → Told now → Told (after_event c h cuts now event)
+  event_told : (h : Meanings) (cuts : Cuts) (now : Standing) (event : WorldEvent) → EachKnows now → EachKnows (after_event c h cuts now event)
   event_told h cuts now (TickEvent node clock) told = tick_told h now node.0 clock (cuts now node.0) told
   event_told h cuts now (Deliver message) told = handed_told h cuts now message (message_of now.tape message) told
   event_told h cuts now (Drop message) told = marked_told now (Dropped message) told
@@ -200,22 +200,22 @@ module _ (c : Cluster) where
   event_told h cuts now (FuseEvent node calls image Data) told = told
   event_told h cuts now (BeginEvent node request text) told = begin_told h now node.0 request text (cuts now node.0) told
 
-  unless_told : (now next : Standing) (o : Option ℕ) → Told now → Told next → Told (unless_refused now next o)
+  unless_told : (now next : Standing) (o : Option ℕ) → EachKnows now → EachKnows next → EachKnows (unless_refused now next o)
   unless_told now next None told then = then
   unless_told now next (Some why) told then = told
 
-  goes_on_told : (cuts : Cuts) (events : List Happening) (now : Standing) → Told now → Told (goes_on c cuts now events)
+  goes_on_told : (cuts : Cuts) (events : List Happening) (now : Standing) → EachKnows now → EachKnows (goes_on c cuts now events)
   goes_on_told cuts [] now told = told
   goes_on_told cuts (one ∷ events) now told =
       goes_on_told cuts events (unless_refused now (after_event c one.handlers cuts now one.event) (refusal c now one.event))
       (unless_told now (after_event c one.handlers cuts now one.event) (refusal c now one.event) told (event_told one.handlers cuts now one.event told))
 
-  started_told : (h : Meanings) (those : List ℕ) (now : Standing) → Told now → Told (fold (λ now me. fated_start c h now me Whole) now those)
+  started_told : (h : Meanings) (those : List ℕ) (now : Standing) → EachKnows now → EachKnows (fold (λ now me. fated_start c h now me Whole) now those)
   started_told h [] now told = told
   started_told h (me ∷ those) now told = started_told h those (fated_start c h now me Whole) (fated_start_told h now me Whole told)
 
-  nothing_told : Told nothing_yet
+  nothing_told : EachKnows nothing_yet
   nothing_told me g n e h = cc
 
-  pub run_told : (first : Meanings) (cuts : Cuts) (events : List Happening) → Told (goes_on c cuts (opening c first) events)
+  pub run_told : (first : Meanings) (cuts : Cuts) (events : List Happening) → EachKnows (goes_on c cuts (opening c first) events)
   run_told first cuts events = goes_on_told cuts events (opening c first) (started_told first (nodes c) nothing_yet nothing_told)

@@ -1,5 +1,6 @@
 -- The writes that turn one list of rows into another.
 use Rattle.std.specs.Prelude.{◌≡◌, ℕ, if◌then◌else◌, Bool, false, List, [], ◌∷◌, ◌++◌, is_none, Option, Some, None}
+use Rattle.std.specs.List.{flat_map}
 use Rattle.mega_base.specs.declared.values.Row.{Row}
 use Rattle.mega_entry.specs.declared.content.Write.{Write}
 use Rattle.mega_row_writes.specs.Rows.{Listed, row_under}
@@ -20,16 +21,14 @@ abbrev pub gone_one : Listed → List ℕ × Row → List Write
 gone_one new e = if is_none (row_under new e.0) then record { key = e.0; row = None } ∷ [] else []
 
 abbrev pub gone : Listed → Listed → List Write
-gone new [] = []
-gone new (e ∷ es) = gone_one new e ++ gone new es
+gone new listed = flat_map (gone_one new) listed
 
 -- the write of an entry that is new or changed
 abbrev pub fresh_one : Listed → List ℕ × Row → List Write
 fresh_one old e = if is_row (row_under old e.0) e.1 then [] else record { key = e.0; row = Some e.1 } ∷ []
 
 abbrev pub fresh : Listed → Listed → List Write
-fresh old [] = []
-fresh old (e ∷ es) = fresh_one old e ++ fresh old es
+fresh old listed = flat_map (fresh_one old) listed
 
 -- deletions of entries that are gone, then entries that are new or changed, each in order of key
 abbrev pub turned : Listed → Listed → List Write

@@ -1,5 +1,5 @@
 -- Rows by their keys, and what writes make of them.
-use Rattle.std.specs.Prelude.{ℕ, Bool, cond, List, [], ◌∷◌, fold, Option, Some, None}
+use Rattle.std.specs.Prelude.{ℕ, Bool, cond, List, fold, Option, Some, None}
 use Rattle.std.specs.Ordering.{is_eq, nat_cmp}
 use Rattle.std.specs.declared.cmp.Ordering.{Ordering}
 use Rattle.std.specs.Cmp.Lexicographic.{slice_cmp}
@@ -35,8 +35,7 @@ written writes rows = fold changed rows writes
 
 -- the rows after the entries of a log, the oldest first
 abbrev pub after : List Content → Rows → Rows
-after [] rows = rows
-after (entry ∷ log) rows = after log (written entry.writes rows)
+after log rows = fold (λ (rows : Rows) (entry : Content). written entry.writes rows) rows log
 
 -- keys and their rows, in order of key
 abbrev pub Listed : Type 0
@@ -48,18 +47,13 @@ row_under listed key = lookup (λ other. same_key key other) listed
 
 -- the list after one write
 abbrev pub list_changed : Listed → Write → Listed
-list_changed listed write = put write.row
-  where
-    put : Option Row → Listed
-    put None = remove_entry (λ other. same_key write.key other) listed
-    put (Some row) = insert_entry key_cmp listed write.key row
+list_changed listed write =
+    elim write.row [ None ↦ remove_entry (λ other. same_key write.key other) listed | Some row ↦ insert_entry key_cmp listed write.key row ]
 
 -- the list after these writes, one after another
 abbrev pub list_written : List Write → Listed → Listed
-list_written [] listed = listed
-list_written (write ∷ writes) listed = list_written writes (list_changed listed write)
+list_written writes listed = fold list_changed listed writes
 
 -- the list after the entries of a log, the oldest first
 abbrev pub list_after : List Content → Listed → Listed
-list_after [] listed = listed
-list_after (entry ∷ log) listed = list_after log (list_written entry.writes listed)
+list_after log listed = fold (λ (listed : Listed) (entry : Content). list_written entry.writes listed) listed log

@@ -17,7 +17,6 @@ use Rattle.mega_outcome.specs.declared.answer.Done.{Done}
 use Rattle.mega_outcome.specs.declared.answer.Mark.{Mark}
 use Rattle.mega_outcome.specs.declared.answer.Shown.{Shown}
 use Rattle.mega_outcome.specs.declared.answer.Turn.{Turn}
-use Rattle.mega_outcome.specs.declared.request.Request.{Request}
 use Rattle.mega_outcome.specs.declared.request.Request.TheVariants.{Txn, Batch as BatchRequest, Read as ReadRequested, Find, PumpEnter, PumpHandle, Refresh}
 use Rattle.mega_outcome.specs.declared.request.ReadRequest.{ReadRequest}
 use Rattle.mega_outcome.specs.declared.request.FindRequest.{FindRequest}
@@ -32,7 +31,6 @@ use Rattle.mega_read.specs.of_propose.declared.round.Move.{Move as RoundMove}
 use Rattle.mega_read.specs.of_propose.Rounds.{asks}
 use Rattle.mega_read.specs.declared.reading.Reader.{Reader}
 use Rattle.mega_read.specs.declared.reading.Reading.{Reading}
-use Rattle.mega_read.specs.declared.reading.Stage.{Stage}
 use Rattle.mega_read.specs.declared.reading.Move.{Move as ReadMove}
 use Rattle.mega_read.specs.declared.reading.Stage.TheVariants.{Polling, Catching}
 use Rattle.mega_read.specs.Catching.{asked_by, local_read, polled_read, seeks, site}
@@ -50,21 +48,20 @@ use Rattle.mega_handler.specs.Effects.{handle_entry, handled}
 use Rattle.mega_handler.specs.Named.{effect_by, has, meaning}
 use Rattle.mega_schema.specs.declared.schema.Schema.{Schema}
 use Rattle.mega_base.specs.declared.values.Row.{Row}
-use Rattle.mega_outcome.specs.declared.transaction.RowRef.{RowRef}
 
 -- what happens to an operation
 
 abbrev pub keeps : Now → Operation → Now
-keeps now o = record { met = now.met; stored = now.stored; kept = now.kept ++ o ∷ []; valid = now.valid; answers = now.answers; sends = now.sends }
+keeps now o = record now { kept = now.kept ++ o ∷ [] }
 
 abbrev pub ends : Now → OpId → Answer → Now
-ends now op answer = record { met = now.met; stored = now.stored; kept = now.kept; valid = now.valid; answers = now.answers ++ Answers op answer ∷ []; sends = now.sends }
+ends now op answer = record now { answers = now.answers ++ Answers op answer ∷ [] }
 
 abbrev pub sends_more : Now → List Message → Now
-sends_more now sends = record { met = now.met; stored = now.stored; kept = now.kept; valid = now.valid; answers = now.answers; sends = now.sends ++ sends }
+sends_more now sends = record now { sends = now.sends ++ sends }
 
 abbrev pub in_phase : Operation → Phase → Operation
-in_phase o phase = record { id = o.id; request = o.request; began = o.began; visited = o.visited; message = o.message; phase = phase }
+in_phase o phase = record o { phase = phase }
 
 -- the logs of a node as far as they are applied, in order of group, and the positions of those that are not empty
 abbrev pub applied_in : Now → GroupId → Log
@@ -129,8 +126,7 @@ stored_with stored group count other = if same_group group other then count else
 
 abbrev pub validated_by : Now → GroupId → ℕ → Option NotValid → Now
 validated_by now group p (Some refusal) = now
-validated_by now group p None =
-    record { met = Validates group p ∷ now.met; stored = now.stored; kept = now.kept; valid = now.valid ++ Validates group p ∷ []; answers = now.answers; sends = now.sends }
+validated_by now group p None = record now { met = Validates group p ∷ now.met; valid = now.valid ++ Validates group p ∷ [] }
 
 abbrev pub validates : Setting → Now → GroupId → ℕ → Option Epoch → Now
 validates s now group p None = now
@@ -138,7 +134,7 @@ validates s now group p (Some noted) = validated_by now group p (refused_at s.cl
 
 abbrev pub completes_read : Setting → Now → GroupId → Reading → ℕ → Now
 completes_read s now group r p =
-    validates s (record { met = now.met; stored = stored_with now.stored group (after_read p (log_of now.met group) (now.stored group)); kept = now.kept; valid = now.valid; answers = now.answers; sends = now.sends })
+    validates s (record now { stored = stored_with now.stored group (after_read p (log_of now.met group) (now.stored group)) })
     group p r.noted
 
 -- a transaction's outcome on the rows through which it read (CIDR 2011, transactions)
@@ -161,11 +157,10 @@ rows_answer p (Ok rows) = ReadAnswer (record { 0 = p }) rows
 rows_answer p (Err turn) = Turned turn
 
 abbrev pub read_answer : Setting → ReadRequest → ℕ → Rows → Listed → Answer
-read_answer s request p rows listed = by request.rows
-  where
-    by : List RowRef → Answer
-    by [] = ReadAnswer (record { 0 = p }) (all_rows s.cluster.schema request.group listed)
-    by (row ∷ more) = rows_answer p (read_rows s.cluster.schema request.group (row ∷ more) rows)
+read_answer s request p rows listed = elim request.rows [
+  | [] ↦ ReadAnswer (record { 0 = p }) (all_rows s.cluster.schema request.group listed)
+  | row ∷ more ↦ rows_answer p (read_rows s.cluster.schema request.group (row ∷ more) rows)
+]
 
 -- a log that has reached its limit takes no further entry
 abbrev pub unless_full : Setting → Now → Operation → ℕ → Now → Now
@@ -194,8 +189,7 @@ read_begun s now o group asked =
     else polled_read (reader_of s o.id group) (serves_at s.cluster now.met) asked (clock_of now.met))
 
 abbrev pub visiting : Operation → GroupId → Option Enter → ReadMove → Operation
-visiting o group message t =
-    record { id = o.id; request = o.request; began = o.began; visited = o.visited ++ group ∷ []; message = message; phase = Reads group t.reading }
+visiting o group message t = record o { visited = o.visited ++ group ∷ []; message = message; phase = Reads group t.reading }
 
 abbrev pub reads_group : Setting → (Now → Operation → Now) → Now → Operation → GroupId → Option Enter → ReadMove → Now
 reads_group s again now o group message t = again (sends_more now t.sends) (visiting o group message t)
@@ -242,37 +236,34 @@ handles s again now o group r p (Some message) = handles_message s now o group r
 
 -- what an operation does whose current read through a position is complete
 abbrev pub finishes : Setting → (Now → Operation → Now) → Now → Operation → GroupId → Reading → ℕ → Now
-finishes s again now o group r p = by o.request
-  where
-    by : Request → Now
-    by (Txn transaction) = unless_full s now o p (sealed s now o group r p (outcome s.cluster.schema transaction (rows_at now group p)))
-    by (BatchRequest own transactions) = unless_full s now o p (batch_sealed s now o group r p (batch_outcome s.cluster.schema own transactions (rows_at now group p)))
-    by (ReadRequested request) = ends now o.id (read_answer s request p (rows_at now group p) (listed_at now group p))
-    by (Find request) = ends now o.id (local_found s.cluster.schema request p (listed_at now group p))
-    by PumpEnter = unless_full s now o p (enters s again now o group r p o.message)
-    by PumpHandle = unless_full s now o p (handles s again now o group r p (oldest_unhandled (take p (log_of now.met group))))
-    by Refresh = keeps now o
+finishes s again now o group r p = elim o.request [
+  | Txn transaction ↦ unless_full s now o p (sealed s now o group r p (outcome s.cluster.schema transaction (rows_at now group p)))
+  | BatchRequest own transactions ↦ unless_full s now o p (batch_sealed s now o group r p (batch_outcome s.cluster.schema own transactions (rows_at now group p)))
+  | ReadRequested request ↦ ends now o.id (read_answer s request p (rows_at now group p) (listed_at now group p))
+  | Find request ↦ ends now o.id (local_found s.cluster.schema request p (listed_at now group p))
+  | PumpEnter ↦ unless_full s now o p (enters s again now o group r p o.message)
+  | PumpHandle ↦ unless_full s now o p (handles s again now o group r p (oldest_unhandled (take p (log_of now.met group))))
+  | Refresh ↦ keeps now o
+]
 
 -- a read goes on once all positions through its own are decided, and else seeks the least that is not
 abbrev pub seeks_on : Operation → Now → GroupId → ReadMove → Now
 seeks_on o now group t = keeps (sends_more now t.sends) (in_phase o (Reads group t.reading))
 
 abbrev pub reads_on : Setting → (Now → Operation → Now) → Now → Operation → GroupId → Reading → Now
-reads_on s again now o group r = by r.stage
-  where
-    by : Stage → Now
-    by (Polling heard best sent) = keeps now o
-    by (Catching p search) =
-        if nat_le p (prefix_of now.met group)
-        then finishes s again (completes_read s now group r p) o group r p
-        else seeks_on o now group (seeks (reader_of s o.id group) r (prefix_of now.met group + 1) (clock_of now.met))
+reads_on s again now o group r = elim r.stage [
+  | Polling heard best sent ↦ keeps now o
+  | Catching p search ↦
+      if nat_le p (prefix_of now.met group)
+      then finishes s again (completes_read s now group r p) o group r p
+      else seeks_on o now group (seeks (reader_of s o.id group) r (prefix_of now.met group + 1) (clock_of now.met))
+]
 
 abbrev pub acts : Setting → (Now → Operation → Now) → Now → Operation → Now
-acts s again now o = by o.phase
-  where
-    by : Phase → Now
-    by (Reads group r) = reads_on s again now o group r
-    by (Proposes group n asked proposal promised) = unless_decided now o n promised (decided now.met group n)
+acts s again now o = elim o.phase [
+  | Reads group r ↦ reads_on s again now o group r
+  | Proposes group n asked proposal promised ↦ unless_decided now o n promised (decided now.met group n)
+]
 
 -- a pump may pick again within a step, each time another group with entries that it reads locally, so at most as often as there are such
 -- groups: the last case is never reached

@@ -1,6 +1,7 @@
 -- When a node is up, its clock, and what it does at some ticks only.
 use Rattle.std.specs.Prelude.{ℕ, ◌+◌, min, Bool, true, false, if◌then◌else◌, nat_le, List, [], ◌∷◌, Option, Some, None, unwrap_or}
 use Rattle.mega_rules.specs.Met.{Met, Starts, Crashes, Ticks, Takes, Begins}
+pub use Rattle.mega_base.specs.Names.{greatest_u32 as last_number}
 
 -- a node is up from a start to its next crash
 abbrev pub is_up : List Met → Bool
@@ -57,9 +58,6 @@ begun_of [] = 0
 begun_of (Starts start ∷ before) = 0
 begun_of (Begins op text ∷ before) = begun_of before + 1
 begun_of (_ ∷ before) = begun_of before
-
-abbrev pub last_number : ℕ
-last_number = 4294967295
 
 abbrev pub next_number : List Met → ℕ
 next_number met = min (begun_of met + 1) last_number

@@ -11,7 +11,7 @@ use Rattle.mega_coordinator.specs.declared.answers.Counted.TheVariants.{No, Yes,
 use Rattle.mega_coordinator.specs.declared.answers.NotValid.{NotValid}
 use Rattle.mega_coordinator.specs.declared.answers.Ticked.{Ticked}
 use Rattle.mega_coordinator.specs.Lease.{counted_by, granted_answer}
-use Rattle.mega_coordinator.specs.History.{Call, Ticks as Told, Grants as Grant, Passes, Invalidates as Invalid, Validates as Valid, counted_cells, epoch_after, is_valid, lease_of, refused, serving, ticked}
+use Rattle.mega_coordinator.specs.History.{Call, Ticks as CoordinatorTicks, Grants as Grant, Passes, Invalidates as Invalid, Validates as Valid, counted_cells, epoch_after, is_valid, lease_of, refused, serving, ticked}
 use Rattle.mega_rules.specs.Met.{Met, Starts, Ticks, Takes, Counts, Forgets, Serves, Loses, Validates, Invalidates}
 use Rattle.mega_rules.specs.Clock.{clock_of, does_again, start_of, ticks_of}
 use Rattle.mega_rules.specs.Members.{cells, is_full}
@@ -32,7 +32,7 @@ validated group position (Some epoch) = Valid group position epoch ∷ []
 abbrev pub coordinator_calls : Cluster → List Met → List Call
 coordinator_calls c [] = []
 coordinator_calls c (Starts start ∷ before) = []
-coordinator_calls c (Ticks now ∷ before) = Told now ∷ coordinator_calls c before
+coordinator_calls c (Ticks now ∷ before) = CoordinatorTicks now ∷ coordinator_calls c before
 coordinator_calls c (Takes message ∷ before) = told_by c (clock_of before) message.body ++ coordinator_calls c before
 coordinator_calls c (Validates group position ∷ before) =
     validated group position (serving (start_of before) c.cells (coordinator_calls c before)) ++ coordinator_calls c before
@@ -97,5 +97,5 @@ acquires c me calls start now (Some epoch) =
 abbrev pub acquires_at : Cluster → ℕ → List Met → ℕ → List Message
 acquires_at c me met now =
     if is_full c me && does_again c.retry (ticks_of met) now
-    then acquires c me (Told now ∷ coordinator_calls c met) (start_of met) now (epoch_after (start_of met) c.cells (Told now ∷ coordinator_calls c met))
+    then acquires c me (CoordinatorTicks now ∷ coordinator_calls c met) (start_of met) now (epoch_after (start_of met) c.cells (CoordinatorTicks now ∷ coordinator_calls c met))
     else []

@@ -1,5 +1,5 @@
 -- What the worked examples are about: three full nodes, and a put of one user.
-use Rattle.std.specs.Prelude.{ℕ, pos, Bool, true, false, List, [], ◌∷◌, ◌++◌, map, length, Option, Some, None, codes}
+use Rattle.std.specs.Prelude.{ℕ, pos, Bool, true, false, List, [], ◌∷◌, ◌++◌, map, length, Option, Some, codes}
 use Rattle.mega_base.specs.declared.names.Epoch.{Epoch}
 use Rattle.mega_base.specs.declared.names.GroupId.{GroupId}
 use Rattle.mega_base.specs.declared.names.OpId.{OpId}
@@ -84,9 +84,6 @@ entry_of node = record {
   handles = [];
   cuts = [];
 }
-
-abbrev pub no_op_of : ℕ → Content
-no_op_of node = record { id = None; leader = record { 0 = node }; writes = []; sends = []; enters = []; handles = []; cuts = [] }
 
 abbrev pub from_to : ℕ → ℕ → Body → Message
 from_to from to body = record { from = from; to = to; body = body }

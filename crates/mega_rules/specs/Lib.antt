@@ -2,6 +2,7 @@ pub mod Met
 pub mod Members
 pub mod Clock
 pub mod Voting
+pub mod Kept
 pub mod Logs
 pub mod Locks
 pub mod Coordinators

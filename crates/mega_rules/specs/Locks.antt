@@ -8,7 +8,7 @@ use Rattle.mega_read.specs.of_wire.declared.message.Message.{Message}
 use Rattle.mega_read.specs.of_wire.declared.message.Body.{Body}
 use Rattle.mega_read.specs.of_wire.declared.message.Body.TheVariants.{Acquire, Dead, Granted as GrantedBody, Held, Past, Unheld}
 use Rattle.mega_locks.specs.declared.asked.Asked.{Asked}
-use Rattle.mega_locks.specs.declared.asked.Asked.TheVariants.{Granted, Renewed, Taken, Over}
+use Rattle.mega_locks.specs.declared.asked.Asked.TheVariants.{Granted, GreaterHeld, Over}
 use Rattle.mega_locks.specs.History.{Call, Reopens, Asks, Ticks as CellTicks, held_for, lapse_for, lock_of, nodes}
 use Rattle.mega_locks.specs.Rule.{answer}
 use Rattle.mega_replica.specs.of_wal.History.{after_grant, after_lapse}
@@ -32,11 +32,8 @@ abbrev pub reopenings : List Met → List Call
 reopenings met = flat_map (λ node. reopening node (last_grant met node)) nodes
 
 abbrev pub asked_in : Cluster → ℕ → ℕ → Message → List Call
-asked_in c me now message = by message.body
-  where
-    by : Body → List Call
-    by (Acquire cell epoch clock) = if cell == me && is_cell c me then Asks message.from epoch now (keep_of c) ∷ [] else []
-    by _ = []
+asked_in c me now message =
+    elim message.body [ Acquire cell epoch clock ↦ if cell == me && is_cell c me then Asks message.from epoch now (keep_of c) ∷ [] else [] | _ ↦ [] ]
 
 -- what a start shows of a step that was cut before it
 abbrev pub if_opening : List Met → Call → List Call
@@ -59,15 +56,12 @@ held_at c me met node = held_for (cell_calls c me met) node
 -- a node that asks for an epoch: it is granted, renewed, or past
 abbrev pub grant_note : ℕ → Epoch → Asked → List Met
 grant_note node epoch Granted = Grants node epoch ∷ []
-grant_note node epoch Renewed = []
-grant_note node epoch (Taken greatest) = []
-grant_note node epoch (Over greatest) = []
+grant_note node epoch _ = []
 
 abbrev pub lock_answer : ℕ → Epoch → ℕ → Asked → Body
-lock_answer cell epoch clock Granted = GrantedBody cell epoch clock
-lock_answer cell epoch clock Renewed = GrantedBody cell epoch clock
-lock_answer cell epoch clock (Taken greatest) = Past cell epoch greatest
+lock_answer cell epoch clock (GreaterHeld greatest) = Past cell epoch greatest
 lock_answer cell epoch clock (Over greatest) = Past cell epoch greatest
+lock_answer cell epoch clock _ = GrantedBody cell epoch clock
 
 abbrev pub asked_for : Cluster → ℕ → List Met → ℕ → Epoch → Asked
 asked_for c me met node epoch = answer (lock_of (cell_calls c me met) node) epoch

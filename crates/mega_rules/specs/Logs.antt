@@ -1,21 +1,19 @@
 -- What a node decided: its logs, group by group.
-use Rattle.std.specs.Prelude.{ℕ, zero, suc, ◌+◌, ◌==◌, ◌&&◌, max, Bool, true, false, if◌then◌else◌, List, [], ◌∷◌, length, Option, Some, None}
-use Rattle.std.specs.Ordering.{nat_cmp, is_lt}
-use Rattle.std.specs.Cmp.Lexicographic.{slice_cmp}
+use Rattle.std.specs.Prelude.{ℕ, zero, suc, ◌+◌, ◌==◌, ◌&&◌, max, Bool, true, false, if◌then◌else◌, List, [], ◌∷◌, length, Option, None}
+use Rattle.std.specs.Ordering.{is_lt}
 use Rattle.mega_base.specs.declared.names.GroupId.{GroupId}
+pub use Rattle.mega_base.specs.ListWords.{then_more}
+use Rattle.mega_base.specs.NameOrder.{group_cmp}
 use Rattle.mega_ballot.specs.declared.ballot.Ballot.{Ballot}
 use Rattle.mega_entry.specs.declared.content.Content.{Content}
 use Rattle.mega_read.specs.of_wire.declared.message.Message.{Message}
 use Rattle.mega_read.specs.of_wire.declared.message.Body.{Body}
 use Rattle.mega_read.specs.of_wire.declared.message.Body.TheVariants.{Accepted}
 use Rattle.mega_replica.specs.of_wal.Same.{same_group}
+pub use Rattle.mega_replica.specs.of_wal.History.{first_of}
 use Rattle.mega_rules.specs.Met.{Met, Decides, Sends, Unsends}
 
 -- the entry that was decided at a position first
-abbrev pub first_of : Option Content → Content → Option Content
-first_of None entry = Some entry
-first_of (Some decided) entry = Some decided
-
 abbrev pub decided : List Met → GroupId → ℕ → Option Content
 decided [] group n = None
 decided (Decides g position entry ∷ before) group n =
@@ -23,10 +21,6 @@ decided (Decides g position entry ∷ before) group n =
 decided (_ ∷ before) group n = decided before group n
 
 -- the entries from a position on, up to the first that is not decided
-abbrev pub then_more : Option Content → List Content → List Content
-then_more None more = []
-then_more (Some entry) more = entry ∷ more
-
 abbrev pub decided_from : List Met → GroupId → ℕ → ℕ → List Content
 decided_from met group zero n = []
 decided_from met group (suc most) n = then_more (decided met group n) (decided_from met group most (n + 1))
@@ -58,7 +52,7 @@ top_of (_ ∷ before) group = top_of before group
 
 -- the groups with a decided position, in order of their keys
 abbrev pub is_group_before : GroupId → GroupId → Bool
-is_group_before a b = is_lt (slice_cmp nat_cmp a.key b.key)
+is_group_before a b = is_lt (group_cmp a b)
 
 abbrev pub with_group : GroupId → List GroupId → List GroupId
 with_group group [] = group ∷ []

@@ -1,5 +1,5 @@
 -- The members of a cluster: its nodes by number, and what each kind does (CIDR 2011, replica types).
-use Rattle.std.specs.Prelude.{ℕ, ◌+◌, ◌*◌, ◌-◌, Bool, true, false, nat_le, nat_lt, ◌&&◌, ◌||◌, List, [], ◌∷◌, length, filter, slice_get, Option, Some, None}
+use Rattle.std.specs.Prelude.{ℕ, ◌+◌, ◌*◌, ◌-◌, Bool, true, false, nat_le, nat_lt, ◌&&◌, ◌||◌, List, [], ◌∷◌, length, filter, slice_get, Option, Some}
 use Rattle.std.specs.List.{range_with_len}
 use Rattle.mega_base.specs.declared.values.NodeKind.{NodeKind}
 use Rattle.mega_base.specs.declared.values.NodeKind.TheVariants.{Full, Witness, Read}
@@ -17,21 +17,17 @@ is_node c node = nat_le 1 node && nat_le node (length c.nodes)
 
 abbrev pub runs : Option NodeKind → Bool
 runs (Some Full) = true
-runs (Some Witness) = false
-runs (Some Read) = false
-runs None = false
+runs _ = false
 
 abbrev pub votes : Option NodeKind → Bool
 votes (Some Full) = true
 votes (Some Witness) = true
-votes (Some Read) = false
-votes None = false
+votes _ = false
 
 abbrev pub keeps_rows : Option NodeKind → Bool
 keeps_rows (Some Full) = true
-keeps_rows (Some Witness) = false
 keeps_rows (Some Read) = true
-keeps_rows None = false
+keeps_rows _ = false
 
 -- a full node runs transactions, reads and pumps, and has a coordinator
 abbrev pub is_full : Cluster → ℕ → Bool

@@ -1,5 +1,5 @@
 -- Queue messages in the logs of a node: what is sent, entered and handled, and which one a pump picks (CIDR 2011, queues).
-use Rattle.std.specs.Prelude.{ℕ, ◌+◌, ◌&&◌, Bool, true, false, not, if◌then◌else◌, nat_le, List, [], ◌∷◌, ◌++◌, length, map, filter, find, flat_map, Option, Some, None}
+use Rattle.std.specs.Prelude.{ℕ, ◌+◌, ◌&&◌, Bool, not, if◌then◌else◌, nat_le, List, [], ◌∷◌, ◌++◌, length, map, filter, find, flat_map, Option, option_map, is_some}
 use Rattle.std.specs.List.{list_any}
 use Rattle.mega_base.specs.declared.names.GroupId.{GroupId}
 use Rattle.mega_base.specs.declared.names.OpId.{OpId}
@@ -7,7 +7,7 @@ use Rattle.mega_entry.specs.declared.content.Content.{Content}
 use Rattle.mega_entry.specs.declared.content.Enter.{Enter}
 use Rattle.mega_entry.specs.declared.content.Name.{Name}
 use Rattle.mega_entry.specs.declared.content.Send.{Send}
-use Rattle.mega_entry.specs.Entries.{entry_text}
+use Rattle.mega_entry.specs.Entries.{entry_text, entry_by}
 use Rattle.mega_replica.specs.of_wal.Same.{same_group, same_name}
 
 -- a message on its way: to whom it was sent, and what its receiver enters
@@ -55,7 +55,7 @@ entries_of group (log ∷ logs) = if same_group log.group group then log.entries
 
 -- the entry that enters a message
 abbrev pub enter_entry : OpId → Enter → Content
-enter_entry op message = record { id = Some op; leader = op.node; writes = []; sends = []; enters = message ∷ []; handles = []; cuts = [] }
+enter_entry op message = record (entry_by op) { enters = message ∷ [] }
 
 -- an entry has at most 32,768 bytes
 abbrev pub is_short : Content → Bool
@@ -75,15 +75,7 @@ oldest_unhandled entries = find (λ (enter : Enter). not (is_named enter.name (h
 
 -- the least group that has one
 abbrev pub has_unhandled : Log → Bool
-has_unhandled log = some (oldest_unhandled log.entries)
-  where
-    some : Option Enter → Bool
-    some None = false
-    some (Some enter) = true
+has_unhandled log = is_some (oldest_unhandled log.entries)
 
 abbrev pub next_to_handle : List Log → Option GroupId
-next_to_handle logs = group (find has_unhandled logs)
-  where
-    group : Option Log → Option GroupId
-    group None = None
-    group (Some log) = Some log.group
+next_to_handle logs = option_map (λ (log : Log). log.group) (find has_unhandled logs)

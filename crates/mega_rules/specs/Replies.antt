@@ -7,7 +7,7 @@ use Rattle.mega_cluster.specs.declared.cluster.Cluster.{Cluster}
 use Rattle.mega_entry.specs.declared.content.Content.{Content}
 use Rattle.mega_read.specs.of_wire.declared.message.Message.{Message}
 use Rattle.mega_read.specs.of_wire.declared.message.Body.{Body}
-use Rattle.mega_read.specs.of_wire.declared.message.Body.TheVariants.{Where, Top, Accept, Accepted, Refused, Prepare, Promise, Invalidate, Invalidated, Dead, Held, Unheld, Decide, Fetch, Have, HaveNot, Acquire, Granted, Past, Request, Reply}
+use Rattle.mega_read.specs.of_wire.declared.message.Body.TheVariants.{Where, Top, Accept, Prepare, Invalidate, Invalidated, Dead, Fetch, Have, HaveNot, Acquire}
 use Rattle.mega_rules.specs.Met.{Met}
 use Rattle.mega_rules.specs.Members.{is_cell, is_full, is_voter}
 use Rattle.mega_rules.specs.Voting.{acts, prepared, voted}
@@ -32,20 +32,7 @@ answer_to c me met from (Fetch op group position) = where_served (is_voter c me)
 answer_to c me met from (Invalidate op group position) = where_served (is_full c me) (Invalidated op group position)
 answer_to c me met from (Dead op cell node) = where_served (cell == me && is_cell c me) (held_answer op cell node (held_at c me met node.0))
 answer_to c me met from (Acquire cell epoch clock) = where_served (cell == me && is_cell c me) (lock_answer cell epoch clock (asked_for c me met from epoch))
-answer_to c me met from (Top op group position) = None
-answer_to c me met from (Accepted op group position ballot entry) = None
-answer_to c me met from (Refused op group position asked shown entry) = None
-answer_to c me met from (Promise op group position ballot vote) = None
-answer_to c me met from (Invalidated op group position) = None
-answer_to c me met from (Held op cell node) = None
-answer_to c me met from (Unheld op cell node) = None
-answer_to c me met from (Decide group position entry) = None
-answer_to c me met from (Have op group position entry) = None
-answer_to c me met from (HaveNot op group position) = None
-answer_to c me met from (Granted cell epoch clock) = None
-answer_to c me met from (Past cell epoch greatest) = None
-answer_to c me met from (Request token json) = None
-answer_to c me met from (Reply token text) = None
+answer_to c me met from _ = None
 
 -- a reply goes to the sender of its request
 abbrev pub reply_message : ℕ → ℕ → Option Body → List Message

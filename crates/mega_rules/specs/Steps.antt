@@ -1,9 +1,11 @@
 -- One step of a node: what it notes and sends for a tick, a message that it takes, or a request that begins, and what it is then.
-use Rattle.std.specs.Prelude.{ℕ, ◌+◌, ◌-◌, ◌==◌, ◌&&◌, Bool, true, false, if◌then◌else◌, nat_le, nat_lt, List, [], ◌∷◌, ◌++◌, length, map, flat_map, fold, Option, Some, None, is_none, is_some}
+use Rattle.std.specs.Prelude.{ℕ, ◌+◌, ◌-◌, ◌==◌, ◌&&◌, Bool, true, false, if◌then◌else◌, nat_le, nat_lt, List, [], ◌∷◌, ◌++◌, length, map, flat_map, fold, Option, Some, None, is_none, is_some, option_map, option_and_then}
+use Rattle.std.specs.Option.{option_or}
 use Rattle.mega_base.specs.declared.names.GroupId.{GroupId}
 use Rattle.mega_base.specs.declared.names.OpId.{OpId}
 use Rattle.mega_base.specs.declared.values.NodeKind.{NodeKind}
-use Rattle.mega_base.specs.declared.values.NodeKind.TheVariants.{Full, Witness, Read as ReadOnly}
+use Rattle.mega_base.specs.declared.values.NodeKind.TheVariants.{Witness, Read as ReadOnly}
+pub use Rattle.mega_base.specs.ListWords.{onto}
 use Rattle.mega_cluster.specs.declared.cluster.Cluster.{Cluster}
 use Rattle.mega_entry.specs.declared.content.Content.{Content}
 use Rattle.mega_read.specs.of_wire.declared.message.Message.{Message}
@@ -34,7 +36,7 @@ use Rattle.mega_rules.specs.Logs.{decided, groups_of, log_of, newest_of, prefix_
 use Rattle.mega_rules.specs.Locks.{asked_for, grant_note, lapses_at}
 use Rattle.mega_rules.specs.Coordinators.{acquires_at, grant_notes, tick_notes}
 use Rattle.mega_rules.specs.Replies.{reply_to}
-use Rattle.mega_rules.specs.Operations.{Node, Now, Operation, Phase, Promised, Proposes, Reads, Setting}
+use Rattle.mega_rules.specs.Operations.{Node, Now, Operation, Promised, Proposes, Reads, Setting}
 use Rattle.mega_rules.specs.Acting.{applied_marks, begins_read, ends, goes_on, in_phase, keeps, listed_at, picks_to_enter, picks_to_handle, read_answer, reader_of, rows_at, sends_more, stored_with}
 use Rattle.mega_rules.specs.Finding.{global_found, local_found}
 
@@ -49,11 +51,6 @@ pub record Step : Type 0 where
   pub notes : List Met
   pub sends : List Message
   pub node : Node
-
--- the items onto what a node met, the oldest first
-abbrev pub onto : List Met → List Met → List Met
-onto [] met = met
-onto (one ∷ more) met = onto more (one ∷ met)
 
 -- what a message tells the cell and the coordinator of its receiver
 
@@ -78,19 +75,17 @@ round_heard o group n asked promised t = record { operation = in_phase o (Propos
 
 -- each open operation hears a message
 abbrev pub hears_message : Setting → ℕ → Message → Operation → Heard
-hears_message s now m o = by o.phase
-  where
-    by : Phase → Heard
-    by (Reads group r) = read_heard o group (hears (reader_of s o.id group) r m.from now m.body)
-    by (Proposes group n asked p promised) = round_heard o group n asked promised (takes (site (reader_of s o.id group) asked n) p m.from now m.body)
+hears_message s now m o = elim o.phase [
+  | Reads group r ↦ read_heard o group (hears (reader_of s o.id group) r m.from now m.body)
+  | Proposes group n asked p promised ↦ round_heard o group n asked promised (takes (site (reader_of s o.id group) asked n) p m.from now m.body)
+]
 
 -- each open operation does what is due at a tick
 abbrev pub does_due : Setting → ℕ → Operation → Heard
-does_due s now o = by o.phase
-  where
-    by : Phase → Heard
-    by (Reads group r) = read_heard o group (falls_due (reader_of s o.id group) r s.cluster.retry now)
-    by (Proposes group n asked p promised) = round_heard o group n asked promised (due (site (reader_of s o.id group) asked n) p s.cluster.retry now)
+does_due s now o = elim o.phase [
+  | Reads group r ↦ read_heard o group (falls_due (reader_of s o.id group) r s.cluster.retry now)
+  | Proposes group n asked p promised ↦ round_heard o group n asked promised (due (site (reader_of s o.id group) asked n) p s.cluster.retry now)
+]
 
 -- a decision at a position of a group
 pub record Decision : Type 0 where
@@ -100,27 +95,18 @@ pub record Decision : Type 0 where
 
 -- the entry that an operation settled in this step
 abbrev pub decision_at : GroupId → ℕ → Option Content → Option Decision
-decision_at group n None = None
-decision_at group n (Some entry) = Some (record { group = group; position = n; entry = entry })
+decision_at group n entry = option_map (λ (entry : Content). record { group = group; position = n; entry = entry }) entry
 
 abbrev pub read_decision : GroupId → Option (ℕ × Content) → Option Decision
-read_decision group None = None
-read_decision group (Some found) = Some (record { group = group; position = found.0; entry = found.1 })
+read_decision group found = option_map (λ (found : ℕ × Content). record { group = group; position = found.0; entry = found.1 }) found
 
 abbrev pub settled_by : Operation → Option Decision
-settled_by o = by o.phase
-  where
-    by : Phase → Option Decision
-    by (Reads group r) = read_decision group (read_settled r)
-    by (Proposes group n asked p promised) = decision_at group n (settled p)
+settled_by o =
+    elim o.phase [ Reads group r ↦ read_decision group (read_settled r) | Proposes group n asked p promised ↦ decision_at group n (settled p) ]
 
 abbrev pub first_settled : List Heard → Option Decision
 first_settled [] = None
-first_settled (t ∷ ts) = or (settled_by t.operation) (first_settled ts)
-  where
-    or : Option Decision → Option Decision → Option Decision
-    or None other = other
-    or (Some d) other = Some d
+first_settled (t ∷ ts) = option_or (settled_by t.operation) (first_settled ts)
 
 -- what a message tells of a decision by itself
 abbrev pub told_decision : Body → Option Decision
@@ -130,8 +116,7 @@ told_decision _ = None
 
 -- a decision counts where its node had not decided the position
 abbrev pub if_new : List Met → Option Decision → Option Decision
-if_new met None = None
-if_new met (Some d) = if is_none (decided met d.group d.position) then Some d else None
+if_new met d = option_and_then (λ (d : Decision). if is_none (decided met d.group d.position) then Some d else None) d
 
 abbrev pub decision_note : Option Decision → List Met
 decision_note None = []
@@ -162,8 +147,7 @@ apply_note was was_stored met stored group =
     if nat_lt (applied_at was was_stored group) (applied_at met stored group) then Applies group (applied_at met stored group) ∷ [] else []
 
 abbrev pub apply_notes : Setting → List Met → (GroupId → ℕ) → List Met → (GroupId → ℕ) → List Met
-apply_notes s was was_stored met stored =
-    if has_rows s.cluster s.me then flat_map (apply_note was was_stored met stored) (groups_of met) else []
+apply_notes s was was_stored met stored = if has_rows s.cluster s.me then flat_map (apply_note was was_stored met stored) (groups_of met) else []
 
 -- the operations act one after another, each on what those before it left
 abbrev pub at_first : List Met → (GroupId → ℕ) → Now
@@ -192,22 +176,18 @@ step_of node own locks durable applies sends now =
 -- a message is taken
 
 abbrev pub taken : Setting → Node → Message → List Met → List Heard → Option Decision → List Message → List Message → Step
-taken s node m told ts d reply told_news = ended (all_act s (at_first (met d) (stored_after s (met d) node.stored d)) ts)
-  where
-    met : Option Decision → List Met
-    met d = onto (decision_note d) (onto told (Takes m ∷ node.met))
-
-    ended : Now → Step
-    ended now = step_of node (Takes m) told (decision_note d) (apply_notes s node.met node.stored now.met now.stored) ((reply ++ told_news) ++ now.sends) now
+taken s node m told ts d reply told_news =
+    let met = onto (decision_note d) (onto told (Takes m ∷ node.met)) in
+    let now = all_act s (at_first met (stored_after s met node.stored d)) ts in
+    step_of node (Takes m) told (decision_note d) (apply_notes s node.met node.stored now.met now.stored) ((reply ++ told_news) ++ now.sends) now
 
 abbrev pub take_with : Setting → Node → Message → List Heard → Step
-take_with s node m ts = by (told_decision m.body)
-  where
-    by : Option Decision → Step
-    by (Some d) = taken s node m (told_notes s node.met m.from m.body) ts (if_new node.met (Some d)) (reply_to s.cluster s.me node.met m) []
-    by None =
-        taken s node m (told_notes s node.met m.from m.body) ts (if_new node.met (first_settled ts)) (reply_to s.cluster s.me node.met m)
-        (news s (if_new node.met (first_settled ts)))
+take_with s node m ts = elim (told_decision m.body) [
+  | Some d ↦ taken s node m (told_notes s node.met m.from m.body) ts (if_new node.met (Some d)) (reply_to s.cluster s.me node.met m) []
+  | None ↦
+      taken s node m (told_notes s node.met m.from m.body) ts (if_new node.met (first_settled ts)) (reply_to s.cluster s.me node.met m)
+      (news s (if_new node.met (first_settled ts)))
+]
 
 abbrev pub take_step : Setting → Node → Message → Step
 take_step s node m = take_with s node m (map (hears_message s (clock_of node.met) m) node.open_operations)
@@ -219,11 +199,7 @@ is_out s now o = nat_le (o.began + s.cluster.patience) now
 
 -- whether the value of an operation was sent: its own accept is out
 abbrev pub last_answer : Operation → Answer
-last_answer o = by o.phase
-  where
-    by : Phase → Answer
-    by (Reads group r) = TimedOut
-    by (Proposes group n asked p promised) = Unknown
+last_answer o = elim o.phase [ Reads group r ↦ TimedOut | Proposes group n asked p promised ↦ Unknown ]
 
 abbrev pub ticked : Setting → ℕ → Now → Operation → Now
 ticked s now acc o = if is_out s now o then ends acc o.id (last_answer o) else acts_in_turn s acc (does_due s now o)
@@ -250,16 +226,11 @@ abbrev pub lease_notes : Setting → List Met → ℕ → List Met
 lease_notes s met now = if is_full s.cluster s.me then tick_notes s.cluster met now else []
 
 abbrev pub tick_step : Setting → Node → ℕ → Step
-tick_step s node now = ended (fold (ticked s now) (at_first met (portion_of s node.met node.stored)) node.open_operations)
-  where
-    met : List Met
-    met = onto (lapse_notes s node.met now) (onto (lease_notes s node.met now) (Ticks now ∷ node.met))
-
-    ended : Now → Step
-    ended acc =
-        step_of node (Ticks now) (lease_notes s node.met now) (lapse_notes s node.met now)
-        (apply_notes s node.met node.stored acc.met acc.stored)
-        ((acquires_at s.cluster s.me node.met now ++ acc.sends) ++ background s node.met now) acc
+tick_step s node now =
+    let met = onto (lapse_notes s node.met now) (onto (lease_notes s node.met now) (Ticks now ∷ node.met)) in
+    let acc = fold (ticked s now) (at_first met (portion_of s node.met node.stored)) node.open_operations in
+    step_of node (Ticks now) (lease_notes s node.met now) (lapse_notes s node.met now) (apply_notes s node.met node.stored acc.met acc.stored)
+    ((acquires_at s.cluster s.me node.met now ++ acc.sends) ++ background s node.met now) acc
 
 -- a request begins: it may be refused at once, answered at once, or become an open operation
 
@@ -270,8 +241,7 @@ new_operation op request now =
 
 abbrev pub is_current : Mode → Bool
 is_current Current = true
-is_current Snapshot = false
-is_current Inconsistent = false
+is_current _ = false
 
 -- a node begins an operation as worn, where it cannot name any more in this start; as not here, where its kind does not serve it; as
 -- busy, where 64 are open
@@ -279,19 +249,15 @@ abbrev pub is_worn : List Met → Bool
 is_worn met = nat_le (last_number - 1) (begun_of met)
 
 abbrev pub needs_full : Request → Bool
-needs_full (Txn transaction) = true
-needs_full (Batch group transactions) = true
 needs_full (Read request) = is_current request.mode
 needs_full (Find request) = is_current request.mode
-needs_full PumpEnter = true
-needs_full PumpHandle = true
 needs_full Refresh = false
+needs_full _ = true
 
 abbrev pub missing_kind : Request → Option NodeKind → Option NodeKind
-missing_kind request (Some Full) = None
 missing_kind request (Some Witness) = Some Witness
 missing_kind request (Some ReadOnly) = if needs_full request then Some ReadOnly else None
-missing_kind request None = None
+missing_kind request _ = None
 
 abbrev pub unless_busy : List Operation → Option Answer
 unless_busy open_ones = if nat_le 64 (length open_ones) then Some (Busy 64) else None
@@ -336,16 +302,15 @@ find_begins s now o request (Some group) = local_find_begins s now o request gro
 
 -- what an operation does in the step in which it begins
 abbrev pub begins : Setting → Now → Operation → Now
-begins s now o = by o.request
-  where
-    by : Request → Now
-    by (Txn transaction) = begins_read s (goes_on s) now o transaction.group None []
-    by (Batch group transactions) = begins_read s (goes_on s) now o group None []
-    by (Read request) = read_begins s now o request request.mode
-    by (Find request) = find_begins s now o request request.group
-    by PumpEnter = picks_to_enter s (goes_on s) now o []
-    by PumpHandle = picks_to_handle s (goes_on s) now o []
-    by Refresh = ends now o.id (Refreshed (applied_marks now))
+begins s now o = elim o.request [
+  | Txn transaction ↦ begins_read s (goes_on s) now o transaction.group None []
+  | Batch group transactions ↦ begins_read s (goes_on s) now o group None []
+  | Read request ↦ read_begins s now o request request.mode
+  | Find request ↦ find_begins s now o request request.group
+  | PumpEnter ↦ picks_to_enter s (goes_on s) now o []
+  | PumpHandle ↦ picks_to_handle s (goes_on s) now o []
+  | Refresh ↦ ends now o.id (Refreshed (applied_marks now))
+]
 
 abbrev pub unless_refused : Setting → Now → Operation → Option Answer → Now
 unless_refused s now o None = begins s now o
@@ -353,19 +318,17 @@ unless_refused s now o (Some answer) = ends now o.id answer
 
 -- the operations that are open already stay as they are
 abbrev pub at_open : Now → List Operation → Now
-at_open now open_ones = record { met = now.met; stored = now.stored; kept = open_ones; valid = now.valid; answers = now.answers; sends = now.sends }
+at_open now open_ones = record now { kept = open_ones }
 
 abbrev pub op_of : Setting → List Met → OpId
 op_of s met = record { node = record { 0 = s.me }; start = start_of met; number = next_number met }
 
 abbrev pub begin_step : Setting → Node → Request → List ℕ → Step
-begin_step s node request text = ended (unless_refused s (at_open (at_first (own ∷ node.met) node.stored) node.open_operations) (new_operation (op_of s node.met) request (clock_of node.met)) (refusal s node request))
-  where
-    own : Met
-    own = Begins (op_of s node.met) text
-
-    ended : Now → Step
-    ended now = step_of node own [] [] (apply_notes s node.met node.stored now.met now.stored) now.sends now
+begin_step s node request text =
+    let own = Begins (op_of s node.met) text in
+    let open_ones = at_open (at_first (own ∷ node.met) node.stored) node.open_operations in
+    let now = unless_refused s open_ones (new_operation (op_of s node.met) request (clock_of node.met)) (refusal s node request) in
+    step_of node own [] [] (apply_notes s node.met node.stored now.met now.stored) now.sends now
 
 -- the step of a node for one event
 abbrev pub step : Setting → Node → Event → Step
@@ -395,4 +358,4 @@ start s number owed met = record {
 
 -- a crash ends every operation
 abbrev pub crashed : Node → Node
-crashed node = record { met = Crashes ∷ node.met; open_operations = []; stored = node.stored }
+crashed node = record node { met = Crashes ∷ node.met; open_operations = [] }

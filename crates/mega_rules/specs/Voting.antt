@@ -1,5 +1,5 @@
 -- What a voter made at each place, and how it answers requests about it (Lamport 2001, the acceptor).
-use Rattle.std.specs.Prelude.{ℕ, ◌==◌, ◌&&◌, Bool, if◌then◌else◌, List, filter_map, Option, Some, None}
+use Rattle.std.specs.Prelude.{ℕ, ◌==◌, ◌&&◌, Bool, if◌then◌else◌, List, filter_map, Option, Some, None, option_and_then}
 use Rattle.mega_base.specs.declared.names.GroupId.{GroupId}
 use Rattle.mega_base.specs.declared.names.OpId.{OpId}
 use Rattle.mega_base.specs.declared.names.Position.{Position}
@@ -33,8 +33,7 @@ act_in group n (Accepted op g position ballot entry) = act_if (same_group g grou
 act_in group n _ = None
 
 abbrev pub act_made : GroupId → ℕ → Option Message → Option Act
-act_made group n None = None
-act_made group n (Some message) = act_in group n message.body
+act_made group n made = option_and_then (λ (message : Message). act_in group n message.body) made
 
 -- what a voter made at a place, in all its starts
 abbrev pub acts : List Met → GroupId → ℕ → List Act

@@ -16,7 +16,7 @@ use Rattle.mega_wal.specs.declared.answers.Voted.{Voted as AcceptAnswer}
 use Rattle.mega_wal.specs.declared.answers.Voted.TheVariants as vote
 use Rattle.mega_wal.specs.Acceptor.{accept_answer, promise_answer}
 use Rattle.mega_locks.specs.declared.asked.Asked.{Asked}
-use Rattle.mega_locks.specs.declared.asked.Asked.TheVariants.{Granted as AnswerGranted, Renewed, Taken, Over}
+use Rattle.mega_locks.specs.declared.asked.Asked.TheVariants.{Granted as AnswerGranted, Renewed, GreaterHeld, Over}
 use Rattle.mega_tape_laws.specs.of_rules.Met.{Met}
 use Rattle.mega_tape_laws.specs.of_rules.Logs.{decided, top_of}
 use Rattle.mega_tape_laws.specs.of_rules.Locks.{asked_for, held_answer, held_at, lock_answer}
@@ -86,7 +86,7 @@ held_kind op cell node (Some epoch) = tt
 lock_kind : (cell : ℕ) (epoch : Epoch) (clock : ℕ) (a : Asked) → IsLockAnswer (lock_answer cell epoch clock a)
 lock_kind cell epoch clock AnswerGranted = tt
 lock_kind cell epoch clock Renewed = tt
-lock_kind cell epoch clock (Taken greatest) = tt
+lock_kind cell epoch clock (GreaterHeld greatest) = tt
 lock_kind cell epoch clock (Over greatest) = tt
 
 pub answer_kind : (c : Cluster) (me : ℕ) (met : List Met) (from : ℕ) (asked answer : Body) → answer_to c me met from asked ≡ Some answer → IsAnswer asked answer

@@ -32,7 +32,7 @@ use Rattle.mega_run_laws.specs.Justified.{Chosen, Each, Knows, sent}
 use Rattle.mega_run_laws.proofs.Rounds.{settled_chosen}
 use Rattle.mega_run_laws.proofs.Opened.{AreOfOp, Backed, BackedStage, Idle, OfOp, at_place, place_of}
 use Rattle.mega_run_laws.proofs.Turns.{Held}
-use Rattle.mega_run_laws.proofs.Noted.{Note}
+use Rattle.mega_run_laws.proofs.Noted.{MayBeNoted}
 use Rattle.mega_run_laws.proofs.Beginning.{hears_message_acts}
 use Rattle.mega_run_laws.proofs.Silent.{IsSilent}
 
@@ -131,10 +131,10 @@ decision_silent None = tt
 decision_silent (Some d) = (tt, tt)
 
 -- a decision that is new is noted
-pub new_may : (c : Cluster) (tape : List Item) (me : ℕ) (met : List Met) (o : Option Decision) → ((d : Decision) → o ≡ Some d → MayDecide c tape me (at_place d.group d.position) d.entry) → Each (Note c tape me) (decision_note (if_new met o))
+pub new_may : (c : Cluster) (tape : List Item) (me : ℕ) (met : List Met) (o : Option Decision) → ((d : Decision) → o ≡ Some d → MayDecide c tape me (at_place d.group d.position) d.entry) → Each (MayBeNoted c tape me) (decision_note (if_new met o))
 new_may c tape me met None h = tt
 new_may c tape me met (Some d) h = go (is_none (decided met d.group d.position))
   where
-    go : (t : Bool) → Each (Note c tape me) (decision_note (cond t (Some d) None))
+    go : (t : Bool) → Each (MayBeNoted c tape me) (decision_note (cond t (Some d) None))
     go true = (h d refl, tt)
     go false = tt

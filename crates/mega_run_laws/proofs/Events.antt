@@ -9,7 +9,7 @@ use Rattle.mega_coordinator.specs.declared.answers.Counted.TheVariants.{No, Yes,
 use Rattle.mega_coordinator.specs.declared.answers.NotValid.{NotValid}
 use Rattle.mega_entry.specs.declared.content.Content.{Content}
 use Rattle.mega_locks.specs.declared.asked.Asked.{Asked}
-use Rattle.mega_locks.specs.declared.asked.Asked.TheVariants.{Granted as AnswerGranted, Renewed, Taken as AnswerTaken, Over}
+use Rattle.mega_locks.specs.declared.asked.Asked.TheVariants.{Granted as AnswerGranted, Renewed, GreaterHeld, Over}
 use Rattle.mega_wire.specs.declared.message.Message.{Message}
 use Rattle.mega_wire.specs.declared.message.Body.{Body}
 use Rattle.mega_wire.specs.declared.message.Body.TheVariants.{Accept, Accepted, Promise, Acquire, Granted, Invalidate, Top}
@@ -49,7 +49,7 @@ use Rattle.mega_tape_laws.specs.of_promises.Items.{shown}
 use Rattle.mega_tape_laws.specs.of_promises.Promises.{Stands, asked_for as asked_item}
 use Rattle.mega_tape_laws.specs.of_promises.Runs.{with_items}
 use Rattle.mega_run_laws.proofs.Noting.{Lasts}
-use Rattle.mega_run_laws.proofs.Noted.{Note}
+use Rattle.mega_run_laws.proofs.Noted.{MayBeNoted}
 use Rattle.mega_run_laws.proofs.Beginning.{AllActed}
 use Rattle.mega_run_laws.proofs.Standing.{FromMe, sends_on}
 use Rattle.mega_run_laws.proofs.Stepping.{SendsOn}
@@ -89,7 +89,7 @@ IsPlain (Invalidates group position) = Unit {0}
 IsPlain (Applies group position) = Unit {0}
 IsPlain _ = ⊥
 
-plain_note : (c : Cluster) (tape : List Item) (me : ℕ) (one : Met) → IsPlain one → Note c tape me one
+plain_note : (c : Cluster) (tape : List Item) (me : ℕ) (one : Met) → IsPlain one → MayBeNoted c tape me one
 plain_note c tape me (Grants node epoch) h = tt
 plain_note c tape me (Lapses node epoch) h = tt
 plain_note c tape me (Counts cell epoch) h = tt
@@ -113,15 +113,15 @@ abbrev pub IsAnswer : Met → Type 0
 IsAnswer (Answers op answer) = Unit {0}
 IsAnswer _ = ⊥
 
-answer_note : (c : Cluster) (tape : List Item) (me : ℕ) (one : Met) → IsAnswer one → Note c tape me one
+answer_note : (c : Cluster) (tape : List Item) (me : ℕ) (one : Met) → IsAnswer one → MayBeNoted c tape me one
 answer_note c tape me (Answers op answer) h = tt
 answer_note c tape me _ h = absurd h
 
-pub answer_notes : (c : Cluster) (tape : List Item) (me : ℕ) (notes : List Met) → Each IsAnswer notes → Each (Note c tape me) notes
-answer_notes c tape me notes h = each_on IsAnswer (Note c tape me) (answer_note c tape me) notes h
+pub answer_notes : (c : Cluster) (tape : List Item) (me : ℕ) (notes : List Met) → Each IsAnswer notes → Each (MayBeNoted c tape me) notes
+answer_notes c tape me notes h = each_on IsAnswer (MayBeNoted c tape me) (answer_note c tape me) notes h
 
-pub plain_notes : (c : Cluster) (tape : List Item) (me : ℕ) (notes : List Met) → Each IsPlain notes → Each (Note c tape me) notes
-plain_notes c tape me notes h = each_on IsPlain (Note c tape me) (plain_note c tape me) notes h
+pub plain_notes : (c : Cluster) (tape : List Item) (me : ℕ) (notes : List Met) → Each IsPlain notes → Each (MayBeNoted c tape me) notes
+plain_notes c tape me notes h = each_on IsPlain (MayBeNoted c tape me) (plain_note c tape me) notes h
 
 each_map : {X : Type 0} (f : X → Met) → ((x : X) → IsPlain (f x)) → (xs : List X) → Each IsPlain (map f xs)
 each_map f h [] = tt
@@ -138,7 +138,7 @@ each_if false xs ys a b = b
 grant_plain : (node : ℕ) (epoch : Epoch) (a : Asked) → Each IsPlain (grant_note node epoch a)
 grant_plain node epoch AnswerGranted = (tt, tt)
 grant_plain node epoch Renewed = tt
-grant_plain node epoch (AnswerTaken greatest) = tt
+grant_plain node epoch (GreaterHeld greatest) = tt
 grant_plain node epoch (Over greatest) = tt
 
 counts_plain : (cell : ℕ) (epoch : Epoch) (was : Bool) (a : Counted) → Each IsPlain (counts_notes cell epoch was a)

@@ -1,6 +1,6 @@
 pub mod Replied
 pub mod AnswerKinds
-pub mod Told
+pub mod MayAnswer
 pub mod Counted
 pub mod Sending
 pub mod Free

@@ -110,18 +110,18 @@ may_decide_on c old new s node p e (told from took) = told from (took_on old new
 may_decide_on c old new s node p e (given from op took) = given from op (took_on old new s _ took)
 
 -- what a step may note behind the event's own item
-abbrev pub Note : Cluster → List Item → ℕ → Met → Type 0
-Note c tape me (Decides g n e) = MayDecide c tape me (at_place g n) e
-Note c tape me (Starts start) = ⊥
-Note c tape me Crashes = ⊥
-Note c tape me (Ticks now) = ⊥
-Note c tape me (Begins op text) = ⊥
-Note c tape me (Takes m) = ⊥
-Note c tape me (Sends m) = ⊥
-Note c tape me (Unsends m) = ⊥
-Note c tape me _ = Unit {0}
+abbrev pub MayBeNoted : Cluster → List Item → ℕ → Met → Type 0
+MayBeNoted c tape me (Decides g n e) = MayDecide c tape me (at_place g n) e
+MayBeNoted c tape me (Starts start) = ⊥
+MayBeNoted c tape me Crashes = ⊥
+MayBeNoted c tape me (Ticks now) = ⊥
+MayBeNoted c tape me (Begins op text) = ⊥
+MayBeNoted c tape me (Takes m) = ⊥
+MayBeNoted c tape me (Sends m) = ⊥
+MayBeNoted c tape me (Unsends m) = ⊥
+MayBeNoted c tape me _ = Unit {0}
 
-pub note_on : (c : Cluster) (old new : List Item) → Stood old new → (me : ℕ) (one : Met) → Note c old me one → Note c new me one
+pub note_on : (c : Cluster) (old new : List Item) → Stood old new → (me : ℕ) (one : Met) → MayBeNoted c old me one → MayBeNoted c new me one
 note_on c old new s me (Decides g n e) h = may_decide_on c old new s me (at_place g n) e h
 note_on c old new s me (Starts start) h = h
 note_on c old new s me Crashes h = h
@@ -170,7 +170,7 @@ known_decides c me nodes tape met g n e k s h m d is = go (same_group g h && n =
     go true t (Some first) a is = s _ (k h m d (a ∙ ap (λ x. first_of x e) (sym a) ∙ is))
     go false t o a is = s _ (k h m d is)
 
-pub one_note : (c : Cluster) (me : ℕ) (nodes : ℕ → Node) (tape : List Item) (met : List Met) (one : Met) → Note c tape me one → Follows c me tape met (with_items c nodes tape (shown me one)) (one ∷ met)
+pub one_note : (c : Cluster) (me : ℕ) (nodes : ℕ → Node) (tape : List Item) (met : List Met) (one : Met) → MayBeNoted c tape me one → Follows c me tape met (with_items c nodes tape (shown me one)) (one ∷ met)
 one_note c me nodes tape met (Decides g n e) may =
     let on = tape_with c nodes tape (Decide (number me) g (record { 0 = n }) e) may (λ x q. refl) (λ voter q. refl) (λ x. refl) tt (λ schema usage. tt) in
     record { tape = on; begun = with_begun c nodes tape (Decide (number me) g (record { 0 = n }) e) (λ x. refl); met_on = record { made = λ h m. refl; start = refl; begun = refl; grew = prefix_more (Decides g n e) met }; known = λ k. known_decides c me nodes tape met g n e k on.stood }
@@ -205,12 +205,12 @@ follows_then c me old mid new met some more a b = record {
   known = λ k. b.known (a.known k);
 }
 
-pub each_note_on : (c : Cluster) (old new : List Item) → Stood old new → (me : ℕ) (notes : List Met) → Each (Note c old me) notes → Each (Note c new me) notes
+pub each_note_on : (c : Cluster) (old new : List Item) → Stood old new → (me : ℕ) (notes : List Met) → Each (MayBeNoted c old me) notes → Each (MayBeNoted c new me) notes
 each_note_on c old new s me [] h = tt
 each_note_on c old new s me (one ∷ notes) h = (note_on c old new s me one h.0, each_note_on c old new s me notes h.1)
 
 -- the notes of a step come onto the tape
-pub notes_follow : (c : Cluster) (me : ℕ) (nodes : ℕ → Node) (notes : List Met) (tape : List Item) (met : List Met) → Each (Note c tape me) notes
+pub notes_follow : (c : Cluster) (me : ℕ) (nodes : ℕ → Node) (notes : List Met) (tape : List Item) (met : List Met) → Each (MayBeNoted c tape me) notes
     → Follows c me tape met (with_items c nodes tape (flat_map (shown me) notes)) (onto notes met)
 notes_follow c me nodes [] tape met h = record { tape = tape_same c tape; begun = λ x. refl; met_on = record { made = λ g n. refl; start = refl; begun = refl; grew = λ g. omega arith }; known = λ k. k }
 notes_follow c me nodes (one ∷ notes) tape met h =

@@ -18,7 +18,7 @@ use Rattle.mega_wal.specs.Same.{same_op}
 use Rattle.mega_wal.proofs.Sames.{same_op_equal}
 use Rattle.mega_tape_laws.specs.of_transcript.declared.item.Item.{Item}
 use Rattle.mega_locks.specs.declared.asked.Asked.{Asked}
-use Rattle.mega_locks.specs.declared.asked.Asked.TheVariants.{Granted as AnswerGranted, Renewed, Taken, Over}
+use Rattle.mega_locks.specs.declared.asked.Asked.TheVariants.{Granted as AnswerGranted, Renewed, GreaterHeld, Over}
 use Rattle.mega_base.specs.declared.names.Epoch.{Epoch}
 use Rattle.mega_base.specs.declared.names.NodeId.{NodeId}
 use Rattle.mega_tape_laws.specs.of_rules.Met.{Met}
@@ -76,7 +76,7 @@ held_fair c tape me from op cell node (Some epoch) = ((tt, tt), λ x q. refl)
 lock_fair : (c : Cluster) (tape : List Item) (me from : ℕ) (cell : ℕ) (epoch : Epoch) (clock : ℕ) (a : Asked) → Fair c tape (message me from (lock_answer cell epoch clock a)) (lock_answer cell epoch clock a)
 lock_fair c tape me from cell epoch clock AnswerGranted = ((tt, tt), λ x q. refl)
 lock_fair c tape me from cell epoch clock Renewed = ((tt, tt), λ x q. refl)
-lock_fair c tape me from cell epoch clock (Taken greatest) = ((tt, tt), λ x q. refl)
+lock_fair c tape me from cell epoch clock (GreaterHeld greatest) = ((tt, tt), λ x q. refl)
 lock_fair c tape me from cell epoch clock (Over greatest) = ((tt, tt), λ x q. refl)
 
 pub served : (t : Bool) (made answer : Body) (P : Body → Type 0) → P made → where_served t made ≡ Some answer → P answer

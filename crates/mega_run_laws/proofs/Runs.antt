@@ -30,7 +30,7 @@ use Rattle.mega_run_laws.specs.Usages.{Brought, Fits, IsMeant}
 use Rattle.mega_tape_laws.proofs.Ballots.{number_self}
 use Rattle.mega_tape_laws.proofs.Lists.{some_is}
 use Rattle.mega_run_laws.specs.Justified.{Each}
-use Rattle.mega_run_laws.proofs.Noted.{Follows, Note, TapeOn, each_note_on, notes_follow, one_note, tape_item, with_append}
+use Rattle.mega_run_laws.proofs.Noted.{Follows, MayBeNoted, TapeOn, each_note_on, notes_follow, one_note, tape_item, with_append}
 use Rattle.mega_run_laws.proofs.Standing.{Good, IsNew, Owes, act_other, act_same, other_good, owes_on, unmoved_on}
 use Rattle.mega_run_laws.proofs.Stepping.{Next, OtherThan, Own, next_good}
 use Rattle.mega_run_laws.proofs.Events.{IsPlain, each_flat_map, onto_append, plain_notes, plain_silents}
@@ -84,12 +84,12 @@ starts_plain s met = if_rows (has_rows s.cluster s.me)
 
 -- ---- what is owed
 
-owes_cons : (c : Cluster) (tape : List Item) (me : ℕ) (one : Met) (more : List Met) → is_durable one ≡ true → Note c tape me one → Owes c tape me more → Owes c tape me (one ∷ more)
+owes_cons : (c : Cluster) (tape : List Item) (me : ℕ) (one : Met) (more : List Met) → is_durable one ≡ true → MayBeNoted c tape me one → Owes c tape me more → Owes c tape me (one ∷ more)
 owes_cons c tape me (Unsends m) more durable h k = absurd h
 owes_cons c tape me (Answers op answer) more durable h k = cc
 owes_cons c tape me _ more durable h k = (h, k)
 
-owes_notes : (c : Cluster) (tape : List Item) (me : ℕ) (notes last : List Met) → Each (Note c tape me) notes → Owes c tape me last → Owes c tape me (filter is_durable notes ++ last)
+owes_notes : (c : Cluster) (tape : List Item) (me : ℕ) (notes last : List Met) → Each (MayBeNoted c tape me) notes → Owes c tape me last → Owes c tape me (filter is_durable notes ++ last)
 owes_notes c tape me [] last h k = k
 owes_notes c tape me (one ∷ notes) last h k = go (is_durable one) refl (owes_notes c tape me notes last h.1 k)
   where

@@ -29,7 +29,7 @@ use Rattle.mega_run_laws.proofs.Prefixes.{prefix_more}
 use Rattle.mega_run_laws.proofs.Opened.{Grew, same_met}
 use Rattle.mega_run_laws.proofs.Turns.{Held, IsRising, Known, NoAct, each_on, each_zip, held_on}
 use Rattle.mega_tape_laws.specs.Answers.{AreAnswered, has_failed}
-use Rattle.mega_run_laws.proofs.Noted.{Note, note_on}
+use Rattle.mega_run_laws.proofs.Noted.{MayBeNoted, note_on}
 
 -- ---- what is owed
 
@@ -45,7 +45,7 @@ abbrev pub Owes : Cluster → List Item → ℕ → List Met → Type 0
 Owes c tape me [] = Unit {0}
 Owes c tape me (Unsends m ∷ more) = (more ≡ []) × ((m.from ≡ me) × MayMake tape m m.body)
 Owes c tape me (Answers op answer ∷ more) = ⊥
-Owes c tape me (one ∷ more) = Note c tape me one × Owes c tape me more
+Owes c tape me (one ∷ more) = MayBeNoted c tape me one × Owes c tape me more
 
 pub owes_on : (c : Cluster) (old new : List Item) (me : ℕ) → Stood old new → ((q : Place) → acts new me q ≡ acts old me q) → (owed : List Met) → Owes c old me owed → Owes c new me owed
 owes_on c old new me s same [] h = tt

@@ -27,7 +27,7 @@ use Rattle.mega_run_laws.proofs.Sending.{Stood, stood_sent}
 use Rattle.mega_run_laws.proofs.Turns.{Held, IsRising, Known, could, could_not, not_within, within, worn_could}
 use Rattle.mega_tape_laws.specs.Answers.{AreAnswered, IsAnswered, has_failed}
 use Rattle.mega_schema.specs.declared.schema.Schema.{Schema}
-use Rattle.mega_run_laws.proofs.Noted.{Follows, Note, TapeOn, notes_follow}
+use Rattle.mega_run_laws.proofs.Noted.{Follows, MayBeNoted, TapeOn, notes_follow}
 use Rattle.mega_run_laws.proofs.Standing.{FromMe, Good, IsNew, NodeGood, Owes, SentOn, Unmoved, other_good, owes_on, sends_elsewhere, sends_made, sends_on, unmoved_on}
 
 -- what one node's part of a run leaves good
@@ -162,7 +162,7 @@ not_started : (me st l : ℕ) (x : OpId) → st < x.start → could me st l x �
 not_started me st l x less = and_left (within me st l x) (nat_lt x.number last_number) (not_started_within me st l x less)
 
 pub step_next : (users : Users) → (c : Cluster) (now : Standing) (me : ℕ) (nodes : ℕ → Node) (item : Item) (own : Met) (notes : List Met) (k : ℕ) (sends : List Message) (kept : List Operation) (stored : GroupId → ℕ) (tape : List Item)
-    → Good users c now → is_up (now.node me).met ≡ true → Own c now.tape item (now.node me).met own → Each (Note c (item ∷ now.tape) me) notes
+    → Good users c now → is_up (now.node me).met ≡ true → Own c now.tape item (now.node me).met own → Each (MayBeNoted c (item ∷ now.tape) me) notes
     → SendsOn users c me (start_of (now.node me).met) (begun_of (own ∷ (now.node me).met) + 1) (item ∷ now.tape) (with_items c nodes (item ∷ now.tape) (flat_map (shown me) notes)) (onto notes (own ∷ (now.node me).met)) k sends kept
     → tape ≡ sent k sends (with_items c nodes (item ∷ now.tape) (flat_map (shown me) notes))
     → ((x : OpId) → ((me == x.node.0) ≡ false) ⊎ IsNew (now.starts me) (own ∷ (now.node me).met) x → OtherThan own x)

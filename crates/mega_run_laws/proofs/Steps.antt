@@ -41,7 +41,7 @@ use Rattle.mega_run_laws.proofs.Written.{Unproposed}
 use Rattle.mega_tape_laws.specs.Answers.{has_failed}
 use Rattle.mega_schema.specs.declared.schema.Schema.{Schema}
 use Rattle.mega_run_laws.proofs.Noting.{begun_it}
-use Rattle.mega_run_laws.proofs.Noted.{with_append, with_sent, Follows, Note, notes_follow, tape_item}
+use Rattle.mega_run_laws.proofs.Noted.{with_append, with_sent, Follows, MayBeNoted, notes_follow, tape_item}
 use Rattle.mega_run_laws.proofs.Beginning.{AllActed, Starting, begun_fine}
 use Rattle.mega_run_laws.proofs.Standing.{Good, IsNew}
 use Rattle.mega_run_laws.proofs.Stepping.{Next, Own, next_good, step_next}
@@ -203,9 +203,9 @@ begun_next users s brought now nodes' request text means g up = (
     noted = begun_it (Noted first) (noted_lasts first) s begin o (refusal s node request)
         (record { decides = λ h n e x. x; long = omega arith; valid = tt; answers = tt })
 
-    all_may : Each (Note c tape1 me) notes
-    all_may = each_append (Note c tape1 me) (applies ++ acted.valid) acted.answers
-        (each_append (Note c tape1 me) applies acted.valid (plain_notes c tape1 me applies (apply_plain s met node.stored acted.met acted.stored)) (plain_notes c tape1 me acted.valid noted.valid))
+    all_may : Each (MayBeNoted c tape1 me) notes
+    all_may = each_append (MayBeNoted c tape1 me) (applies ++ acted.valid) acted.answers
+        (each_append (MayBeNoted c tape1 me) applies acted.valid (plain_notes c tape1 me applies (apply_plain s met node.stored acted.met acted.stored)) (plain_notes c tape1 me acted.valid noted.valid))
         (answer_notes c tape1 me acted.answers noted.answers)
 
     unheard : Unheard users c nodes' me tape1 tape2 acted.answers

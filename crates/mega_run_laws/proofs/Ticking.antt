@@ -12,7 +12,7 @@ use Rattle.mega_tape_laws.specs.of_read.of_propose.Members.{others}
 use Rattle.mega_tape_laws.specs.of_rules.Met.{Met, Ticks}
 use Rattle.mega_tape_laws.specs.of_rules.Members.{has_rows, is_full, voters}
 use Rattle.mega_tape_laws.specs.of_rules.Clock.{begun_of, does_again, ticks_of, is_up, start_of}
-use Rattle.mega_coordinator.specs.History.{Call, Ticks as Told, counted_cells, epoch_after, serving}
+use Rattle.mega_coordinator.specs.History.{Call, Ticks as CoordinatorTicks, counted_cells, epoch_after, serving}
 use Rattle.mega_base.specs.declared.names.Epoch.{Epoch}
 use Rattle.mega_tape_laws.specs.of_rules.Coordinators.{acquire_to, acquires, acquires_at, asked_cells, coordinator_calls}
 use Rattle.mega_tape_laws.specs.of_rules.Logs.{decided, groups_of, newest_of, prefix_of}
@@ -26,7 +26,7 @@ use Rattle.mega_run_laws.proofs.Sending.{Stood, stood_sent}
 use Rattle.mega_run_laws.proofs.Opened.{Grew}
 use Rattle.mega_run_laws.proofs.Turns.{Known}
 use Rattle.mega_run_laws.proofs.Noting.{ticked_it}
-use Rattle.mega_run_laws.proofs.Noted.{Follows, Note, notes_follow, tape_item}
+use Rattle.mega_run_laws.proofs.Noted.{Follows, MayBeNoted, notes_follow, tape_item}
 use Rattle.mega_run_laws.proofs.Beginning.{AllActed, ticked_fine}
 use Rattle.mega_run_laws.proofs.Standing.{Good}
 use Rattle.mega_run_laws.proofs.Stepping.{Own, step_next}
@@ -44,8 +44,8 @@ acquires_by c me calls start clock None = tt
 acquires_by c me calls start clock (Some epoch) = each_of IsFree (acquire_to me epoch clock) (λ to. tt) (asked_cells c (counted_cells start c.cells calls) (serving start c.cells calls))
 
 acquires_free : (c : Cluster) (me : ℕ) (met : List Met) (clock : ℕ) → AreFree (acquires_at c me met clock)
-acquires_free c me met clock = free_if (is_full c me && does_again c.retry (ticks_of met) clock) (acquires c me (Told clock ∷ coordinator_calls c met) (start_of met) clock (epoch_after (start_of met) c.cells (Told clock ∷ coordinator_calls c met)))
-    (acquires_by c me (Told clock ∷ coordinator_calls c met) (start_of met) clock (epoch_after (start_of met) c.cells (Told clock ∷ coordinator_calls c met)))
+acquires_free c me met clock = free_if (is_full c me && does_again c.retry (ticks_of met) clock) (acquires c me (CoordinatorTicks clock ∷ coordinator_calls c met) (start_of met) clock (epoch_after (start_of met) c.cells (CoordinatorTicks clock ∷ coordinator_calls c met)))
+    (acquires_by c me (CoordinatorTicks clock ∷ coordinator_calls c met) (start_of met) clock (epoch_after (start_of met) c.cells (CoordinatorTicks clock ∷ coordinator_calls c met)))
 
 background_free : (s : Setting) (met : List Met) (clock : ℕ) → AreFree (background s met clock)
 background_free s met clock = free_if (has_rows s.cluster s.me && does_again s.cluster.retry (ticks_of met) clock) (flat_map (fetches_for s met) (groups_of met))
@@ -123,11 +123,11 @@ ticked_next users s brought now nodes' clock g up = (
     noted = ticked_it (Noted first) (noted_lasts first) s clock node.open_operations begin
         (record { decides = λ h n e x. x; long = omega arith; valid = tt; answers = tt })
 
-    all_may : Each (Note c tape1 me) notes
-    all_may = each_append (Note c tape1 me) (((told ++ later) ++ applies) ++ acted.valid) acted.answers
-        (each_append (Note c tape1 me) ((told ++ later) ++ applies) acted.valid
-        (each_append (Note c tape1 me) (told ++ later) applies
-        (each_append (Note c tape1 me) told (later) (plain_notes c tape1 me told (lease_plain s met clock)) (plain_notes c tape1 me later (lapses_plain s met clock)))
+    all_may : Each (MayBeNoted c tape1 me) notes
+    all_may = each_append (MayBeNoted c tape1 me) (((told ++ later) ++ applies) ++ acted.valid) acted.answers
+        (each_append (MayBeNoted c tape1 me) ((told ++ later) ++ applies) acted.valid
+        (each_append (MayBeNoted c tape1 me) (told ++ later) applies
+        (each_append (MayBeNoted c tape1 me) told (later) (plain_notes c tape1 me told (lease_plain s met clock)) (plain_notes c tape1 me later (lapses_plain s met clock)))
         (plain_notes c tape1 me applies (apply_plain s met node.stored acted.met acted.stored)))
         (plain_notes c tape1 me acted.valid noted.valid))
         (answer_notes c tape1 me acted.answers noted.answers)

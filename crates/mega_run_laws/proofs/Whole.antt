@@ -31,12 +31,12 @@ use Rattle.mega_run_laws.specs.Usages.{Brought}
 use Rattle.mega_run_laws.specs.Shows.{Shows}
 use Rattle.mega_run_laws.specs.Justified.{Each, sent}
 use Rattle.mega_run_laws.proofs.Replied.{Fair, answer_fair}
-use Rattle.mega_run_laws.proofs.Told.{Told, answer_told}
+use Rattle.mega_run_laws.proofs.MayAnswer.{MayAnswer, answer_told}
 use Rattle.mega_run_laws.proofs.Sending.{Stood, stood_sent, took_on}
 use Rattle.mega_run_laws.proofs.Opened.{Grew, same_met}
 use Rattle.mega_run_laws.proofs.Turns.{Held, Known, each_on, held_on, sent_append}
 use Rattle.mega_run_laws.proofs.Noting.{all_act_it}
-use Rattle.mega_run_laws.proofs.Noted.{Follows, Note, notes_follow, tape_item}
+use Rattle.mega_run_laws.proofs.Noted.{Follows, MayBeNoted, notes_follow, tape_item}
 use Rattle.mega_run_laws.proofs.Beginning.{AllActed, all_act_fine}
 use Rattle.mega_run_laws.proofs.Deciding.{decision_silent, first_may, new_may, told_may}
 use Rattle.mega_run_laws.proofs.Standing.{FromMe, Good, NodeGood}
@@ -105,7 +105,7 @@ both_before c me tape k xs ys a b = record {
 reply_before : (c : Cluster) (tape : List Item) (me : ℕ) (met : List Met) (m : Message) (k : ℕ) → Shows tape me met → Took tape (message m.from me m.body) → Before c me tape k (reply_to c me met m)
 reply_before c tape me met m k s took = go (answer_to c me met m.from m.body) (λ answer h. (answer_fair c tape me m.from met s m.body took answer h, answer_told c tape me m.from met s m.body took answer h))
   where
-    go : (o : Option Body) → ((answer : Body) → o ≡ Some answer → Fair c tape (message me m.from answer) answer × Told tape (message me m.from answer) answer) → Before c me tape k (reply_message me m.from o)
+    go : (o : Option Body) → ((answer : Body) → o ≡ Some answer → Fair c tape (message me m.from answer) answer × MayAnswer tape (message me m.from answer) answer) → Before c me tape k (reply_message me m.from o)
     go None h = none_before c me tape k
     go (Some answer) h = let fair = (h answer refl).0 in let told = (h answer refl).1 in record {
       lawful = λ l. ((fair.0).0, l);
@@ -139,14 +139,14 @@ news_before s tape (Some d) k h = told_before s.cluster tape s.me d k (others s.
 abbrev pub StepNext : Users → Setting → Standing → (ℕ → Node) → Item → Met → Step → Type 0
 StepNext users s now nodes' item own made =
     Next users s.cluster now s.me (sent (sent_count now.tape + 1) made.sends (with_items s.cluster nodes' (item ∷ now.tape) (flat_map (shown s.me) made.notes))) made.node now.starts now.owed
-    × Each (Note s.cluster (item ∷ now.tape) s.me) made.notes
+    × Each (MayBeNoted s.cluster (item ∷ now.tape) s.me) made.notes
 
-up_one : (c : Cluster) (tape : List Item) (me : ℕ) (one : Met) (met : List Met) → Note c tape me one → is_up met ≡ true → is_up (one ∷ met) ≡ true
+up_one : (c : Cluster) (tape : List Item) (me : ℕ) (one : Met) (met : List Met) → MayBeNoted c tape me one → is_up met ≡ true → is_up (one ∷ met) ≡ true
 up_one c tape me (Starts start) met h up = refl
 up_one c tape me Crashes met h up = absurd h
 up_one c tape me _ met h up = up
 
-pub up_onto : (c : Cluster) (tape : List Item) (me : ℕ) (notes met : List Met) → Each (Note c tape me) notes → is_up met ≡ true → is_up (onto notes met) ≡ true
+pub up_onto : (c : Cluster) (tape : List Item) (me : ℕ) (notes met : List Met) → Each (MayBeNoted c tape me) notes → is_up met ≡ true → is_up (onto notes met) ≡ true
 up_onto c tape me [] met h up = up
 up_onto c tape me (one ∷ notes) met h up = up_onto c tape me notes (one ∷ met) h.1 (up_one c tape me one met h.0 up)
 
@@ -160,7 +160,7 @@ held_first users c old new me node s same g = each_on (Held users c old me (star
 
 pub taken_next : (users : Users) → (s : Setting) → (users.fits → Brought users.usage s.handlers) → (now : Standing) (nodes' : ℕ → Node) (j : ℕ) (m : Message) (d : Option Decision) (telling : Option Decision) → Good users s.cluster now → is_up (now.node s.me).met ≡ true
     → Stands (Sent j (message m.from s.me m.body)) now.tape
-    → (Took (Taken j ∷ now.tape) (message m.from s.me m.body) → Each (Note s.cluster (Taken j ∷ now.tape) s.me) (decision_note d))
+    → (Took (Taken j ∷ now.tape) (message m.from s.me m.body) → Each (MayBeNoted s.cluster (Taken j ∷ now.tape) s.me) (decision_note d))
     → ((one : Decision) → telling ≡ Some one → d ≡ Some one)
     → StepNext users s now nodes' (Taken j) (Takes m) (taken s (now.node s.me) m (told_notes s (now.node s.me).met m.from m.body) (map (hears_message s (clock_of (now.node s.me).met) m) (now.node s.me).open_operations) d
     (reply_to s.cluster s.me (now.node s.me).met m) (news s telling))
@@ -234,11 +234,11 @@ taken_next users s brought now nodes' j m d telling g up stands may same = (
     noted = all_act_it (Noted first) (noted_lasts first) s (map (hears_message s (clock_of met) m) node.open_operations) begin
         (record { decides = λ h n e x. x; long = omega arith; valid = tt; answers = tt })
 
-    all_may : Each (Note c tape1 me) notes
-    all_may = each_append (Note c tape1 me) (((told ++ decision_note d) ++ applies) ++ acted.valid) acted.answers
-        (each_append (Note c tape1 me) ((told ++ decision_note d) ++ applies) acted.valid
-        (each_append (Note c tape1 me) (told ++ decision_note d) applies
-        (each_append (Note c tape1 me) told (decision_note d) (plain_notes c tape1 me told (told_plain s met m.from m.body)) (may took))
+    all_may : Each (MayBeNoted c tape1 me) notes
+    all_may = each_append (MayBeNoted c tape1 me) (((told ++ decision_note d) ++ applies) ++ acted.valid) acted.answers
+        (each_append (MayBeNoted c tape1 me) ((told ++ decision_note d) ++ applies) acted.valid
+        (each_append (MayBeNoted c tape1 me) (told ++ decision_note d) applies
+        (each_append (MayBeNoted c tape1 me) told (decision_note d) (plain_notes c tape1 me told (told_plain s met m.from m.body)) (may took))
         (plain_notes c tape1 me applies (apply_plain s met node.stored acted.met acted.stored)))
         (plain_notes c tape1 me acted.valid noted.valid))
         (answer_notes c tape1 me acted.answers noted.answers)

@@ -10,7 +10,7 @@ use Rattle.mega_runs.specs.declared.index.Block.{Block}
 use Rattle.mega_runs.specs.Bodies.{is_before, spot_of, version_text, IsVersion, ascends, ascends_from}
 use Rattle.mega_runs.specs.Finding.{is_behind, behind_at, IsPlace, found_in}
 use Rattle.mega_runs.specs.declared.index.Indexed.{Indexed}
-use Rattle.mega_runs.specs.Index.{versions_text, spot_of_block, IsBlock, AreBlocks, Stands, IsIndexed, HasBlock}
+use Rattle.mega_runs.specs.Index.{versions_text, spot_of_block, IsBlock, AreBlocks, HasBytesAt, IsIndexed, HasBlock}
 use Rattle.mega_runs.proofs.Order.{both, ascends_behind}
 use Rattle.mega_runs.proofs.Found.{none_behind, found_front, found_back}
 
@@ -180,7 +180,7 @@ part_range file a m z start within is =
         ∙ ap (λ (l : List ℕ). l ++ rest) (ap (λ (n : ℕ). take n (drop start file)) (omega arith) ∙ is)
         ∙ append_assoc a (m ++ z) rest ∙ ap (λ (l : List ℕ). a ++ l) (append_assoc m z rest)
 
-pub mine_stands : (file : List ℕ) (start : ℕ) (versions : List Version) (blocks : List Block) (j : ℕ) (block : Block) (c : Chosen start versions blocks j block) → Stands file start (versions_text versions)
+pub mine_stands : (file : List ℕ) (start : ℕ) (versions : List Version) (blocks : List Block) (j : ℕ) (block : Block) (c : Chosen start versions blocks j block) → HasBytesAt file start (versions_text versions)
     → (block.start + block.size ≤ length file) × (slice_range file block.start (block.start + block.size) ≡ versions_text c.mine)
 mine_stands file start versions blocks j block c stands = (
   omega (arith, c.is_block.start_is, c.is_block.size_is, stands.within, ap length text, length-append a (m ++ z), length-append m z),

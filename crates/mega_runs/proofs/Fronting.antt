@@ -12,7 +12,7 @@ use Rattle.mega_runs.specs.declared.opening.Opened.{Opened}
 use Rattle.mega_runs.specs.Bodies.{run_text, IsRun, ascends, body_of}
 use Rattle.mega_chain.specs.Chain.{record_of, chain_of, first_record, records_of}
 use Rattle.mega_chain.specs.Rest.{IsAtRest, IsSettled}
-use Rattle.mega_runs.specs.Index.{versions_text, Stands, ArePlaced, IsOrderly, AreIndexed, Indexes, Indices, IsGrown}
+use Rattle.mega_runs.specs.Index.{versions_text, HasBytesAt, ArePlaced, IsOrderly, AreIndexed, Indexes, Indices, IsGrown}
 use Rattle.mega_runs.specs.Opening.{IsNextBody}
 use Rattle.mega_runs.specs.Reads.{Held, with_run, with_found, held_by, nothing, held_in, mark_in}
 use Rattle.mega_runs.specs.Fronts.{front_of, kept, kept_with, HoldsOr, Standing}
@@ -31,7 +31,7 @@ part_of_front [] (suc start) n (suc end) le = refl
 part_of_front (x ∷ l) (suc start) n zero le = absurd (omega arith)
 part_of_front (x ∷ l) (suc start) n (suc end) le = part_of_front l start n end (omega arith)
 
-stands_same : (file image : List ℕ) (end start : ℕ) (text : List ℕ) → take end image ≡ take end file → start + length text ≤ end → Stands file start text → Stands image start text
+stands_same : (file image : List ℕ) (end start : ℕ) (text : List ℕ) → take end image ≡ take end file → start + length text ≤ end → HasBytesAt file start text → HasBytesAt image start text
 stands_same file image end start text front le stands =
     let n = length text in
     let size : start + n - start ≡ n = omega arith in

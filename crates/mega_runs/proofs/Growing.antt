@@ -14,7 +14,7 @@ use Rattle.mega_runs.specs.Bodies.{kind_of, mark_text, run_at, run_text, IsRun, 
 use Rattle.mega_runs.specs.BodyLaws.{run_codec}
 use Rattle.mega_chain.specs.Chain.{record_of, chain_of, first_record, records_of}
 use Rattle.mega_runs.specs.declared.opening.Opened.{Opened}
-use Rattle.mega_runs.specs.Index.{versions_text, Stands, IsPlaced, ArePlaced, Indices, Indexes, IsGrown, IsReadTo}
+use Rattle.mega_runs.specs.Index.{versions_text, HasBytesAt, IsPlaced, ArePlaced, Indices, Indexes, IsGrown, IsReadTo}
 use Rattle.mega_runs.specs.Opening.{IsNextBody, bad_or, first_bad}
 use Rattle.mega_runs.specs.Reads.{Held, with_run, with_found, held_by, nothing, held_in, mark_in}
 use Rattle.mega_chain.proofs.Chains.{Reading, begun, chain_push, short_push, ends}
@@ -52,7 +52,7 @@ versions_within body run is =
     omega (arith, ap length is.spelled, length-append kind (marks ++ (count ++ text)), length-append marks (count ++ text), length-append count text)
 
 -- the versions stand at the end of the body
-pub stands_in : (file : List ℕ) (at : ℕ) (body : List ℕ) (run : Run) (start : ℕ) → IsNextBody file at body → body ≡ run_text run → start + length (versions_text run.versions) ≡ at + 9 + length body → Stands file start (versions_text run.versions)
+pub stands_in : (file : List ℕ) (at : ℕ) (body : List ℕ) (run : Run) (start : ℕ) → IsNextBody file at body → body ≡ run_text run → start + length (versions_text run.versions) ≡ at + 9 + length body → HasBytesAt file start (versions_text run.versions)
 stands_in file at body run start next is place = record {
   within = omega (arith, place, next.behind);
   text_is =

@@ -18,7 +18,7 @@ use Rattle.mega_runs.specs.declared.index.Indexed.{Indexed}
 use Rattle.mega_runs.specs.declared.span.Span.{Span}
 use Rattle.mega_runs.specs.Bodies.{Spot, is_before, spot_of, version_text, IsVersion, ascends, ascends_from}
 use Rattle.mega_runs.specs.Finding.{is_behind}
-use Rattle.mega_runs.specs.Index.{versions_text, spot_of_block, IsBlock, AreBlocks, Stands, IsIndexed}
+use Rattle.mega_runs.specs.Index.{versions_text, spot_of_block, IsBlock, AreBlocks, HasBytesAt, IsIndexed}
 use Rattle.mega_runs.specs.Merging.{merged}
 use Rattle.mega_runs.specs.Reads.{is_version, versions_in, layered}
 use Rattle.mega_runs.specs.Ranges.{AgreeWithin, IsBetween, IsSpanOf, HasSpan, SpansRange, size_of_blocks, count_of_blocks}
@@ -287,7 +287,7 @@ middle file from to start versions blocks found are asc is = record {
     parts : versions ≡ one.pre ++ (two.pre ++ two.rest)
     parts = one.parts ∙ ap (λ (l : List Version). one.pre ++ l) two.parts
 
-has_span : (file : List ℕ) (from to : List ℕ) (start : ℕ) (versions : List Version) (run : Indexed) (blocks : List Block) (span : Span) (m : Middle file from to start versions blocks) → Stands file start (versions_text versions) → All IsVersion versions → ascends versions ≡ true
+has_span : (file : List ℕ) (from to : List ℕ) (start : ℕ) (versions : List Version) (run : Indexed) (blocks : List Block) (span : Span) (m : Middle file from to start versions blocks) → HasBytesAt file start (versions_text versions) → All IsVersion versions → ascends versions ≡ true
     → run.size ≡ length (versions_text versions) → run.count ≡ length versions → IsSpanOf run blocks span → HasSpan file m.mine span
 has_span file from to start versions run blocks span m stands fits asc whole all is = record {
   within = omega (arith, start_is, size_is, stands.within, ap length text, length-append a (b ++ c), length-append b c);

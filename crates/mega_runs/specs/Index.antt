@@ -33,14 +33,14 @@ AreBlocks start versions [] = length versions ≡ 0
 AreBlocks start versions (block ∷ blocks) = IsBlock start (take 16 versions) block × AreBlocks (start + block.size) (drop 16 versions) blocks
 
 -- the bytes stand in the file from a place on
-pub record Stands (file : List ℕ) (start : ℕ) (text : List ℕ) : Type 0 where
+pub record HasBytesAt (file : List ℕ) (start : ℕ) (text : List ℕ) : Type 0 where
   pub within : start + length text ≤ length file
   pub text_is : slice_range file start (start + length text) ≡ text
 
 -- the index of these versions, which stand in the file and end before a place
 pub record IsPlaced (file : List ℕ) (end : ℕ) (versions : List Version) (run : Indexed) : Type 0 where
   pub blocks : AreBlocks run.start versions run.blocks.items
-  pub stands : Stands file run.start (versions_text versions)
+  pub stands : HasBytesAt file run.start (versions_text versions)
   pub size_is : run.size ≡ length (versions_text versions)
   pub count_is : run.count ≡ length versions
   pub before : run.start + run.size ≤ end

@@ -12,8 +12,8 @@ use Rattle.mega_rules.specs.Operations.{Node as RuleNode, Setting}
 use Rattle.mega_rules.specs.Steps.{Event, Take, Begin, Tick, onto, step}
 use Rattle.mega_node_laws.specs.Acted.{own_item}
 use Rattle.mega_node_laws.proofs.Ending.{step_met}
-use Rattle.mega_stepping.specs.declared.note.Note.{Note}
-use Rattle.mega_stepping.specs.Notes.{met_of}
+use Rattle.mega_step_parts.specs.declared.note.Note.{Note}
+use Rattle.mega_step_parts.specs.Notes.{met_of}
 use Rattle.mega_promises.specs.Runs.{has_lapsed, set_at}
 use Rattle.mega_safety.specs.declared.safety.Lapse.{Lapse}
 use Rattle.mega_safety.specs.Lapses.{AreLapsesOf, is_lapse, lapse, lapse_cmp, lapse_of}

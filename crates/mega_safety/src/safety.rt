@@ -6,13 +6,13 @@ ghost use Rattle.mega_rules.specs.Met.{Met};
 ghost use Rattle.mega_rules.specs.Steps.{onto};
 ghost use Rattle.mega_promises.specs.Runs.{set_at};
 ghost use Rattle.mega_leases.specs.Notes.{met_of as leases_met};
-ghost use Rattle.mega_stepping.specs.Notes.{met_of};
+ghost use Rattle.mega_step_parts.specs.Notes.{met_of};
 ghost use Rattle.mega_safety.specs.declared.safety.Lapse.{Lapse as LapseValue};
 ghost use Rattle.mega_safety.specs.Lapses.{AreLapsesOf, is_lapse, lapse_cmp, lapse_of};
 
 use mega_base::{Epoch, Items, NoMemory, NodeId};
-use mega_proposing::{Answered, Valid};
-use mega_stepping::Note;
+use mega_step_parts::Note;
+use mega_step_work::{Answered, Valid};
 use std::alloc::Global;
 use std::collections::BTreeSet;
 
@@ -51,22 +51,22 @@ fn lapse_in_answer(cell: u8, answered: &Answered) -> Option<Lapse>
 }
 
 /// The lapse that the node of a cell notes of its leases, if it is one.
-fn lapse_in(cell: u8, note: &mega_leases::Note) -> Option<Lapse>
+fn lapse_in(cell: u8, note: &mega_leases::LeaseNote) -> Option<Lapse>
     ensures { result ≡ lapse_of cell (leases_met note.now) }
 {
-    use mega_leases::Note;
+    use mega_leases::LeaseNote;
     match note {
-        Note::Lapses { node, epoch } => Some(Lapse {
+        LeaseNote::Lapses { node, epoch } => Some(Lapse {
             cell,
             node: *node,
             epoch: *epoch,
         }),
-        Note::Grants { .. }
-        | Note::Counts { .. }
-        | Note::Forgets { .. }
-        | Note::Serves { .. }
-        | Note::Loses { .. }
-        | Note::Invalidates { .. } => None,
+        LeaseNote::Grants { .. }
+        | LeaseNote::Counts { .. }
+        | LeaseNote::Forgets { .. }
+        | LeaseNote::Serves { .. }
+        | LeaseNote::Loses { .. }
+        | LeaseNote::Invalidates { .. } => None,
     }
 }
 

@@ -33,8 +33,7 @@ abbrev pub begun : Data → Request → WorldEvent
 begun d request = Begin (node_in d) request (compact_text d)
 
 abbrev pub fuse_in : Data → WorldEvent
-fuse_in d =
-    Fuse (node_in d) (number_in (get (codes "calls") d)) (byte_in (get (codes "image") d)) (device_in (get (codes "device") d))
+fuse_in d = Fuse (node_in d) (number_in (get (codes "calls") d)) (byte_in (get (codes "image") d)) (device_in (get (codes "device") d))
 
 -- what a line of a form that begins an operation asks for
 abbrev pub request_in : Schema → Form → Data → Request

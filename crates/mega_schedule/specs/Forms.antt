@@ -1,9 +1,9 @@
 -- The forms of lines, and what is wrong with a line of a form.
-use Rattle.std.specs.Prelude.{ℕ, ◌+◌, ◌^◌, ◌&&◌, if◌then◌else◌, nat_le, nat_lt, List, codes, Option, Some, None, is_some}
+use Rattle.std.specs.Prelude.{ℕ, ◌+◌, ◌^◌, ◌&&◌, if◌then◌else◌, nat_le, nat_lt, List, codes, Option, Some, None, is_some, [], ◌∷◌}
 use Rattle.serde_json.specs.Data.{Data, Items}
 use Rattle.serde_json.specs.Find.{get, as_array}
 use Rattle.serde_json.specs.Events.{items_len}
-use Rattle.mega_syntax.specs.Names.{same}
+use Rattle.mega_syntax.specs.Names.{named}
 use Rattle.mega_disk.specs.declared.pair.Device.{Device}
 use Rattle.mega_disk.specs.declared.pair.Device.TheVariants.{Log, Data as DataDevice}
 use Rattle.mega_outcome.specs.declared.request.Mode.{Mode}
@@ -13,40 +13,27 @@ use Rattle.mega_schedule.specs.declared.form.Form.TheVariants as forms
 use Rattle.mega_schedule.specs.declared.form.Pump.{Pump}
 use Rattle.mega_schedule.specs.declared.form.Pump.TheVariants.{Enter, Handle}
 use Rattle.mega_schedule.specs.declared.verdict.Verdict.{Verdict}
-use Rattle.mega_schedule.specs.declared.verdict.Verdict.TheVariants.{WrongKind, OutOfRange, Fine}
+use Rattle.mega_schedule.specs.declared.verdict.Verdict.TheVariants.{OutOfRange, Fine}
 use Rattle.mega_schedule.specs.Verdicts.{◌⊓◌}
-use Rattle.mega_schedule.specs.Fields.{at_most, required, optional, text_check, word_check, between, values_check, each, worst, group_check, floats_check}
+use Rattle.mega_schedule.specs.Fields.{at_most, required, optional, text_check, word_check, between, values_check, each, worst, group_check, floats_check, of_kind}
 use Rattle.mega_schedule.specs.Parts.{read_check, items_check, transaction_check}
 
 -- the form that a word names
 abbrev pub form_named : List ℕ → Option Form
-form_named word =
-    if same word (codes "tick") then Some forms.Tick
-    else (if same word (codes "deliver") then Some forms.Deliver
-    else (if same word (codes "drop") then Some forms.Drop
-    else (if same word (codes "drain") then Some forms.Drain
-    else (if same word (codes "crash") then Some forms.Crash
-    else (if same word (codes "start") then Some forms.Start
-    else (if same word (codes "fuse") then Some forms.Fuse
-    else (if same word (codes "txn") then Some forms.Txn
-    else (if same word (codes "batch") then Some forms.Batch
-    else (if same word (codes "read") then Some forms.Read
-    else (if same word (codes "find") then Some forms.Find
-    else (if same word (codes "pump") then Some forms.Pump
-    else (if same word (codes "refresh") then Some forms.Refresh
-    else None))))))))))))
+form_named word = named word (
+    (codes "tick", forms.Tick) ∷ (codes "deliver", forms.Deliver) ∷ (codes "drop", forms.Drop) ∷ (codes "drain", forms.Drain)
+    ∷ (codes "crash", forms.Crash) ∷ (codes "start", forms.Start) ∷ (codes "fuse", forms.Fuse) ∷ (codes "txn", forms.Txn)
+    ∷ (codes "batch", forms.Batch) ∷ (codes "read", forms.Read) ∷ (codes "find", forms.Find) ∷ (codes "pump", forms.Pump)
+    ∷ (codes "refresh", forms.Refresh) ∷ [])
 
 abbrev pub mode_named : List ℕ → Option Mode
-mode_named word =
-    if same word (codes "current") then Some Current
-    else (if same word (codes "snapshot") then Some Snapshot
-    else (if same word (codes "inconsistent") then Some Inconsistent else None))
+mode_named word = named word ((codes "current", Current) ∷ (codes "snapshot", Snapshot) ∷ (codes "inconsistent", Inconsistent) ∷ [])
 
 abbrev pub device_named : List ℕ → Option Device
-device_named word = if same word (codes "log") then Some Log else (if same word (codes "data") then Some DataDevice else None)
+device_named word = named word ((codes "log", Log) ∷ (codes "data", DataDevice) ∷ [])
 
 abbrev pub pump_named : List ℕ → Option Pump
-pump_named word = if same word (codes "enter") then Some Enter else (if same word (codes "handle") then Some Handle else None)
+pump_named word = named word ((codes "enter", Enter) ∷ (codes "handle", Handle) ∷ [])
 
 abbrev pub node_check : Data → Verdict
 node_check d = required (between 1 9) (get (codes "node") d)
@@ -78,8 +65,7 @@ abbrev pub few_check : Items → Verdict
 few_check ds = if nat_le 1 (items_len ds) && nat_le (items_len ds) 16 then Fine else OutOfRange
 
 abbrev pub txns_among : Option Items → Verdict
-txns_among None = WrongKind
-txns_among (Some ds) = few_check ds ⊓ worst transaction_check Fine ds
+txns_among found = of_kind (λ (ds : Items). few_check ds ⊓ worst transaction_check Fine ds) found
 
 abbrev pub txns_check : Data → Verdict
 txns_check d = txns_among (as_array d)
@@ -97,8 +83,7 @@ something ds = if nat_lt 0 (items_len ds) then Fine else OutOfRange
 
 -- a list with something in it
 abbrev pub some_check : Option Items → Verdict
-some_check None = WrongKind
-some_check (Some ds) = something ds
+some_check found = of_kind something found
 
 abbrev pub find_values_check : Data → Verdict
 find_values_check d = values_check d ⊓ some_check (as_array d)

@@ -1,11 +1,11 @@
 -- What is wrong with the checks, reads, writes and sends of a transaction.
-use Rattle.std.specs.Prelude.{ℕ, if◌then◌else◌, List, codes, Option, Some, None, is_some}
+use Rattle.std.specs.Prelude.{ℕ, if◌then◌else◌, List, codes, is_some}
 use Rattle.serde_json.specs.Data.{Data, Members, no_members, member}
 use Rattle.serde_json.specs.Find.{get, as_array, as_object}
 use Rattle.mega_schedule.specs.declared.verdict.Verdict.{Verdict}
-use Rattle.mega_schedule.specs.declared.verdict.Verdict.TheVariants.{Missing, WrongKind, Fine}
+use Rattle.mega_schedule.specs.declared.verdict.Verdict.TheVariants.{Missing, Fine}
 use Rattle.mega_schedule.specs.Verdicts.{◌⊓◌}
-use Rattle.mega_schedule.specs.Fields.{at_most, required, in_object, text_check, whole_check, value_check, values_check, each, hex_check, group_check}
+use Rattle.mega_schedule.specs.Fields.{at_most, required, in_object, text_check, whole_check, value_check, values_check, each, hex_check, group_check, of_kind}
 
 -- a table's name under this word, and a key
 abbrev pub row_check : List ℕ → Data → Verdict
@@ -37,12 +37,8 @@ abbrev pub worst_cell : Verdict → Members → Verdict
 worst_cell found no_members = found
 worst_cell found (member k d ms) = worst_cell (found ⊓ cell_check d) ms
 
-abbrev pub cells_among : Option Members → Verdict
-cells_among None = WrongKind
-cells_among (Some ms) = worst_cell Fine ms
-
 abbrev pub cells_check : Data → Verdict
-cells_check d = cells_among (as_object d)
+cells_check d = of_kind (worst_cell Fine) (as_object d)
 
 abbrev pub put_check : Data → Verdict
 put_check d = at_most 2 d ⊓ required text_check (get (codes "put") d) ⊓ required cells_check (get (codes "row") d)

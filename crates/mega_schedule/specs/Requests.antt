@@ -1,5 +1,5 @@
 -- What a line asks of a node.
-use Rattle.std.specs.Prelude.{ℕ, ◌&&◌, Bool, false, not, if◌then◌else◌, List, [], position, codes, Option, Some, None, is_some, option_and_then, unwrap_or}
+use Rattle.std.specs.Prelude.{ℕ, ◌&&◌, Bool, false, not, if◌then◌else◌, List, [], position, codes, Option, Some, None, is_some, option_and_then, unwrap_or, option_map}
 use Rattle.serde_json.specs.Data.{Data}
 use Rattle.serde_json.specs.Find.{get, as_str}
 use Rattle.mega_base.specs.declared.names.GroupId.{GroupId}
@@ -16,7 +16,7 @@ use Rattle.mega_outcome.specs.declared.request.FindRequest.{FindRequest}
 use Rattle.mega_outcome.specs.declared.request.Request.{Request}
 use Rattle.mega_outcome.specs.declared.request.Request.TheVariants.{Batch, PumpEnter, PumpHandle}
 use Rattle.mega_schedule.specs.declared.form.Pump.{Pump}
-use Rattle.mega_schedule.specs.declared.form.Pump.TheVariants.{Enter, Handle}
+use Rattle.mega_schedule.specs.declared.form.Pump.TheVariants.{Handle}
 use Rattle.mega_schedule.specs.Forms.{mode_named, pump_named}
 use Rattle.mega_schedule.specs.Values.{text_in, list_in, values_at, number_of_place, properties_of, group_of}
 use Rattle.mega_schedule.specs.Rows.{each_in, read_of, transaction_of}
@@ -59,8 +59,7 @@ index_or_none schema d =
     then index_in schema d else 0
 
 abbrev pub group_if : Schema → Option Data → Option GroupId
-group_if schema None = None
-group_if schema (Some d) = Some (group_of schema (Some d))
+group_if schema d = option_map (λ (d : Data). group_of schema (Some d)) d
 
 abbrev pub find_request : Schema → Data → FindRequest
 find_request schema d = record {
@@ -72,8 +71,7 @@ find_request schema d = record {
 
 abbrev pub pump_request : Option Pump → Request
 pump_request (Some Handle) = PumpHandle
-pump_request (Some Enter) = PumpEnter
-pump_request None = PumpEnter
+pump_request _ = PumpEnter
 
 abbrev pub pump_of : Data → Request
 pump_of d = pump_request (option_and_then pump_named (option_and_then as_str (get (codes "what") d)))

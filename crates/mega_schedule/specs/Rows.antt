@@ -33,10 +33,7 @@ abbrev pub named_in : Schema → Option Data → Option Table
 named_in schema o = table_at schema.tables (table_in schema o)
 
 abbrev pub row_of : Schema → List ℕ → Data → RowRef
-row_of schema word d = record {
-  table = table_in schema (get word d);
-  key = key_in (named_in schema (get word d)) (list_in (get (codes "key") d));
-}
+row_of schema word d = record { table = table_in schema (get word d); key = key_in (named_in schema (get word d)) (list_in (get (codes "key") d)) }
 
 abbrev pub read_of : Schema → Data → RowRef
 read_of schema d = row_of schema (codes "row") d
@@ -47,11 +44,7 @@ property_in schema table o = property_number (properties_of (named_in schema tab
 
 -- one value, or the values of a list
 abbrev pub cell_values : Option Kind → Data → List Value
-cell_values kind d = listed kind d (as_array d)
-  where
-    listed : Option Kind → Data → Option Items → List Value
-    listed kind d None = value_of kind d ∷ []
-    listed kind d (Some ds) = each_in (value_of kind) ds
+cell_values kind d = elim (as_array d) [ None ↦ value_of kind d ∷ [] | Some ds ↦ each_in (value_of kind) ds ]
 
 -- the values that a check compares
 abbrev pub is_values : Schema → Data → List Value

@@ -1,8 +1,7 @@
 -- Values by the kinds of their places, names by their numbers in a schema, and groups. What has no fault is read exactly; what
 -- has one is read as something, and is not used.
-use Rattle.std.specs.Prelude.{ℕ, ◌+◌, ◌^◌, ℤ, pos, negsuc, Bool, if◌then◌else◌, nat_lt, List, [], ◌∷◌, position, Option, Some, None, option_and_then, unwrap_or, Result, Ok, Err}
+use Rattle.std.specs.Prelude.{ℕ, ◌^◌, ℤ, pos, Bool, if◌then◌else◌, nat_lt, List, [], ◌∷◌, Option, Some, None, option_and_then, unwrap_or, Result, Ok, Err}
 use Rattle.hex.specs.Hex.{decode_of}
-use Rattle.hex.specs.declared.error.FromHexError.{FromHexError}
 use Rattle.serde_json.specs.Data.{Data, Items, no_items, item}
 use Rattle.serde_json.specs.Find.{as_bool, as_str, as_number, as_array, as_i64, as_u64}
 use Rattle.mega_base.specs.declared.names.GroupId.{GroupId}
@@ -10,11 +9,13 @@ use Rattle.mega_base.specs.declared.values.Kind.{Kind}
 use Rattle.mega_base.specs.declared.values.Kind.TheVariants as kinds
 use Rattle.mega_base.specs.declared.values.Value.{Value}
 use Rattle.mega_base.specs.declared.values.Value.TheVariants.{Int32, Int64, Bool as Truth, Str, Raw}
-use Rattle.mega_syntax.specs.Names.{same}
+use Rattle.mega_base.specs.Values.{is_in_range}
+pub use Rattle.mega_base.specs.ListWords.{items_or_none as decoded}
 use Rattle.mega_schema.specs.declared.schema.Property.{Property}
 use Rattle.mega_schema.specs.declared.schema.Table.{Table}
 use Rattle.mega_schema.specs.declared.schema.Schema.{Schema}
-use Rattle.mega_schema.specs.Lookup.{is_root_table}
+use Rattle.mega_schema.specs.Lookup.{is_root_table, table_number as number_among}
+pub use Rattle.mega_schema.specs.Lookup.{number_of_place, properties_in as properties_of, property_number}
 use Rattle.mega_schema.specs.Rules.{kind_at}
 use Rattle.mega_schema.specs.Shaping.{table_at, shape_of}
 use Rattle.mega_keys.specs.declared.fault.KeyFault.{KeyFault}
@@ -41,17 +42,12 @@ byte_in o = if nat_lt (number_in o) 256 then number_in o else 0
 -- ---- values
 
 abbrev pub is_int32 : ℤ → Bool
-is_int32 (pos n) = nat_lt n (2 ^ 31)
-is_int32 (negsuc n) = nat_lt n (2 ^ 31)
+is_int32 z = is_in_range (2 ^ 31) z
 
 -- an int32 where the place has that kind and the number fits, else an int64
 abbrev pub number_value : Option Kind → ℤ → Value
 number_value (Some kinds.Int32) z = if is_int32 z then Int32 z else Int64 z
 number_value _ z = Int64 z
-
-abbrev pub decoded : Result (List ℕ) FromHexError → List ℕ
-decoded (Ok bytes) = bytes
-decoded (Err fault) = []
 
 abbrev pub bytes_of : List ℕ → List ℕ
 bytes_of s = decoded (decode_of s)
@@ -89,20 +85,8 @@ values_at properties places (item d ds) = value_of (first_kind properties places
 
 -- ---- names
 
--- the number of the item at a place, counted from 1; 0 where there is none
-abbrev pub number_of_place : Option ℕ → ℕ
-number_of_place None = 0
-number_of_place (Some i) = if nat_lt i 255 then i + 1 else 0
-
 abbrev pub table_number : Schema → List ℕ → ℕ
-table_number schema name = number_of_place (position (λ t. same t.name name) schema.tables)
-
-abbrev pub property_number : List Property → List ℕ → ℕ
-property_number properties name = number_of_place (position (λ p. same p.name name) properties)
-
-abbrev pub properties_of : Option Table → List Property
-properties_of None = []
-properties_of (Some table) = table.properties
+table_number schema name = number_among schema.tables name
 
 abbrev pub primary_of : Option Table → List ℕ
 primary_of None = []

@@ -7,22 +7,14 @@ use Rattle.mega_schedule.specs.declared.verdict.Verdict.TheVariants.{Missing, Ex
 infixl 10 ◌⊓◌
 abbrev pub ◌⊓◌ : Verdict → Verdict → Verdict
 Missing ⊓ other = Missing
+Fine ⊓ other = other
 Extra ⊓ Missing = Missing
-Extra ⊓ Extra = Extra
-Extra ⊓ WrongKind = Extra
-Extra ⊓ OutOfRange = Extra
-Extra ⊓ Fine = Extra
+Extra ⊓ other = Extra
 WrongKind ⊓ Missing = Missing
 WrongKind ⊓ Extra = Extra
-WrongKind ⊓ WrongKind = WrongKind
-WrongKind ⊓ OutOfRange = WrongKind
-WrongKind ⊓ Fine = WrongKind
-OutOfRange ⊓ Missing = Missing
-OutOfRange ⊓ Extra = Extra
-OutOfRange ⊓ WrongKind = WrongKind
-OutOfRange ⊓ OutOfRange = OutOfRange
+WrongKind ⊓ other = WrongKind
 OutOfRange ⊓ Fine = OutOfRange
-Fine ⊓ other = other
+OutOfRange ⊓ other = other
 
 -- the reason of a verdict, or the answer where nothing is wrong
 abbrev pub judged : {A : Type 0} → Verdict → A → Result A ℕ

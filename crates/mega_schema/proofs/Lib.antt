@@ -1,3 +1,3 @@
-pub mod Told
+pub mod FromExact
 pub mod Naming
 pub mod Growing

@@ -1,8 +1,9 @@
 -- The rules that a statement may break, each by what was declared before it.
-use Rattle.std.specs.Prelude.{ℕ, ◌+◌, Bool, true, false, not, ◌&&◌, ◌||◌, List, [], ◌∷◌, length, map, Option, Some, None, is_none, is_some, if◌then◌else◌, nat_lt, nat_le, count_by}
+use Rattle.std.specs.Prelude.{ℕ, ◌+◌, Bool, true, false, not, ◌&&◌, ◌||◌, List, [], ◌∷◌, length, map, Option, Some, None, is_none, is_some, if◌then◌else◌, nat_lt, nat_le, count_by, option_map, option_and_then}
 use Rattle.std.specs.List.{list_any}
 use Rattle.mega_base.specs.declared.values.Kind.{Kind}
 use Rattle.mega_base.specs.declared.values.Kind.TheVariants.{Int32, Int64, Bool as Truth, Str, Raw}
+pub use Rattle.mega_base.specs.ListWords.{is_empty as are_empty}
 use Rattle.mega_schema.specs.declared.schema.Property.{Property}
 use Rattle.mega_schema.specs.declared.schema.Table.{Table}
 use Rattle.mega_schema.specs.declared.schema.Schema.{Schema}
@@ -15,7 +16,7 @@ use Rattle.mega_syntax.specs.declared.words.Statement.{Statement}
 use Rattle.mega_syntax.specs.declared.words.Statement.TheVariants as statements
 use Rattle.mega_syntax.specs.Names.{same}
 use Rattle.mega_syntax.specs.Reading.{is_root, is_scatter, is_inside, is_group}
-use Rattle.mega_schema.specs.Lookup.{kind_of, is_required, is_repeated, stands_twice, words_named, property_named, property_at, table_named, is_root_table, group_of, inside_of}
+use Rattle.mega_schema.specs.Lookup.{kind_of, is_required, is_repeated, stands_twice, words_named, property_named, property_at, table_named, is_root_table, group_of, inside_of, properties_in}
 
 abbrev pub is_long : List ℕ → Bool
 is_long n = nat_lt 64 (length n)
@@ -33,25 +34,13 @@ abbrev pub is_some_and : {A : Type 0} → (A → Bool) → Option A → Bool
 is_some_and test None = false
 is_some_and test (Some x) = test x
 
-abbrev pub are_empty : {A : Type 0} → List A → Bool
-are_empty [] = true
-are_empty (x ∷ xs) = false
-
 -- the property of this name is there, and is optional or repeated
 abbrev pub is_loose : List PropertyWords → List ℕ → Bool
-is_loose ps n = loose (words_named ps n)
-  where
-    loose : Option PropertyWords → Bool
-    loose None = false
-    loose (Some p) = not (is_required p.need)
+is_loose ps n = is_some_and (λ (p : PropertyWords). not (is_required p.need)) (words_named ps n)
 
 -- the property of this name is there, and is repeated
 abbrev pub repeats : List Property → List ℕ → Bool
-repeats ps n = repeated (property_named ps n)
-  where
-    repeated : Option Property → Bool
-    repeated None = false
-    repeated (Some p) = is_repeated p.need
+repeats ps n = is_some_and (λ (p : Property). is_repeated p.need) (property_named ps n)
 
 -- some type is none of the five
 abbrev pub has_other_type : List PropertyWords → Bool
@@ -76,32 +65,22 @@ same_kind _ _ = false
 
 -- the kind of a statement's property, where the property and its type are known
 abbrev pub named_kind : List PropertyWords → List ℕ → Option Kind
-named_kind ps n = kind (words_named ps n)
-  where
-    kind : Option PropertyWords → Option Kind
-    kind None = None
-    kind (Some p) = kind_of p.kind
+named_kind ps n = option_and_then (λ (p : PropertyWords). kind_of p.kind) (words_named ps n)
 
 -- both kinds are known, and they are not the same
 abbrev pub differ : Option Kind → Option Kind → Bool
-differ None b = false
-differ (Some k) None = false
 differ (Some k) (Some l) = not (same_kind k l)
+differ _ _ = false
 
 -- the kind of the property with this number
 abbrev pub kind_at : List Property → ℕ → Option Kind
-kind_at rs m = kind (property_at rs m)
-  where
-    kind : Option Property → Option Kind
-    kind None = None
-    kind (Some p) = Some p.kind
+kind_at rs m = option_map (λ (p : Property). p.kind) (property_at rs m)
 
 -- the group key has not as many properties as the root's primary key, of the same kinds
 abbrev pub kinds_differ : List PropertyWords → List (List ℕ) → List Property → List ℕ → Bool
 kinds_differ ps [] rs [] = false
-kinds_differ ps [] rs (m ∷ ms) = true
-kinds_differ ps (n ∷ ns) rs [] = true
 kinds_differ ps (n ∷ ns) rs (m ∷ ms) = differ (named_kind ps n) (kind_at rs m) || kinds_differ ps ns rs ms
+kinds_differ ps _ rs _ = true
 
 -- some name is that of no property
 abbrev pub has_unknown : List PropertyWords → List (List ℕ) → Bool
@@ -116,19 +95,11 @@ repeated_count ps ns = count_by (λ n. repeats ps n) ns
 
 -- what a group key says, where there is one
 abbrev pub of_group : List Clause → (List (List ℕ) → List ℕ → Bool) → Bool
-of_group cs test = tested (group_of cs)
-  where
-    tested : Option (List (List ℕ) × List ℕ) → Bool
-    tested None = false
-    tested (Some g) = test g.0 g.1
+of_group cs test = is_some_and (λ (g : List (List ℕ) × List ℕ). test g.0 g.1) (group_of cs)
 
 -- what the table of this name says, where there is one
 abbrev pub of_table : List Table → List ℕ → (Table → Bool) → Bool
-of_table ts n test = tested (table_named ts n)
-  where
-    tested : Option Table → Bool
-    tested None = false
-    tested (Some t) = test t
+of_table ts n test = is_some_and test (table_named ts n)
 
 -- 1: another table has its name, or two of its properties have one name
 abbrev pub table_rule_1 : Schema → TableWords → Bool
@@ -230,11 +201,7 @@ index_rule_12 i = is_long i.name
 
 -- the properties of the table of this name, none where it is unknown
 abbrev pub properties_of : Schema → List ℕ → List Property
-properties_of s n = properties (table_named s.tables n)
-  where
-    properties : Option Table → List Property
-    properties None = []
-    properties (Some t) = t.properties
+properties_of s n = properties_in (table_named s.tables n)
 
 abbrev pub adds_known : List Property → List PropertyWords → Bool
 adds_known old added = list_any (λ p. is_some (property_named old p.name)) added

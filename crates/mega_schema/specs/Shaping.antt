@@ -1,18 +1,15 @@
 -- How the row keys of a table are spelled.
-use Rattle.std.specs.Prelude.{ℕ, ◌-◌, ◌||◌, List, [], length, drop, Option, Some, None, if◌then◌else◌, ◌==◌, slice_get}
+use Rattle.std.specs.Prelude.{ℕ, ◌||◌, List, [], length, drop, Option, Some, None, if◌then◌else◌}
 use Rattle.std.specs.List.{flat_map}
 use Rattle.std.specs.Option.{option_to_list}
 use Rattle.mega_base.specs.declared.values.Kind.{Kind}
 use Rattle.mega_base.specs.declared.values.Shape.{Shape}
+pub use Rattle.mega_base.specs.ListWords.{numbered as table_at}
 use Rattle.mega_schema.specs.declared.schema.Property.{Property}
 use Rattle.mega_schema.specs.declared.schema.Table.{Table}
 use Rattle.mega_schema.specs.declared.schema.Schema.{Schema}
 use Rattle.mega_schema.specs.Lookup.{is_root_table}
 use Rattle.mega_schema.specs.Rules.{kind_at}
-
--- the table with this number, from 1
-abbrev pub table_at : List Table → ℕ → Option Table
-table_at ts n = if n == 0 then None else slice_get ts (n - 1)
 
 -- the kinds of these properties
 abbrev pub kinds_of : List Property → List ℕ → List Kind

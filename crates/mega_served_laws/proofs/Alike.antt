@@ -3,7 +3,7 @@ use Rattle.std.proofs.Common.{◌≡◌, ℕ, ◌+◌, ◌==◌, ◌&&◌, Bool,
 use Rattle.std.specs.Prelude.{option_map, unwrap_or}
 use Rattle.std.specs.List.{cons_option, list_any}
 use Rattle.mega_cluster.specs.declared.cluster.Cluster.{Cluster}
-use Rattle.mega_coordinator.specs.History.{Ticks as Told, serving}
+use Rattle.mega_coordinator.specs.History.{Ticks as CoordinatorTicks, serving}
 use Rattle.mega_locks.specs.History.{Call, Asks, Reopens, Ticks as CellTicks, first_tick, lock_of, nodes as lock_nodes, term}
 use Rattle.mega_locks.specs.Rule.{asked, reopened, ticked}
 use Rattle.mega_wal.specs.Acceptor.{Act, Promised, Voted, best, greater_ballot, greater_vote, shown}
@@ -179,7 +179,7 @@ alike_more w c me (Ticks now) a b h = record {
   ticks = ap (λ ts. now ∷ ts) h.ticks;
   begun = h.begun;
   opening = refl;
-  calls = λ i. Told now ∷ h.calls i;
+  calls = λ i. CoordinatorTicks now ∷ h.calls i;
   cell = cell_more w (CellTicks now (keep_of c)) (cell_calls c me a) (cell_calls c me b) h.cell;
   marks = h.marks;
 }

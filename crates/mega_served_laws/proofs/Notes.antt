@@ -12,7 +12,7 @@ use Rattle.mega_coordinator.specs.declared.answers.Counted.TheVariants.{No, Yes,
 use Rattle.mega_coordinator.specs.declared.answers.NotValid.{NotValid}
 use Rattle.mega_locks.specs.History.{lapse_for, nodes as lock_nodes}
 use Rattle.mega_locks.specs.declared.asked.Asked.{Asked}
-use Rattle.mega_locks.specs.declared.asked.Asked.TheVariants.{Granted as Grant, Renewed, Taken, Over}
+use Rattle.mega_locks.specs.declared.asked.Asked.TheVariants.{Granted as Grant, Renewed, GreaterHeld, Over}
 use Rattle.mega_wire.specs.declared.message.Message.{Message}
 use Rattle.mega_wire.specs.declared.message.Body.{Body}
 use Rattle.mega_wire.specs.declared.message.Body.TheVariants.{Acquire, Granted, Invalidate}
@@ -95,7 +95,7 @@ nothing_noted now valid answers = record { valid = subst (All IsNote) (sym valid
 grant_noted : (node : ℕ) (epoch : Epoch) (asked : Asked) → All IsNote (grant_note node epoch asked)
 grant_noted node epoch Grant = single (Grants node epoch) refl
 grant_noted node epoch Renewed = nothing
-grant_noted node epoch (Taken greatest) = nothing
+grant_noted node epoch (GreaterHeld greatest) = nothing
 grant_noted node epoch (Over greatest) = nothing
 
 counts_noted : (cell : ℕ) (epoch : Epoch) (was : Bool) (counted : Counted) → All IsNote (counts_notes cell epoch was counted)

@@ -123,11 +123,11 @@ module _ (c : Cluster) (me : ℕ) (base : List Line) where
 -- ---- a call
 
 -- what the journal of the calls before tells, and what it says
-pub record Stands (me : ℕ) (x : Served) (before : List JournalItem) : Type 0 where
+pub record AgreesWithJournal (me : ℕ) (x : Served) (before : List JournalItem) : Type 0 where
   pub journal : SaySame x.journal before
   pub kept : KeptAlike (x.node).met (met_of me before)
 
-started : (c : Cluster) (me : ℕ) (first : Meanings) (x : Served) (before : List JournalItem) → Stands me x before → ServedAlike c me x.lines (starts_again c me first x) (served_start c me first before)
+started : (c : Cluster) (me : ℕ) (first : Meanings) (x : Served) (before : List JournalItem) → AgreesWithJournal me x before → ServedAlike c me x.lines (starts_again c me first x) (served_start c me first before)
 started c me first x before h = record {
   lines = λ i. x.lines ++ noted me (items i);
   node = subst (λ n. NodeAlike anywhere c me (start s n [] (x.node).met) (start s (starts_of before + 1) [] (met_of me before))) (sym number) (start_alike s anywhere (starts_of before + 1) (x.node).met (met_of me before) h.kept);
@@ -156,9 +156,9 @@ left_says journal after (inr k) = compacted_says journal after k
 -- what one call leads to
 pub record Called (me : ℕ) (x : Served) (call : NodeCall) : Type 0 where
   pub lines : (called me x call).lines ≡ x.lines ++ call.lines
-  pub stands : Stands me (called me x call) call.after
+  pub stands : AgreesWithJournal me (called me x call) call.after
 
-call_goes : (me : ℕ) (x : Served) (before : List JournalItem) (call : NodeCall) → Stands me x before
+call_goes : (me : ℕ) (x : Served) (before : List JournalItem) (call : NodeCall) → AgreesWithJournal me x before
     → IsNodeRun call.cluster me call.wish call.first before call.turns call.lines call.sends call.after → Called me x call
 call_goes me x before call h run = record {
   lines = alike.lines ∙ ap (λ lines. x.lines ++ lines) (sym run.record_is);
@@ -182,9 +182,9 @@ call_goes me x before call h run = record {
 
 pub record AllCalled (me : ℕ) (x : Served) (before : List JournalItem) (calls : List NodeCall) : Type 0 where
   pub lines : (all_called me x calls).lines ≡ x.lines ++ lines_of calls
-  pub stands : Stands me (all_called me x calls) (left_by before calls)
+  pub stands : AgreesWithJournal me (all_called me x calls) (left_by before calls)
 
-calls_go : (me : ℕ) (calls : List NodeCall) (x : Served) (before : List JournalItem) → Stands me x before → AreNodeCalls me before calls → AllCalled me x before calls
+calls_go : (me : ℕ) (calls : List NodeCall) (x : Served) (before : List JournalItem) → AgreesWithJournal me x before → AreNodeCalls me before calls → AllCalled me x before calls
 calls_go me [] x before h run = record { lines = sym (append-nil x.lines); stands = h }
 calls_go me (call ∷ calls) x before h run =
     let one = call_goes me x before call h run.0 in

@@ -5,7 +5,7 @@ use Rattle.std.specs.List.{list_any}
 use Rattle.mega_base.specs.declared.names.GroupId.{GroupId}
 use Rattle.mega_cluster.specs.declared.cluster.Cluster.{Cluster}
 use Rattle.mega_ballot.specs.Order.{zero_ballot}
-use Rattle.mega_coordinator.specs.History.{Call as Told, Ticks as ToldTicks, epoch_after, lease_of, ticked as told_ticked}
+use Rattle.mega_coordinator.specs.History.{Call as CoordinatorCall, Ticks as CoordinatorTicks, epoch_after, lease_of, ticked as told_ticked}
 use Rattle.mega_coordinator.specs.Lease.{counted_by, granted_answer}
 use Rattle.mega_locks.specs.History.{lapse_for, lock_of, nodes as lock_nodes, term}
 use Rattle.mega_locks.specs.Rule.{answer, held_epoch, lapse}
@@ -82,7 +82,7 @@ lapses_alike w s a b now h = λ i. cond (nat_le s.me s.cluster.cells)
         → lapse_note node (lapse_for (cell_calls s.cluster s.me a) now (keep_of s.cluster) node) ≡ lapse_note node (lapse_for (cell_calls s.cluster s.me b) now (keep_of s.cluster) node)
     at node is = λ i. lapse_note node (lapse (unwrap_or ((h.cell).first i) (term now (keep_of s.cluster))) now ((h.cell).locks node (w.wide node is) i))
 
-abbrev ticked_notes : Cluster → ℕ → ℕ → List Told → List Met
+abbrev ticked_notes : Cluster → ℕ → ℕ → List CoordinatorCall → List Met
 ticked_notes c now start calls =
     forget_notes (epoch_after start c.cells calls) (filter (is_cell_in (told_ticked start c.cells calls now).forgot) (cells c)) ++ lost_note (told_ticked start c.cells calls now).lost
 
@@ -91,7 +91,7 @@ leases_alike w s a b now h = λ i. cond (is_full s.cluster s.me) (ticked_notes s
 
 pub acquires_alike : (w : Scope) (c : Cluster) (me : ℕ) (a b : List Met) (now : ℕ) → Alike w c me a b → acquires_at c me a now ≡ acquires_at c me b now
 acquires_alike w c me a b now h = λ i. cond (is_full c me && does_again c.retry (h.ticks i) now)
-    (acquires c me (ToldTicks now ∷ h.calls i) (h.start i) now (epoch_after (h.start i) c.cells (ToldTicks now ∷ h.calls i))) []
+    (acquires c me (CoordinatorTicks now ∷ h.calls i) (h.start i) now (epoch_after (h.start i) c.cells (CoordinatorTicks now ∷ h.calls i))) []
 
 background_alike : (w : Scope) (s : Setting) (a b : List Met) (now : ℕ) → Alike w s.cluster s.me a b → background s a now ≡ background s b now
 background_alike w s a b now h = λ i. cond (has_rows s.cluster s.me && does_again s.cluster.retry (h.ticks i) now) (flat_map (λ group. fetches group i) ((h.kept).groups i)) []

@@ -12,11 +12,11 @@ use Rattle.mega_wal.specs.declared.answers.LogFault.TheVariants as log
 use Rattle.mega_rules.specs.Operations.{Node as RuleNode, Setting}
 use Rattle.mega_rules.specs.Steps.{Event}
 use Rattle.mega_replica.specs.Used.{StoreUsed}
-use Rattle.mega_durable.specs.of_actions.of_proposing.Settings.{setting}
-use Rattle.mega_durable.specs.of_core.of_taking.declared.fault.StepFault.{StepFault}
-use Rattle.mega_durable.specs.of_core.of_taking.declared.fault.StepFault.TheVariants as step
+use Rattle.mega_durable.specs.of_actions.of_step_work.Settings.{setting}
+use Rattle.mega_durable.specs.of_core.of_node_events.declared.fault.StepFault.{StepFault}
+use Rattle.mega_durable.specs.of_core.of_node_events.declared.fault.StepFault.TheVariants as step
 use Rattle.mega_durable.specs.of_core.declared.node.Node.{Node}
-use Rattle.mega_durable.specs.of_core.of_stepping.declared.step.Step.{Step}
+use Rattle.mega_durable.specs.of_core.of_step_parts.declared.step.Step.{Step}
 use Rattle.mega_durable.specs.declared.fault.UpFault.{UpFault}
 use Rattle.mega_durable.specs.declared.fault.UpFault.TheVariants as up
 use Rattle.mega_durable.specs.Compacting.{AtEachUp, LogCompacts, OwesNothing}

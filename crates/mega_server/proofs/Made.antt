@@ -5,8 +5,8 @@ use Rattle.mega_cluster.specs.declared.cluster.Cluster.{Cluster}
 use Rattle.mega_promises.specs.Items.{shown}
 use Rattle.mega_promises.specs.Runs.{setting}
 use Rattle.mega_rules.specs.Steps.{Event, step}
-use Rattle.mega_durable.specs.of_core.of_stepping.declared.step.Step.{Step}
-use Rattle.mega_durable.specs.of_core.of_stepping.Notes.{met_of}
+use Rattle.mega_durable.specs.of_core.of_step_parts.declared.step.Step.{Step}
+use Rattle.mega_durable.specs.of_core.of_step_parts.Notes.{met_of}
 use Rattle.mega_serve.specs.declared.steps.Made.{Made}
 use Rattle.mega_serve.specs.Stepping.{IsMade}
 use Rattle.mega_server.specs.Forming.{notes_shown}

@@ -5,8 +5,8 @@ use Rattle.std.proofs.lemmas.List.Elements.{All-append, All-cons, All-nil}
 use Rattle.mega_transcript.specs.declared.item.Item.{Item}
 use Rattle.mega_transcript.specs.Lines.{HasLine}
 use Rattle.mega_promises.specs.Items.{shown}
-use Rattle.mega_durable.specs.of_core.of_stepping.declared.note.Note.{Note}
-use Rattle.mega_durable.specs.of_core.of_stepping.Notes.{met_of}
+use Rattle.mega_durable.specs.of_core.of_step_parts.declared.note.Note.{Note}
+use Rattle.mega_durable.specs.of_core.of_step_parts.Notes.{met_of}
 use Rattle.mega_server.specs.Forming.{notes_shown}
 
 one_more : (me : ℕ) (notes : List Note) (note : Note) (item : Item) → shown me (met_of note) ≡ item ∷ [] → notes_shown me (notes ++ note ∷ []) ≡ notes_shown me notes ++ item ∷ []

@@ -1,6 +1,6 @@
 -- Why a node that is served did not step, by why the node over its records did not.
-use Rattle.mega_durable.specs.of_core.of_taking.declared.fault.StepFault.{StepFault}
-use Rattle.mega_durable.specs.of_core.of_taking.declared.fault.StepFault.TheVariants as step
+use Rattle.mega_durable.specs.of_core.of_node_events.declared.fault.StepFault.{StepFault}
+use Rattle.mega_durable.specs.of_core.of_node_events.declared.fault.StepFault.TheVariants as step
 use Rattle.mega_durable.specs.declared.fault.UpFault.{UpFault}
 use Rattle.mega_durable.specs.declared.fault.UpFault.TheVariants as up
 use Rattle.mega_serve.specs.of_page.declared.fault.NodeFault.{NodeFault}

@@ -6,10 +6,10 @@ ghost use Rattle.mega_server.specs.Forming.{notes_shown};
 
 use mega_base::Items;
 use mega_durable::item_of;
-use mega_durable::mega_core::mega_stepping::{Note, Step};
-use mega_formed::{is_entry, is_message};
+use mega_durable::mega_core::mega_step_parts::{Note, Step};
 use mega_serve::{Made, NodeFault};
 use mega_transcript::Item;
+use mega_well_formed::{is_entry, is_message};
 use mega_wire::Message;
 use std::alloc::Global;
 

@@ -43,7 +43,7 @@ use Rattle.mega_run_laws.proofs.Shown.{IsSilent, notes_silent}
 use Rattle.mega_settled_laws.proofs.Tapes.{asked_sent, asks_in, earlier_stood, items_asked, items_later, now_is, one_later, sent_later, then_later}
 use Rattle.mega_settled_laws.proofs.Settle.{AreOfCells, Cause, CellBody, by_answer, by_news, by_own}
 use Rattle.mega_settled_laws.proofs.Steps.{NoteCause, StepKnows, begin_knows, take_knows, tick_knows}
-use Rattle.mega_settled_laws.proofs.Turns.{Kept, OpenAt, Own, OwnBody, knowing_on}
+use Rattle.mega_settled_laws.proofs.Turns.{OpenBelow, OpenAt, Own, OwnBody, knowing_on}
 
 -- ---- causes on a longer tape
 
@@ -309,7 +309,7 @@ module _ (c : Cluster) (now : Standing) (me : ℕ) (item : Item) (event : IsEven
     }
 
     third_opens : Each (OpenAt c third me) (made.node).open_operations
-    third_opens = each_on (Kept c first made.sends me k.k) (OpenAt c third me) (λ o kept. record {
+    third_opens = each_on (OpenBelow c first made.sends me k.k) (OpenAt c third me) (λ o kept. record {
       node = kept.node;
       begun = begun_on first third o.id third_later kept.begun;
       knowing = knowing_on c first third made.sends o.id o.phase third_later (λ about a b. asked_sent count made.sends second o.id about b (second_asked o.id about ∙ a)) kept.knowing;

@@ -8,11 +8,11 @@ use Rattle.mega_base.specs.declared.names.OpId.{OpId}
 use Rattle.mega_base.specs.declared.names.Position.{Position}
 use Rattle.mega_ballot.specs.declared.ballot.Ballot.{Ballot}
 use Rattle.mega_cluster.specs.declared.cluster.Cluster.{Cluster}
-use Rattle.mega_coordinator.specs.History.{Call, Ticks as Told, counted_cells, epoch_after, serving}
+use Rattle.mega_coordinator.specs.History.{Call, Ticks as CoordinatorTicks, counted_cells, epoch_after, serving}
 use Rattle.mega_coordinator.specs.declared.answers.NotValid.{NotValid}
 use Rattle.mega_entry.specs.declared.content.Content.{Content}
 use Rattle.mega_locks.specs.declared.asked.Asked.{Asked}
-use Rattle.mega_locks.specs.declared.asked.Asked.TheVariants.{Granted as Grant, Renewed, Taken as TakenBy, Over}
+use Rattle.mega_locks.specs.declared.asked.Asked.TheVariants.{Granted as Grant, Renewed, GreaterHeld, Over}
 use Rattle.mega_outcome.specs.declared.request.Request.{Request}
 use Rattle.mega_run_laws.specs.of_rules.of_read.of_propose.Members.{others}
 use Rattle.mega_wal.specs.Acceptor.{accept_answer, promise_answer}
@@ -49,7 +49,7 @@ use Rattle.mega_run_laws.proofs.Whole.{take_by}
 use Rattle.mega_settled_laws.specs.Covering.{asks_about, has_asked_about}
 use Rattle.mega_settled_laws.proofs.Tapes.{asks_both, asks_in}
 use Rattle.mega_settled_laws.proofs.Settle.{AreOfCells, Cause, CauseOf, by_answer, by_news, first_settles}
-use Rattle.mega_settled_laws.proofs.Turns.{Acted, AllActed, Kept, Own, OwnBody, Opens, all_heard_acted, all_ticked_acted, begins_acted}
+use Rattle.mega_settled_laws.proofs.Turns.{Acted, AllActed, OpenBelow, Own, OwnBody, Opens, all_heard_acted, all_ticked_acted, begins_acted}
 
 -- ---- what a node sends by itself, and its reply
 
@@ -115,7 +115,7 @@ fetched_plain c op group n (Some entry) = tt
 lock_plain : (c : Cluster) (cell : ℕ) (epoch : Epoch) (clock : ℕ) (asked : Asked) → PlainBody c (lock_answer cell epoch clock asked)
 lock_plain c cell epoch clock Grant = tt
 lock_plain c cell epoch clock Renewed = tt
-lock_plain c cell epoch clock (TakenBy greatest) = tt
+lock_plain c cell epoch clock (GreaterHeld greatest) = tt
 lock_plain c cell epoch clock (Over greatest) = tt
 
 held_plain : (c : Cluster) (me : ℕ) (op : OpId) (cell : ℕ) (node : NodeId) (held : Option Epoch) (t : Bool) → (cell == me && is_cell c me) ≡ t → PlainAnswer c (where_served t (held_answer op cell node held))
@@ -159,8 +159,8 @@ acquires_plain c me calls start now (Some epoch) =
 acquires_at_plain : (c : Cluster) (me : ℕ) (met : List Met) (now : ℕ) → Each (Plain c me) (acquires_at c me met now)
 acquires_at_plain c me met now =
     plain_if c me (is_full c me && does_again c.retry (ticks_of met) now)
-    (acquires c me (Told now ∷ coordinator_calls c met) (start_of met) now (epoch_after (start_of met) c.cells (Told now ∷ coordinator_calls c met)))
-    (acquires_plain c me (Told now ∷ coordinator_calls c met) (start_of met) now (epoch_after (start_of met) c.cells (Told now ∷ coordinator_calls c met)))
+    (acquires c me (CoordinatorTicks now ∷ coordinator_calls c met) (start_of met) now (epoch_after (start_of met) c.cells (CoordinatorTicks now ∷ coordinator_calls c met)))
+    (acquires_plain c me (CoordinatorTicks now ∷ coordinator_calls c met) (start_of met) now (epoch_after (start_of met) c.cells (CoordinatorTicks now ∷ coordinator_calls c met)))
 
 -- ---- notes
 
@@ -211,15 +211,15 @@ step_causes c tape me locks durable applies now l d a n =
 
 pub record StepKnows (s : Setting) (tape : List Item) (made : Step) : Type 0 where
   pub k : ℕ
-  pub opens : Each (Kept s.cluster tape made.sends s.me k) (made.node).open_operations
+  pub opens : Each (OpenBelow s.cluster tape made.sends s.me k) (made.node).open_operations
   pub own : Each (Own s.cluster tape s.me k) made.sends
   pub causes : Each (NoteCause s.cluster tape s.me) made.notes
 
 -- what the node sends besides asks no cell
 with_sends : (s : Setting) (tape : List Item) (k : ℕ) (now : Now) (before behind : List Message) → Acted s.cluster tape s.me k now → Each (Plain s.cluster s.me) before → Each (Plain s.cluster s.me) behind
-    → Each (Kept s.cluster tape ((before ++ now.sends) ++ behind) s.me k) now.kept × Each (Own s.cluster tape s.me k) ((before ++ now.sends) ++ behind)
+    → Each (OpenBelow s.cluster tape ((before ++ now.sends) ++ behind) s.me k) now.kept × Each (Own s.cluster tape s.me k) ((before ++ now.sends) ++ behind)
 with_sends s tape k now before behind a h j = (
-  each_on (Kept s.cluster tape now.sends s.me k) (Kept s.cluster tape ((before ++ now.sends) ++ behind) s.me k) (λ o kept. record {
+  each_on (OpenBelow s.cluster tape now.sends s.me k) (OpenBelow s.cluster tape ((before ++ now.sends) ++ behind) s.me k) (λ o kept. record {
     node = kept.node;
     below = kept.below;
     begun = kept.begun;
@@ -235,9 +235,9 @@ with_sends s tape k now before behind a h j = (
 )
 
 no_more : (s : Setting) (tape : List Item) (k : ℕ) (now : Now) (before : List Message) → Acted s.cluster tape s.me k now → Each (Plain s.cluster s.me) before
-    → Each (Kept s.cluster tape (before ++ now.sends) s.me k) now.kept × Each (Own s.cluster tape s.me k) (before ++ now.sends)
+    → Each (OpenBelow s.cluster tape (before ++ now.sends) s.me k) now.kept × Each (Own s.cluster tape s.me k) (before ++ now.sends)
 no_more s tape k now before a h = (
-  each_on (Kept s.cluster tape now.sends s.me k) (Kept s.cluster tape (before ++ now.sends) s.me k) (λ o kept. record {
+  each_on (OpenBelow s.cluster tape now.sends s.me k) (OpenBelow s.cluster tape (before ++ now.sends) s.me k) (λ o kept. record {
     node = kept.node;
     below = kept.below;
     begun = kept.begun;
@@ -293,7 +293,7 @@ module _ (s : Setting) (tape : List Item) (node : Node) (cells_of : AreOfCells s
       all : AllActed s tape now
       all = all_heard_acted s tape (clock_of node.met) m took node.open_operations 0 (at_first base (stored_after s base node.stored d)) rising opens (record { kept = tt; own = tt })
 
-      parts : Each (Kept s.cluster tape ((reply_to s.cluster s.me node.met m ++ told_news) ++ now.sends) s.me all.k) now.kept × Each (Own s.cluster tape s.me all.k) ((reply_to s.cluster s.me node.met m ++ told_news) ++ now.sends)
+      parts : Each (OpenBelow s.cluster tape ((reply_to s.cluster s.me node.met m ++ told_news) ++ now.sends) s.me all.k) now.kept × Each (Own s.cluster tape s.me all.k) ((reply_to s.cluster s.me node.met m ++ told_news) ++ now.sends)
       parts = no_more s tape all.k now (reply_to s.cluster s.me node.met m ++ told_news) all.acted
           (each_both (Plain s.cluster s.me) (reply_to s.cluster s.me node.met m) told_news (reply_plain s.cluster s.me node.met m) plain)
 
@@ -328,15 +328,15 @@ module _ (s : Setting) (tape : List Item) (node : Node) (cells_of : AreOfCells s
       all : AllActed s tape now
       all = all_ticked_acted s tape clock node.open_operations 0 (at_first base (portion_of s node.met node.stored)) rising opens (record { kept = tt; own = tt })
 
-      parts : Each (Kept s.cluster tape ((acquires_at s.cluster s.me node.met clock ++ now.sends) ++ background s node.met clock) s.me all.k) now.kept
+      parts : Each (OpenBelow s.cluster tape ((acquires_at s.cluster s.me node.met clock ++ now.sends) ++ background s node.met clock) s.me all.k) now.kept
           × Each (Own s.cluster tape s.me all.k) ((acquires_at s.cluster s.me node.met clock ++ now.sends) ++ background s node.met clock)
       parts = with_sends s tape all.k now (acquires_at s.cluster s.me node.met clock) (background s node.met clock) all.acted (acquires_at_plain s.cluster s.me node.met clock) (background_plain s node.met clock)
 
   -- the operations that are open already are below a number
-  kept_open : (k : ℕ) → Each (λ (o : Operation). (o.id).number < k) node.open_operations → Each (Kept s.cluster tape [] s.me k) node.open_operations
+  kept_open : (k : ℕ) → Each (λ (o : Operation). (o.id).number < k) node.open_operations → Each (OpenBelow s.cluster tape [] s.me k) node.open_operations
   kept_open k below = by node.open_operations opens below
     where
-      by : (os : List Operation) → Each (Opens s tape) os → Each (λ (o : Operation). (o.id).number < k) os → Each (Kept s.cluster tape [] s.me k) os
+      by : (os : List Operation) → Each (Opens s tape) os → Each (λ (o : Operation). (o.id).number < k) os → Each (OpenBelow s.cluster tape [] s.me k) os
       by [] h b = tt
       by (o ∷ os) h b = (record { node = (h.0).node; below = b.0; begun = (h.0).begun; knowing = (h.0).knowing }, by os h.1 b.1)
 
@@ -358,7 +358,7 @@ module _ (s : Setting) (tape : List Item) (node : Node) (cells_of : AreOfCells s
       now : Now
       now = unless_refused s begin (new_operation (op_of s node.met) request (clock_of node.met)) (refusal s node request)
 
-      raised : (l : ℕ) → k ≤ l → Each (Kept s.cluster tape [] s.me l) node.open_operations
+      raised : (l : ℕ) → k ≤ l → Each (OpenBelow s.cluster tape [] s.me l) node.open_operations
       raised l le = kept_open l (each_on (λ (o : Operation). (o.id).number < k) (λ (o : Operation). (o.id).number < l) (λ o less. omega (arith, less, le)) node.open_operations below)
 
       all : AllActed s tape now

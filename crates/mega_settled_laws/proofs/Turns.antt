@@ -130,7 +130,7 @@ below_silent c tape me k x node (m ∷ ms) le own = or_from (asks_about x node m
 -- ---- one operation acts
 
 -- an operation that stays open, with a number below this one
-pub record Kept (c : Cluster) (tape : List Item) (sends : List Message) (me k : ℕ) (o : Operation) : Type 0 where
+pub record OpenBelow (c : Cluster) (tape : List Item) (sends : List Message) (me k : ℕ) (o : Operation) : Type 0 where
   pub node : (o.id).node.0 ≡ me
   pub below : (o.id).number < k
   pub begun : has_begun tape o.id ≡ true
@@ -138,18 +138,18 @@ pub record Kept (c : Cluster) (tape : List Item) (sends : List Message) (me k : 
 
 -- those with lower numbers acted
 pub record Acted (c : Cluster) (tape : List Item) (me k : ℕ) (now : Now) : Type 0 where
-  pub kept : Each (Kept c tape now.sends me k) now.kept
+  pub kept : Each (OpenBelow c tape now.sends me k) now.kept
   pub own : Each (Own c tape me k) now.sends
 
 -- and this one acts
 pub record Acts (c : Cluster) (tape : List Item) (me : ℕ) (now : Now) (op : OpId) (phase : Phase) : Type 0 where
-  pub kept : Each (Kept c tape now.sends me op.number) now.kept
+  pub kept : Each (OpenBelow c tape now.sends me op.number) now.kept
   pub own : Each (Own c tape me (op.number + 1)) now.sends
   pub node : op.node.0 ≡ me
   pub begun : has_begun tape op ≡ true
   pub knowing : Knowing c tape now.sends op phase
 
-kept_more : (c : Cluster) (tape : List Item) (sends : List Message) (me k l : ℕ) → k ≤ l → (o : Operation) → Kept c tape sends me k o → Kept c tape sends me l o
+kept_more : (c : Cluster) (tape : List Item) (sends : List Message) (me k l : ℕ) → k ≤ l → (o : Operation) → OpenBelow c tape sends me k o → OpenBelow c tape sends me l o
 kept_more c tape sends me k l le o h = record { node = h.node; below = (let less = h.below in omega (arith, less, le)); begun = h.begun; knowing = h.knowing }
 
 next_of : (n : ℕ) → n < n + 1
@@ -161,15 +161,15 @@ next_most n = omega arith
 module _ (c : Cluster) (tape : List Item) (me : ℕ) where
   acts_keeps : (now : Now) (o : Operation) → Acts c tape me now o.id o.phase → Acted c tape me ((o.id).number + 1) (keeps now o)
   acts_keeps now o a = record {
-    kept = each_push (Kept c tape now.sends me ((o.id).number + 1)) now.kept o
-        (each_on (Kept c tape now.sends me (o.id).number) (Kept c tape now.sends me ((o.id).number + 1)) (kept_more c tape now.sends me (o.id).number ((o.id).number + 1) (next_most (o.id).number)) now.kept a.kept)
+    kept = each_push (OpenBelow c tape now.sends me ((o.id).number + 1)) now.kept o
+        (each_on (OpenBelow c tape now.sends me (o.id).number) (OpenBelow c tape now.sends me ((o.id).number + 1)) (kept_more c tape now.sends me (o.id).number ((o.id).number + 1) (next_most (o.id).number)) now.kept a.kept)
         (record { node = a.node; below = next_of (o.id).number; begun = a.begun; knowing = a.knowing });
     own = a.own;
   }
 
   acts_ends : (now : Now) (o : Operation) (answer : Answer) → Acts c tape me now o.id o.phase → Acted c tape me ((o.id).number + 1) (ends now o.id answer)
   acts_ends now o answer a = record {
-    kept = each_on (Kept c tape now.sends me (o.id).number) (Kept c tape now.sends me ((o.id).number + 1)) (kept_more c tape now.sends me (o.id).number ((o.id).number + 1) (next_most (o.id).number)) now.kept a.kept;
+    kept = each_on (OpenBelow c tape now.sends me (o.id).number) (OpenBelow c tape now.sends me ((o.id).number + 1)) (kept_more c tape now.sends me (o.id).number ((o.id).number + 1) (next_most (o.id).number)) now.kept a.kept;
     own = a.own;
   }
 
@@ -178,7 +178,7 @@ module _ (c : Cluster) (tape : List Item) (me : ℕ) where
       → ((node : ℕ) → has node (asked_before new) ≡ false → has node (asked_here new) ≡ false → (has node (asked_before old) ≡ false) × (has node (asked_here old) ≡ false))
       → ((node : ℕ) → has node (asked_here new) ≡ false → asks_in ms op node ≡ false) → Each (Mine op) ms → Acts c tape me (sends_more now ms) op new
   acts_sends now op old new ms a knows told silent mine = record {
-    kept = each_on (Kept c tape now.sends me op.number) (Kept c tape (now.sends ++ ms) me op.number) (λ o h. record {
+    kept = each_on (OpenBelow c tape now.sends me op.number) (OpenBelow c tape (now.sends ++ ms) me op.number) (λ o h. record {
       node = h.node;
       below = h.below;
       begun = h.begun;
@@ -280,7 +280,7 @@ module _ (s : Setting) (tape : List Item) where
 
   acts_first : (k : ℕ) (now : Now) (t : Heard) → k ≤ ((t.operation).id).number → Acted s.cluster tape s.me k now → Heeds t → ActsAt (sends_more now t.sends) t.operation
   acts_first k now t le a h = record {
-    kept = each_on (Kept s.cluster tape now.sends s.me k) (Kept s.cluster tape (now.sends ++ t.sends) s.me op.number) (λ o kept. record {
+    kept = each_on (OpenBelow s.cluster tape now.sends s.me k) (OpenBelow s.cluster tape (now.sends ++ t.sends) s.me op.number) (λ o kept. record {
       node = kept.node;
       below = (let less = kept.below in omega (arith, less, le));
       begun = kept.begun;
@@ -373,7 +373,7 @@ module _ (s : Setting) (tape : List Item) where
 
   acted_more : (k l : ℕ) (now : Now) → k ≤ l → Acted s.cluster tape s.me k now → Acted s.cluster tape s.me l now
   acted_more k l now le a = record {
-    kept = each_on (Kept s.cluster tape now.sends s.me k) (Kept s.cluster tape now.sends s.me l) (kept_more s.cluster tape now.sends s.me k l le) now.kept a.kept;
+    kept = each_on (OpenBelow s.cluster tape now.sends s.me k) (OpenBelow s.cluster tape now.sends s.me l) (kept_more s.cluster tape now.sends s.me k l le) now.kept a.kept;
     own = each_on (Own s.cluster tape s.me k) (Own s.cluster tape s.me l) (own_more s.cluster tape s.me k l le) now.sends a.own;
   }
 
@@ -402,7 +402,7 @@ module _ (s : Setting) (tape : List Item) where
   -- ---- beginning
 
   pub begins_acted : (now : Now) (id : OpId) (request : Request) (clock : ℕ) (refusal : Option Answer) → id.node.0 ≡ s.me → has_begun tape id ≡ true → now.sends ≡ []
-      → (refusal ≡ None → Each (Kept s.cluster tape now.sends s.me id.number) now.kept) → (refusal ≡ None → (node : ℕ) → has_asked_about tape id node ≡ false)
+      → (refusal ≡ None → Each (OpenBelow s.cluster tape now.sends s.me id.number) now.kept) → (refusal ≡ None → (node : ℕ) → has_asked_about tape id node ≡ false)
       → ((answer : Answer) → AllActed (ends now id answer)) → AllActed (unless_refused s now (new_operation id request clock) refusal)
   begins_acted now id request clock None node begun silent kept quiet ended =
       record {
@@ -418,7 +418,7 @@ module _ (s : Setting) (tape : List Item) where
     where
       absurd_acted : (answer : Answer) → Acted s.cluster tape s.me (id.number + 1) (ends now id answer)
       absurd_acted answer = record {
-        kept = each_on (Kept s.cluster tape now.sends s.me id.number) (Kept s.cluster tape now.sends s.me (id.number + 1)) (kept_more s.cluster tape now.sends s.me id.number (id.number + 1) (next_most id.number)) now.kept (kept refl);
+        kept = each_on (OpenBelow s.cluster tape now.sends s.me id.number) (OpenBelow s.cluster tape now.sends s.me (id.number + 1)) (kept_more s.cluster tape now.sends s.me id.number (id.number + 1) (next_most id.number)) now.kept (kept refl);
         own = subst (Each (Own s.cluster tape s.me (id.number + 1))) (sym silent) tt;
       }
   begins_acted now id request clock (Some answer) node begun silent kept quiet ended = ended answer

@@ -5,7 +5,7 @@ pub mod Rows
 pub mod Causes
 pub mod Runs
 pub mod Plain
-pub mod Told
+pub mod OneTape
 pub mod Named
 pub mod Clusters
 pub mod Users

@@ -30,7 +30,7 @@ use Rattle.mega_schema.specs.Rules.{adds_known, broken, change_broken, change_ru
 use Rattle.mega_schema.specs.Verdict.{empty, judge, parse_of, refused_or}
 use Rattle.mega_schema.proofs.Growing.{names_of_words, table_names_stay}
 use Rattle.mega_schema.proofs.Naming.{same_other, same_self}
-use Rattle.mega_schema.proofs.Told.{parse_tells}
+use Rattle.mega_schema.proofs.FromExact.{parse_tells}
 use Rattle.mega_index.specs.Fits.{numbered}
 use Rattle.mega_transcript.specs.Named.{number_of_place}
 use Rattle.mega_tape_laws.proofs.Declared.{unbroken}

@@ -27,7 +27,7 @@ use Rattle.mega_format_laws.specs.Rounds.{Each}
 use Rattle.mega_format_laws.proofs.Each.{all_of_each, each_of_all}
 use Rattle.mega_plain_laws.specs.Answers.{IsNamed, shows_rows}
 use Rattle.mega_plain_laws.specs.Formed.{AreFormed, is_of_rows}
-use Rattle.mega_plain_laws.specs.of_held.Held.{HoldsCell, HoldsItem, HoldsResult, HoldsRows}
+use Rattle.mega_plain_laws.specs.of_field_ranges.Held.{HoldsCell, HoldsItem, HoldsResult, HoldsRows}
 use Rattle.mega_plain_laws.proofs.Plain.{items_plain, plain_cells, plain_turn}
 use Rattle.mega_plain_laws.proofs.Showing.{each_stands}
 use Rattle.mega_plain_laws.proofs.Turning.{AreWords}

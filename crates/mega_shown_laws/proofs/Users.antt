@@ -42,7 +42,7 @@ use Rattle.mega_format_laws.specs.Requests.{IsRequest}
 use Rattle.mega_format_laws.specs.Rounds.{Each}
 use Rattle.mega_format_laws.proofs.Each.{all_of_each}
 use Rattle.mega_plain_laws.specs.Formed.{AreFormed}
-use Rattle.mega_plain_laws.specs.of_held.Held.{HoldsAnswer, HoldsCell, HoldsItem, HoldsRows, HoldsShown}
+use Rattle.mega_plain_laws.specs.of_field_ranges.Held.{HoldsAnswer, HoldsCell, HoldsItem, HoldsRows, HoldsShown}
 use Rattle.mega_plain_laws.proofs.Ticking.{formed, named}
 use Rattle.mega_shown_laws.specs.Examples.{put_and_shown, two_words}
 use Rattle.mega_shown_laws.specs.OfFormat.{IsOfFormat}

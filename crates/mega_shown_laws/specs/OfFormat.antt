@@ -7,7 +7,7 @@ use Rattle.mega_promises.specs.Runs.{Happening, IsRun}
 use Rattle.mega_format_laws.specs.Histories.{IsCluster}
 use Rattle.mega_plain_laws.specs.Answers.{IsNamed}
 use Rattle.mega_plain_laws.specs.Formed.{AreFormed}
-use Rattle.mega_plain_laws.specs.of_held.Held.{HoldsItem}
+use Rattle.mega_plain_laws.specs.of_field_ranges.Held.{HoldsItem}
 use Rattle.mega_tape_laws.specs.Indexed.{IsDeclared}
 use Rattle.mega_tape_laws.specs.Writes.{Usage}
 use Rattle.mega_run_laws.specs.Usages.{Fits}

@@ -17,7 +17,7 @@ ghost use Rattle.mega_promises.specs.Runs.{Happening, IsRun};
 ghost use Rattle.mega_format_laws.specs.Histories.{IsCluster};
 ghost use Rattle.mega_plain_laws.specs.Answers.{IsNamed};
 ghost use Rattle.mega_plain_laws.specs.Formed.{AreFormed};
-ghost use Rattle.mega_plain_laws.specs.of_held.Held.{HoldsItem};
+ghost use Rattle.mega_plain_laws.specs.of_field_ranges.Held.{HoldsItem};
 ghost use Rattle.mega_tape_laws.specs.Indexed.{IsDeclared};
 ghost use Rattle.mega_tape_laws.specs.Writes.{Usage};
 ghost use Rattle.mega_run_laws.specs.Usages.{Fits};

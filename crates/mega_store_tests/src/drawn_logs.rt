@@ -6,7 +6,7 @@ ghost use Rattle.mega_wal.specs.Items.{IsItem};
 
 use crate::calls::{Call, Kind, ballot, entry_of, epoch, group, node, number_of, position};
 use crate::draws::Draws;
-use crate::plain::{Plain, Seen, Told};
+use crate::plain::{CallResult, Plain, Seen};
 use mega_ballot::Ballot;
 use mega_base::{Epoch, GroupId, NodeId, Position};
 use mega_disk::MemRecords;
@@ -64,7 +64,7 @@ fn promise(
     group: &GroupId,
     position: Position,
     ballot: Ballot,
-) -> Result<Told, LogFault>
+) -> Result<CallResult, LogFault>
     requires item { IsItem (Promise group.now position ballot) }
     requires each { All IsItem logs.old.staged.items }
     requires format { IsOfFormat logs.old.kept }
@@ -76,11 +76,11 @@ fn promise(
     Ok(told_promise(&promised))
 }
 
-fn told_promise(promised: &Promised) -> Told {
+fn told_promise(promised: &Promised) -> CallResult {
     match promised {
-        Promised::Yes(Some((ballot, entry))) => Told::Kept(Some((*ballot, number_of(entry)))),
-        Promised::Yes(None) => Told::Kept(None),
-        Promised::Shown(ballot) => Told::Shown(*ballot),
+        Promised::Yes(Some((ballot, entry))) => CallResult::Kept(Some((*ballot, number_of(entry)))),
+        Promised::Yes(None) => CallResult::Kept(None),
+        Promised::Shown(ballot) => CallResult::Shown(*ballot),
     }
 }
 
@@ -92,7 +92,7 @@ fn accept(
     position: Position,
     ballot: Ballot,
     entry: Entry,
-) -> Result<Told, LogFault>
+) -> Result<CallResult, LogFault>
     requires item { IsItem (Accept group.now position ballot entry) }
     requires each { All IsItem logs.old.staged.items }
     requires format { IsOfFormat logs.old.kept }
@@ -104,11 +104,11 @@ fn accept(
     Ok(told_vote(&voted))
 }
 
-fn told_vote(voted: &Voted) -> Told {
+fn told_vote(voted: &Voted) -> CallResult {
     match voted {
-        Voted::Yes => Told::Kept(None),
-        Voted::Shown(ballot) => Told::Shown(*ballot),
-        Voted::Other(entry) => Told::Other(number_of(entry)),
+        Voted::Yes => CallResult::Kept(None),
+        Voted::Shown(ballot) => CallResult::Shown(*ballot),
+        Voted::Other(entry) => CallResult::Other(number_of(entry)),
     }
 }
 
@@ -119,7 +119,7 @@ fn decide(
     group: &GroupId,
     position: Position,
     entry: Entry,
-) -> Result<Told, LogFault>
+) -> Result<CallResult, LogFault>
     requires item { IsItem (Decide group.now position entry) }
     requires each { All IsItem logs.old.staged.items }
     requires format { IsOfFormat logs.old.kept }
@@ -129,9 +129,9 @@ fn decide(
 {
     let new = logs.decide(alloc, group, position, entry)?;
     if new {
-        return Ok(Told::Kept(None));
+        return Ok(CallResult::Kept(None));
     }
-    Ok(Told::Decided)
+    Ok(CallResult::Decided)
 }
 
 #[tactic(auto, using(crate::proofs::Staged::one_each, crate::proofs::Staged::one_few))]
@@ -140,7 +140,7 @@ fn grant(
     logs: &mut Logs<MemRecords>,
     node: NodeId,
     epoch: Epoch,
-) -> Result<Told, LogFault>
+) -> Result<CallResult, LogFault>
     requires item { IsItem (Grant node epoch) }
     requires each { All IsItem logs.old.staged.items }
     requires format { IsOfFormat logs.old.kept }
@@ -149,7 +149,7 @@ fn grant(
     ensures format { OnOk result (IsOfFormat logs.new.kept) }
 {
     logs.grant(alloc, node, epoch)?;
-    Ok(Told::Kept(None))
+    Ok(CallResult::Kept(None))
 }
 
 #[tactic(auto, using(crate::proofs::Staged::one_each, crate::proofs::Staged::one_few))]
@@ -158,7 +158,7 @@ fn lapse(
     logs: &mut Logs<MemRecords>,
     node: NodeId,
     epoch: Epoch,
-) -> Result<Told, LogFault>
+) -> Result<CallResult, LogFault>
     requires item { IsItem (Lapse node epoch) }
     requires each { All IsItem logs.old.staged.items }
     requires format { IsOfFormat logs.old.kept }
@@ -167,11 +167,11 @@ fn lapse(
     ensures format { OnOk result (IsOfFormat logs.new.kept) }
 {
     logs.lapse(alloc, node, epoch)?;
-    Ok(Told::Kept(None))
+    Ok(CallResult::Kept(None))
 }
 
 #[tactic(auto, using(crate::proofs::Staged::start_each, crate::proofs::Staged::one_few))]
-fn begin(alloc: Global, logs: &mut Logs<MemRecords>) -> Result<Told, LogFault>
+fn begin(alloc: Global, logs: &mut Logs<MemRecords>) -> Result<CallResult, LogFault>
     requires each { All IsItem logs.old.staged.items }
     requires format { IsOfFormat logs.old.kept }
     ensures few { OnOk result (length logs.new.staged.items ≤ length logs.old.staged.items + 1) }
@@ -179,14 +179,14 @@ fn begin(alloc: Global, logs: &mut Logs<MemRecords>) -> Result<Told, LogFault>
     ensures format { OnOk result (IsOfFormat logs.new.kept) }
 {
     if logs.starts() == u32::MAX {
-        return Ok(Told::Decided);
+        return Ok(CallResult::Decided);
     }
     logs.begin(alloc)?;
-    Ok(Told::Kept(None))
+    Ok(CallResult::Kept(None))
 }
 
 /// Asks the logs.
-fn ask(alloc: Global, logs: &mut Logs<MemRecords>, call: Call) -> Result<Told, Fail>
+fn ask(alloc: Global, logs: &mut Logs<MemRecords>, call: Call) -> Result<CallResult, Fail>
     requires each { All IsItem logs.old.staged.items }
     requires format { IsOfFormat logs.old.kept }
     ensures few { OnOk result (length logs.new.staged.items ≤ length logs.old.staged.items + 1) }

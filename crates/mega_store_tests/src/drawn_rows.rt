@@ -8,14 +8,14 @@ use std::process::Abort;
 
 /// A version in the list that keeps everything: key, position and number, 0 for a deletion.
 #[derive(Drop)]
-struct Kept {
+struct ListedVersion {
     key: u8,
     at: u64,
     number: i32,
 }
 
 /// The number that a read of the key at this position sees: of the versions of greatest position the one put last.
-fn number_in(list: &[Kept], key: u8, at: u64) -> i32 {
+fn number_in(list: &[ListedVersion], key: u8, at: u64) -> i32 {
     let mut best = 0;
     let mut number = 0;
     for kept in list {
@@ -88,7 +88,7 @@ fn scanned(
 }
 
 /// The same of the list that keeps everything.
-fn scanned_in(list: &[Kept], from: u8, to: u8, at: u64) -> i64 {
+fn scanned_in(list: &[ListedVersion], from: u8, to: u8, at: u64) -> i64 {
     let mut sum = 0i64;
     for key in from..to {
         let number = number_in(list, key, at);
@@ -105,7 +105,7 @@ fn call(
     alloc: Global,
     draws: &mut Draws,
     rows: &mut VersionedRows,
-    list: &mut Vec<Kept>,
+    list: &mut Vec<ListedVersion>,
     cleaned: &mut u64,
 ) -> (i64, i64) {
     let key = draws.draw(12) as u8;
@@ -116,7 +116,8 @@ fn call(
             let number = draws.draw(1000) as i32;
             rows.put(alloc, &bytes, Position(at), row_of(rt, alloc, number))
                 .expect(rt, "refused");
-            list.push(Kept { key, at, number }).expect(rt, "refused");
+            list.push(ListedVersion { key, at, number })
+                .expect(rt, "refused");
             (0, 0)
         }
         4 => {

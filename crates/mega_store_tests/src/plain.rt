@@ -5,7 +5,7 @@ use mega_base::{Epoch, NoMemory};
 
 /// What a call is told.
 #[derive(PartialEq, Debug, Drop)]
-pub enum Told {
+pub enum CallResult {
     /// It is kept; a promise reports a vote, with the number of its entry.
     Kept(Option<(Ballot, u8)>),
     /// This greater ballot was shown.
@@ -38,9 +38,9 @@ pub struct Plain {
 
 impl Plain {
     /// Answers a call, and keeps it where it is not refused.
-    pub fn ask(&mut self, call: Call) -> Result<Told, NoMemory> {
+    pub fn ask(&mut self, call: Call) -> Result<CallResult, NoMemory> {
         let told = told_by(self.calls.as_slice(), call);
-        if matches!(told, Told::Kept(_)) {
+        if matches!(told, CallResult::Kept(_)) {
             self.calls.push(call)?;
         }
         Ok(told)
@@ -177,22 +177,22 @@ fn starts_in(calls: &[Call], before: u32) -> u32 {
 }
 
 /// How a voter with these calls answers an accept at a place where nothing greater was shown.
-fn told_vote(calls: &[Call], call: Call) -> Told {
+fn told_vote(calls: &[Call], call: Call) -> CallResult {
     match vote_in(calls, call) {
-        Some((_, entry)) if call.ballot == 0 && entry != call.entry => Told::Other(entry),
-        _ => Told::Kept(None),
+        Some((_, entry)) if call.ballot == 0 && entry != call.entry => CallResult::Other(entry),
+        _ => CallResult::Kept(None),
     }
 }
 
 /// What a call is told after these.
-fn told_by(calls: &[Call], call: Call) -> Told {
+fn told_by(calls: &[Call], call: Call) -> CallResult {
     let shown = shown_in(calls, call);
     match call.kind {
-        Kind::Promise if call.ballot < shown => Told::Shown(ballot(shown)),
-        Kind::Promise => Told::Kept(vote_in(calls, call)),
-        Kind::Accept if call.ballot < shown => Told::Shown(ballot(shown)),
+        Kind::Promise if call.ballot < shown => CallResult::Shown(ballot(shown)),
+        Kind::Promise => CallResult::Kept(vote_in(calls, call)),
+        Kind::Accept if call.ballot < shown => CallResult::Shown(ballot(shown)),
         Kind::Accept => told_vote(calls, call),
-        Kind::Decide if decided_in(calls, call.group, call.place).is_some() => Told::Decided,
-        _ => Told::Kept(None),
+        Kind::Decide if decided_in(calls, call.group, call.place).is_some() => CallResult::Decided,
+        _ => CallResult::Kept(None),
     }
 }

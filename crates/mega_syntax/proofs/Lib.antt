@@ -4,6 +4,6 @@ pub mod Takes
 pub mod Loop
 pub mod NameText
 pub mod Again
-pub mod Told
+pub mod FromExact
 pub mod Lawful
 pub mod Refusals

@@ -21,7 +21,7 @@ use Rattle.mega_syntax.specs.Grammar.{spell_items, FitItems, IsName, spell_name,
 use Rattle.mega_syntax.proofs.Items.{bind_ok, ok_parts, StepTells, StepTakes, items_take}
 
 -- ts is a spelling, and the rest behind it; the value fits
-pub record Taken (ts spelling rest : Texts) (Fit : Type 0) : Type 0 where
+pub record HasSpelling (ts spelling rest : Texts) (Fit : Type 0) : Type 0 where
   pub spelled : ts ≡ spelling ++ rest
   pub fit : Fit
 
@@ -39,7 +39,7 @@ word_taken w (t ∷ ts) u rest h =
     let g = guard_ok (same t w) (suc (length ts)) (tt, ts) (u, rest) h in
     λ i. same_is t w g.0 i ∷ (ap (λ (x : Unit {0} × Texts). x.1) g.1) i
 
-pub name_taken : (ts : Texts) (n : List ℕ) (rest : Texts) → name_at ts ≡ Ok (n, rest) → Taken ts (n ∷ []) rest (IsName n)
+pub name_taken : (ts : Texts) (n : List ℕ) (rest : Texts) → name_at ts ≡ Ok (n, rest) → HasSpelling ts (n ∷ []) rest (IsName n)
 unfolding name_at
 name_taken [] n rest h = absurd (cc)
 name_taken (t ∷ ts) n rest h =
@@ -84,7 +84,7 @@ all_names : (done more : List (List ℕ)) (rest : Texts) → FitItems FitsName s
 all_names done [] rest h = tt
 all_names done (n ∷ more) rest h = (h.0, all_names (done ++ n ∷ []) more rest h.1)
 
-pub names_taken : (ts : Texts) (ns : List (List ℕ)) (rest : Texts) → names_at ts ≡ Ok (ns, rest) → Taken ts (spell_names ns) rest (AreNames ns)
+pub names_taken : (ts : Texts) (ns : List (List ℕ)) (rest : Texts) → names_at ts ≡ Ok (ns, rest) → HasSpelling ts (spell_names ns) rest (AreNames ns)
 unfolding names_at
 names_taken ts ns rest h =
     let a = bind_ok (word_at (codes "(") ts) (λ a. all_items_at name_step a.1) (ns, rest) h in
@@ -103,7 +103,7 @@ unfolding need_at
 need_taken [] need rest h = absurd (cc)
 need_taken (t ∷ ts) need rest h = pick_need (same t (codes "required")) (same t (codes "optional")) (same t (codes "repeated")) t ts need rest refl refl refl h
 
-property_taken : (done : List PropertyWords) (ts : Texts) (p : PropertyWords) (rest : Texts) → property_at ts ≡ Ok (p, rest) → Taken ts (spell_property done p) rest (IsProperty p)
+property_taken : (done : List PropertyWords) (ts : Texts) (p : PropertyWords) (rest : Texts) → property_at ts ≡ Ok (p, rest) → HasSpelling ts (spell_property done p) rest (IsProperty p)
 unfolding property_at
 property_taken done ts p rest h =
     let a = bind_ok (need_at ts) _ _ h in
@@ -137,7 +137,7 @@ all_properties : (done more : List PropertyWords) (rest : Texts) → FitItems Fi
 all_properties done [] rest h = tt
 all_properties done (n ∷ more) rest h = (h.0, all_properties (done ++ n ∷ []) more rest h.1)
 
-pub properties_taken : (ts : Texts) (ps : List PropertyWords) (rest : Texts) → properties_at ts ≡ Ok (ps, rest) → Taken ts (spell_properties ps) rest (AllByRecursion IsProperty ps)
+pub properties_taken : (ts : Texts) (ps : List PropertyWords) (rest : Texts) → properties_at ts ≡ Ok (ps, rest) → HasSpelling ts (spell_properties ps) rest (AllByRecursion IsProperty ps)
 unfolding properties_at
 properties_taken ts ps rest h =
     let a = bind_ok (word_at (codes "{") ts) (λ a. all_items_at property_step a.1) (ps, rest) h in
@@ -234,7 +234,7 @@ clause_step_takes done ts o rest h = pick (is_next (codes ";") ts) refl h
         let spelled : ts ≡ spell_clause_item done s.0 ++ rest = word_taken (codes ",") ts w.0.0 w.0.1 w.1 ∙ ap (λ x. codes "," ∷ x) t.0 in
         rw s.2 (spelled, clause_fits done s.0 [] ts t.1, shorter_by ts (spell_clause_item done s.0) rest spelled (omega arith))
 
-table_taken : (ts : Texts) (t : TableWords) (rest : Texts) → table_at ts ≡ Ok (t, rest) → Taken ts (spell_table t) rest (IsTable t)
+table_taken : (ts : Texts) (t : TableWords) (rest : Texts) → table_at ts ≡ Ok (t, rest) → HasSpelling ts (spell_table t) rest (IsTable t)
 unfolding table_at
 table_taken ts t rest h =
     let n = bind_ok (name_at ts) _ _ h in
@@ -260,18 +260,18 @@ table_taken ts t rest h =
       fit = (nt.fit, pt.fit, kt.fit, subst F (sym ct.all) (clauses_fit [] ct.more cs.0.1 [] ct.fit));
     })
 
-storing_taken : (ts : Texts) (o : Option (List (List ℕ))) (rest : Texts) → storing_at ts ≡ Ok (o, rest) → Taken ts (spell_storing o) rest (IsStoring o)
+storing_taken : (ts : Texts) (o : Option (List (List ℕ))) (rest : Texts) → storing_at ts ≡ Ok (o, rest) → HasSpelling ts (spell_storing o) rest (IsStoring o)
 unfolding storing_at
 storing_taken ts o rest h = pick (is_next (codes "STORING") ts) refl h
   where
-    pick : (b : Bool) → is_next (codes "STORING") ts ≡ b → cond b (some_of (names_at (drop 1 ts))) (Ok (None, ts)) ≡ Ok (o, rest) → Taken ts (spell_storing o) rest (IsStoring o)
+    pick : (b : Bool) → is_next (codes "STORING") ts ≡ b → cond b (some_of (names_at (drop 1 ts))) (Ok (None, ts)) ≡ Ok (o, rest) → HasSpelling ts (spell_storing o) rest (IsStoring o)
     pick true e g =
         let s = some_ok (names_at (drop 1 ts)) o rest g in
         let t = names_taken (drop 1 ts) s.0 rest s.1 in
         rw s.2 (record { spelled = next_is (codes "STORING") ts e ∙ ap (λ x. codes "STORING" ∷ x) t.spelled; fit = t.fit })
     pick false e g = let p = ok_parts None o ts rest g in rw (← p.0) (record { spelled = p.1; fit = tt })
 
-index_taken : (global : Bool) (ts : Texts) (x : IndexWords) (rest : Texts) → index_at global ts ≡ Ok (x, rest) → Taken ts (spell_index x) rest (IsIndex x × (x.global ≡ global))
+index_taken : (global : Bool) (ts : Texts) (x : IndexWords) (rest : Texts) → index_at global ts ≡ Ok (x, rest) → HasSpelling ts (spell_index x) rest (IsIndex x × (x.global ≡ global))
 unfolding index_at
 index_taken global ts x rest h =
     let w = bind_ok (word_at (codes "INDEX") ts) _ _ h in
@@ -296,7 +296,7 @@ index_taken global ts x rest h =
       fit = ((nt.fit, tt_.fit, kt.fit, st.fit), refl);
     })
 
-change_taken : (ts : Texts) (c : ChangeWords) (rest : Texts) → change_at ts ≡ Ok (c, rest) → Taken ts (spell_change c) rest (IsChange c)
+change_taken : (ts : Texts) (c : ChangeWords) (rest : Texts) → change_at ts ≡ Ok (c, rest) → HasSpelling ts (spell_change c) rest (IsChange c)
 unfolding change_at
 change_taken ts c rest h =
     let t = bind_ok (word_at (codes "TABLE") ts) _ _ h in

@@ -1,5 +1,5 @@
 -- Names: a letter or '_', and then letters, digits and '_'.
-use Rattle.std.specs.Prelude.{ℕ, Bool, false, ◌&&◌, ◌||◌, List, [], ◌∷◌, ◌==◌, nat_le, nat_eq}
+use Rattle.std.specs.Prelude.{ℕ, Bool, false, ◌&&◌, ◌||◌, List, [], ◌∷◌, ◌==◌, nat_le, nat_eq, if◌then◌else◌, Option, Some, None}
 use Rattle.std.specs.List.{list_all}
 use Rattle.std.specs.Cmp.Lexicographic.{pointwise}
 
@@ -18,3 +18,8 @@ is_name (b ∷ bytes) = is_letter b && list_all is_name_byte bytes
 -- the two texts are the same
 abbrev pub same : List ℕ → List ℕ → Bool
 same a b = pointwise nat_eq a b
+
+-- what a word names: of the names, each with its meaning, the first that is the word
+abbrev pub named : {A : Type 0} → List ℕ → List (List ℕ × A) → Option A
+named word [] = None
+named word (one ∷ more) = if same word one.0 then Some one.1 else named word more

@@ -14,6 +14,7 @@ use Rattle.mega_syntax.specs.declared.words.Statement.TheVariants.{Table, Index,
 use Rattle.mega_syntax.specs.declared.words.Placed.{Placed}
 use Rattle.mega_syntax.specs.declared.words.SchemaWords.{SchemaWords}
 use Rattle.mega_syntax.specs.Names.{is_name, same}
+pub use Rattle.mega_base.specs.Reading.{◌>>=◌}
 
 abbrev pub Texts : Type 0
 Texts = List (List ℕ)
@@ -21,11 +22,6 @@ Texts = List (List ℕ)
 -- what was read and the tokens behind it, or how many tokens are left at the fault
 abbrev pub Read : Type 0 → Type 0
 Read A = Result (A × Texts) ℕ
-
-infixl 10 ◌>>=◌
-abbrev pub ◌>>=◌ : {A B : Type 0} → Result A ℕ → (A → Result B ℕ) → Result B ℕ
-(Ok x) >>= f = f x
-(Err e) >>= f = Err e
 
 -- this word or mark
 unfoldable pub word_at : List ℕ → Texts → Read (Unit {0})
@@ -64,13 +60,8 @@ comma_at [] ts = Ok (tt, ts)
 comma_at (n ∷ ns) ts = word_at (codes ",") ts
 
 unfoldable pub name_step : List (List ℕ) → Texts → Read (Option (List ℕ))
-name_step done ts = if is_next (codes ")") ts then Ok (None, drop 1 ts) else named
-  where
-    named : Read (Option (List ℕ))
-    named = do
-      comma ← comma_at done ts
-      name ← name_at comma.1
-      Ok (Some name.0, name.1)
+name_step done ts =
+    if is_next (codes ")") ts then Ok (None, drop 1 ts) else (comma_at done ts >>= λ comma. name_at comma.1 >>= λ name. Ok (Some name.0, name.1))
 
 unfoldable pub names_at : Texts → Read (List (List ℕ))
 names_at ts = do
@@ -149,12 +140,8 @@ clause_at done ts =
     else Err (length ts)))
 
 unfoldable pub clause_step : List Clause → Texts → Read (Option Clause)
-clause_step done ts = if is_next (codes ";") ts then Ok (None, drop 1 ts) else behind
-  where
-    behind : Read (Option Clause)
-    behind = do
-      comma ← word_at (codes ",") ts
-      some_of (clause_at done comma.1)
+clause_step done ts =
+    if is_next (codes ";") ts then Ok (None, drop 1 ts) else (word_at (codes ",") ts >>= λ comma. some_of (clause_at done comma.1))
 
 unfoldable pub table_at : Texts → Read TableWords
 table_at ts = do

@@ -10,11 +10,7 @@ is_blank b = (b == 32) || (b == 9) || (b == 10) || (b == 13)
 -- the first token begins here, with a byte of names
 abbrev pub continues : ℕ → List Token → Bool
 continues at [] = false
-continues at (t ∷ ts) = (t.at == at) && starts t.text
-  where
-    starts : List ℕ → Bool
-    starts [] = false
-    starts (b ∷ bytes) = is_name_byte b
+continues at (t ∷ ts) = (t.at == at) && (elim t.text [ [] ↦ false | b ∷ bytes ↦ is_name_byte b ])
 
 -- the byte goes to the front of the first token
 abbrev pub join : ℕ → ℕ → List Token → List Token

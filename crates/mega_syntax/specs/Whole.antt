@@ -1,5 +1,5 @@
 -- What a whole text reads as: its tokens and what they spell, or the offset of the first that cannot stand there.
-use Rattle.std.specs.Prelude.{◌≡◌, ℕ, ◌-◌, List, length, Option, Some, None, Result, Ok, Err, slice_get}
+use Rattle.std.specs.Prelude.{◌≡◌, ℕ, ◌-◌, List, length, Some, None, Result, Ok, Err, slice_get}
 use Rattle.mega_syntax.specs.declared.token.Token.{Token}
 use Rattle.mega_syntax.specs.declared.words.SchemaWords.{SchemaWords}
 use Rattle.mega_syntax.specs.declared.whole.SchemaText.{SchemaText}
@@ -11,11 +11,7 @@ use Rattle.mega_syntax.specs.Grammar.{Spells}
 
 -- where the token begins from which on so many are left: the text's end where none is
 abbrev pub offset : List Token → ℕ → ℕ → ℕ
-offset ts end left = begin (slice_get ts (length ts - left))
-  where
-    begin : Option Token → ℕ
-    begin None = end
-    begin (Some t) = t.at
+offset ts end left = elim (slice_get ts (length ts - left)) [ None ↦ end | Some t ↦ t.at ]
 
 -- the tokens spell these words
 abbrev pub read_with : List Token → SchemaWords → Result SchemaText ℕ

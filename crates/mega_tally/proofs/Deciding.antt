@@ -16,7 +16,7 @@ use Rattle.mega_transcript.specs.declared.item.Item.TheVariants.{Decide}
 use Rattle.mega_transcript.specs.Counts.{climb, greatest_of, group_cmp, is_decided, prefix_of}
 use Rattle.mega_tally.specs.declared.reach.Reach.{Reach}
 use Rattle.mega_tally.specs.declared.reach.Bounds.{Bounds}
-use Rattle.mega_tally.specs.Reaching.{Reaches, Stands, Widens, bounds_with, with_position}
+use Rattle.mega_tally.specs.Reaching.{Reaches, ReachesOrNone, Widens, bounds_with, with_position}
 use Rattle.mega_tally.specs.Following.{Decides, Follows, Log, Logs, log_cmp}
 use Rattle.mega_tally.proofs.Climbing.{climb_same, climb_skip}
 
@@ -72,7 +72,7 @@ same_log g h m n e = by (same g.key h.key) refl e
 
 -- ---- what stands of one test stands of another that is the same
 
-stands_as : (kept : Option Reach) (f g : ℕ → Bool) (m n : ℕ) → ((k : ℕ) → f k ≡ g k) → m ≡ n → Stands kept f m → Stands kept g n
+stands_as : (kept : Option Reach) (f g : ℕ → Bool) (m n : ℕ) → ((k : ℕ) → f k ≡ g k) → m ≡ n → ReachesOrNone kept f m → ReachesOrNone kept g n
 stands_as None f g m n alike is none = (λ k. sym (alike k) ∙ none.0 k, sym is ∙ none.1)
 stands_as (Some reach) f g m n alike is r = record {
   positions = λ k. r.positions k ∙ alike k;
@@ -84,9 +84,9 @@ stands_as (Some reach) f g m n alike is r = record {
 pub keeps_decides : (old mid new : Logs) (log : Log) (position last : ℕ) (kept : Option Reach) (reach : Reach) → kept ≡ get log_cmp old log → ((other : Log) → get log_cmp mid other ≡ cond (is_eq (log_cmp log other)) None (get log_cmp old other))
     → Widens kept reach position last → ((other : Log) → get log_cmp new other ≡ cond (is_eq (log_cmp log other)) (Some reach) (get log_cmp mid other)) → Decides old new log position last
 keeps_decides old mid new log position last kept reach found left wider put = record {
-  own = λ test most stands. subst (λ one. Stands one (with_position position test) (max most position)) (sym here) (wider.on test most (subst (λ one. Stands one test most) (sym found) stands));
+  own = λ test most stands. subst (λ one. ReachesOrNone one (with_position position test) (max most position)) (sym here) (wider.on test most (subst (λ one. ReachesOrNone one test most) (sym found) stands));
   same = λ other apart. put other ∙ ap (λ (t : Bool). cond t (Some reach) (get log_cmp mid other)) apart ∙ left other ∙ ap (λ (t : Bool). cond t None (get log_cmp old other)) apart;
-  through = λ test most stands. let r : Reaches reach test most = subst (λ one. Stands one test most) here stands in sym wider.through ∙ r.prefix;
+  through = λ test most stands. let r : Reaches reach test most = subst (λ one. ReachesOrNone one test most) here stands in sym wider.through ∙ r.prefix;
 }
   where
     here : get log_cmp new log ≡ Some reach
@@ -104,17 +104,17 @@ module _ (old new : Logs) (node : NodeId) (g : GroupId) (position : Position) (p
   greatest : max (greatest_of tape g node.0) position.0 ≡ greatest_of after g node.0
   greatest = sym (ap (λ (t : Bool). cond t (max (greatest_of tape g node.0) position.0) (greatest_of tape g node.0)) (self_log g node.0))
 
-  own : Stands (get log_cmp new (g, node.0)) (is_decided after g node.0) (greatest_of after g node.0)
+  own : ReachesOrNone (get log_cmp new (g, node.0)) (is_decided after g node.0) (greatest_of after g node.0)
   own =
       stands_as (get log_cmp new (g, node.0)) (with_position position.0 (is_decided tape g node.0)) (is_decided after g node.0) (max (greatest_of tape g node.0) position.0) (greatest_of after g node.0) tests greatest
       (decides.own (is_decided tape g node.0) (greatest_of tape g node.0) (follows (g, node.0)))
 
-  each : (log : Log) (b : Bool) → (same g.key log.0.key && node.0 == log.1) ≡ b → Stands (get log_cmp new log) (is_decided after log.0 log.1) (greatest_of after log.0 log.1)
+  each : (log : Log) (b : Bool) → (same g.key log.0.key && node.0 == log.1) ≡ b → ReachesOrNone (get log_cmp new log) (is_decided after log.0 log.1) (greatest_of after log.0 log.1)
   each log true is =
       let at = same_log g log.0 node.0 log.1 is in
-      coe 0 1 (i. Stands (get log_cmp new (at.0 i, at.1 i)) (is_decided after (at.0 i) (at.1 i)) (greatest_of after (at.0 i) (at.1 i))) own
+      coe 0 1 (i. ReachesOrNone (get log_cmp new (at.0 i, at.1 i)) (is_decided after (at.0 i) (at.1 i)) (greatest_of after (at.0 i) (at.1 i))) own
   each log false is =
-      subst (λ kept. Stands kept (is_decided after log.0 log.1) (greatest_of after log.0 log.1)) (sym (decides.same log (log_is (g, node.0) log ∙ is)))
+      subst (λ kept. ReachesOrNone kept (is_decided after log.0 log.1) (greatest_of after log.0 log.1)) (sym (decides.same log (log_is (g, node.0) log ∙ is)))
       (stands_as (get log_cmp old log) (is_decided tape log.0 log.1) (is_decided after log.0 log.1) (greatest_of tape log.0 log.1) (greatest_of after log.0 log.1)
       (λ n. sym (ap (λ (t : Bool). (t && position.0 == n) || is_decided tape log.0 log.1 n) is)) (sym (ap (λ (t : Bool). cond t (max (greatest_of tape log.0 log.1) position.0) (greatest_of tape log.0 log.1)) is))
       (follows log))

@@ -7,7 +7,7 @@ use Rattle.mega_base.specs.declared.names.GroupId.{GroupId}
 use Rattle.mega_transcript.specs.declared.item.Item.{Item}
 use Rattle.mega_transcript.specs.Counts.{climb, greatest_of, group_cmp, is_decided}
 use Rattle.mega_tally.specs.declared.reach.Reach.{Reach}
-use Rattle.mega_tally.specs.Reaching.{Stands, with_position}
+use Rattle.mega_tally.specs.Reaching.{ReachesOrNone, with_position}
 
 -- a group at a node
 abbrev pub Log : Type 0
@@ -21,10 +21,10 @@ Logs = BTreeMap Log Reach
 
 -- one position more is decided of a log, which is decided through this one then
 pub record Decides (old new : Logs) (log : Log) (position last : ℕ) : Type 0 where
-  pub own : (test : ℕ → Bool) (most : ℕ) → Stands (get log_cmp old log) test most → Stands (get log_cmp new log) (with_position position test) (max most position)
+  pub own : (test : ℕ → Bool) (most : ℕ) → ReachesOrNone (get log_cmp old log) test most → ReachesOrNone (get log_cmp new log) (with_position position test) (max most position)
   pub same : (other : Log) → is_eq (log_cmp log other) ≡ false → get log_cmp new other ≡ get log_cmp old other
-  pub through : (test : ℕ → Bool) (most : ℕ) → Stands (get log_cmp new log) test most → last ≡ climb test most 0
+  pub through : (test : ℕ → Bool) (most : ℕ) → ReachesOrNone (get log_cmp new log) test most → last ≡ climb test most 0
 
 -- what is kept is what the tape tells
 abbrev pub Follows : Logs → List Item → Type 0
-Follows logs tape = (log : Log) → Stands (get log_cmp logs log) (is_decided tape log.0 log.1) (greatest_of tape log.0 log.1)
+Follows logs tape = (log : Log) → ReachesOrNone (get log_cmp logs log) (is_decided tape log.0 log.1) (greatest_of tape log.0 log.1)

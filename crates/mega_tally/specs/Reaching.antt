@@ -18,9 +18,9 @@ pub record Reaches (reach : Reach) (test : ℕ → Bool) (most : ℕ) : Type 0 w
   pub prefix : reach.bounds.prefix ≡ climb test most 0
 
 -- so it is, or nothing is kept where none is decided
-abbrev pub Stands : Option Reach → (ℕ → Bool) → ℕ → Type 0
-Stands None test most = ((n : ℕ) → test n ≡ false) × (most ≡ 0)
-Stands (Some reach) test most = Reaches reach test most
+abbrev pub ReachesOrNone : Option Reach → (ℕ → Bool) → ℕ → Type 0
+ReachesOrNone None test most = ((n : ℕ) → test n ≡ false) × (most ≡ 0)
+ReachesOrNone (Some reach) test most = Reaches reach test most
 
 -- one position more
 abbrev pub with_position : ℕ → (ℕ → Bool) → ℕ → Bool
@@ -28,5 +28,5 @@ with_position position test n = (position == n) || test n
 
 -- what is kept with one position more, and through which one all are then
 pub record Widens (kept : Option Reach) (reach : Reach) (position last : ℕ) : Type 0 where
-  pub on : (test : ℕ → Bool) (most : ℕ) → Stands kept test most → Reaches reach (with_position position test) (max most position)
+  pub on : (test : ℕ → Bool) (most : ℕ) → ReachesOrNone kept test most → Reaches reach (with_position position test) (max most position)
   pub through : reach.bounds.prefix ≡ last

@@ -6,7 +6,7 @@ ghost use Rattle.mega_entry.specs.declared.content.Content.{Content};
 ghost use Rattle.mega_transcript.specs.declared.item.Item.{Item as OnTape};
 ghost use Rattle.mega_transcript.specs.declared.item.Item.TheVariants.{Decide};
 ghost use Rattle.mega_transcript.specs.Counts.{prefix_of};
-ghost use Rattle.mega_tally.specs.Reaching.{Reaches, Stands, Widens};
+ghost use Rattle.mega_tally.specs.Reaching.{Reaches, ReachesOrNone, Widens};
 ghost use Rattle.mega_tally.specs.Following.{Decides, Follows, Log as LogValue, log_cmp};
 
 use crate::reach::Reach;
@@ -45,7 +45,7 @@ fn keep(logs: &mut Logs, log: Log, reach: Reach) -> Result<(), NoMemory>
 
 /// What was kept of a log, or nothing.
 fn reach_of(alloc: Global, kept: Option<Reach>) -> Reach
-    ensures { (test : ℕ → Bool) (most : ℕ) → Stands kept test most → Reaches result test most }
+    ensures { (test : ℕ → Bool) (most : ℕ) → ReachesOrNone kept test most → Reaches result test most }
 {
     match kept {
         Some(reach) => reach,

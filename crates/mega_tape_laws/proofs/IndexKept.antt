@@ -136,7 +136,7 @@ pub record Owner (s : Schema) (group : List ℕ) (rows : Rows) (key : List ℕ) 
   pub entry : under (local_entries s number table (Some row)) key ≡ Some stored
 
 -- rows under row keys fit and stand under their own; each of their entries stands, and no other
-pub record Kept (s : Schema) (group : List ℕ) (rows : Rows) : Type 0 where
+pub record IndexExact (s : Schema) (group : List ℕ) (rows : Rows) : Type 0 where
   pub fit : (at : List ℕ) (n : ℕ) (t : Table) (row : Row) → table_of s group at ≡ Some n → numbered s.tables n ≡ Some t → rows at ≡ Some row → Standing s n t at row
   pub have : (key : List ℕ) (stored : Row) → table_of s group key ≡ None → Owner s group rows key stored → rows key ≡ Some stored
   pub only : (key : List ℕ) (stored : Row) → table_of s group key ≡ None → rows key ≡ Some stored → Owner s group rows key stored
@@ -148,7 +148,7 @@ data AtKey (rows now : Rows) (old new : Listed) (key : List ℕ) : Type 0 where
   turns : (row_under old key ≡ None → row_under new key ≡ None → ⊥) → now key ≡ row_under new key → AtKey rows now old new key
   leaves : row_under old key ≡ None → row_under new key ≡ None → now key ≡ rows key → AtKey rows now old new key
 
-module _ (s : Schema) (most : length s.tables ≤ 64) (group : List ℕ) (rows : Rows) (kept : Kept s group rows)
+module _ (s : Schema) (most : length s.tables ≤ 64) (group : List ℕ) (rows : Rows) (kept : IndexExact s group rows)
     (at : List ℕ) (n : ℕ) (t : Table) (of_number : table_of s group at ≡ Some n) (is : numbered s.tables n ≡ Some t)
     (new : Option Row) (fits : (row : Row) → new ≡ Some row → Standing s n t at row) where
   abbrev was : Listed
@@ -325,9 +325,9 @@ module _ (s : Schema) (most : length s.tables ≤ 64) (group : List ℕ) (rows :
             entry = o.entry;
           }
 
-  now_kept : Kept s group now
+  now_kept : IndexExact s group now
   now_kept = record { fit = now_fit; have = now_have; only = now_only }
 
   -- a row is replaced along with its local index writes
-  pub replaced_kept : Kept s group (written (record { key = at; row = new } ∷ index_writes s n (rows at) new) rows)
-  replaced_kept = subst (λ o. Kept s group (written (index_writes_in s n o (rows at) new) base)) (sym is) now_kept
+  pub replaced_kept : IndexExact s group (written (record { key = at; row = new } ∷ index_writes s n (rows at) new) rows)
+  replaced_kept = subst (λ o. IndexExact s group (written (index_writes_in s n o (rows at) new) base)) (sym is) now_kept

@@ -13,19 +13,19 @@ use Rattle.mega_tape_laws.specs.Writes.{LawfulWrites, Usage}
 use Rattle.mega_tape_laws.specs.Indexed.{AllPutValues, AreRows, AskValues, IsDeclared, IsIndexed, PutValues}
 use Rattle.mega_tape_laws.proofs.Placed.{after-ascends, after_is}
 use Rattle.mega_tape_laws.proofs.RowKeys.{of_table, stands}
-use Rattle.mega_tape_laws.proofs.IndexKept.{Kept}
+use Rattle.mega_tape_laws.proofs.IndexKept.{IndexExact}
 use Rattle.mega_tape_laws.proofs.IndexSteps.{changes_kept, fitted_kept}
 use Rattle.mega_tape_laws.proofs.IndexShown.{is_indexed}
 use Rattle.mega_tape_laws.proofs.LogSteps.{Keeps, log_keeps}
 
-pub none_kept : (s : Schema) (group : List ℕ) → Kept s group no_rows
+pub none_kept : (s : Schema) (group : List ℕ) → IndexExact s group no_rows
 none_kept s group = record {
   fit = λ at n t row h g none. cc;
   have = λ key stored h owner. let none = owner.stands in cc;
   only = λ key stored h none. cc;
 }
 
-pub kept_keeps : (s : Schema) → length s.tables ≤ 64 → (group : List ℕ) → Keeps s group (Kept s group) (λ (t : Transaction). PutValues t.writes) AllPutValues
+pub kept_keeps : (s : Schema) → length s.tables ≤ 64 → (group : List ℕ) → Keeps s group (IndexExact s group) (λ (t : Transaction). PutValues t.writes) AllPutValues
 kept_keeps s most group = record {
   none = none_kept s group;
   first = λ t ts held. held.0;
@@ -34,14 +34,14 @@ kept_keeps s most group = record {
   fitted = λ rows seen kept writes agree. fitted_kept s most group writes rows seen kept agree;
 }
 
-log_kept : (c : Cluster) (usage : Usage) (tape : List Item) → LawfulWrites c usage tape → IsDeclared c.schema → AskValues usage tape → (group : GroupId) (p : ℕ) → Kept c.schema group.key (after (take p (log_of tape group)) no_rows)
+log_kept : (c : Cluster) (usage : Usage) (tape : List Item) → LawfulWrites c usage tape → IsDeclared c.schema → AskValues usage tape → (group : GroupId) (p : ℕ) → IndexExact c.schema group.key (after (take p (log_of tape group)) no_rows)
 log_kept c usage tape l d ask group =
-    log_keeps c usage tape group (Kept c.schema group.key) (λ (t : Transaction). PutValues t.writes) AllPutValues l (kept_keeps c.schema d.most group.key)
+    log_keeps c usage tape group (IndexExact c.schema group.key) (λ (t : Transaction). PutValues t.writes) AllPutValues l (kept_keeps c.schema d.most group.key)
     (λ op transaction asked. ask op _ asked) (λ op transactions asked. ask op _ asked)
 
 -- the same of the list of the rows
-list_kept : (c : Cluster) (usage : Usage) (tape : List Item) → LawfulWrites c usage tape → IsDeclared c.schema → AskValues usage tape → (group : GroupId) (p : ℕ) → Kept c.schema group.key (row_under (list_after (take p (log_of tape group)) []))
-list_kept c usage tape l d ask group p = subst (Kept c.schema group.key) (sym (after_is (take p (log_of tape group)) [] tt)) (log_kept c usage tape l d ask group p)
+list_kept : (c : Cluster) (usage : Usage) (tape : List Item) → LawfulWrites c usage tape → IsDeclared c.schema → AskValues usage tape → (group : GroupId) (p : ℕ) → IndexExact c.schema group.key (row_under (list_after (take p (log_of tape group)) []))
+list_kept c usage tape l d ask group p = subst (IndexExact c.schema group.key) (sym (after_is (take p (log_of tape group)) [] tt)) (log_kept c usage tape l d ask group p)
 
 pub indexed : (c : Cluster) (usage : Usage) (tape : List Item) → LawfulWrites c usage tape → IsDeclared c.schema → AskValues usage tape → (group : GroupId) (p : ℕ) → IsIndexed c.schema group (list_after (take p (log_of tape group)) [])
 indexed c usage tape l d ask group p =

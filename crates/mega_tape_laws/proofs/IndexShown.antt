@@ -24,7 +24,7 @@ use Rattle.mega_tape_laws.proofs.Spelled.{AreOf, same_kinds, values_split}
 use Rattle.mega_tape_laws.proofs.RowKeys.{Standing, standing, stands, OfTable, of_table, Spelt, key_spelt, of_front, group_is, behind_one}
 use Rattle.mega_tape_laws.proofs.IndexKeys.{in_filter, entry_key, entry_behind}
 use Rattle.mega_tape_laws.proofs.IndexEntries.{InLocal, local_there, InIndexes, indexes_from, indexes_there}
-use Rattle.mega_tape_laws.proofs.IndexKept.{RowOf, key_of_table, entry_in, Kept}
+use Rattle.mega_tape_laws.proofs.IndexKept.{RowOf, key_of_table, entry_in, IndexExact}
 
 -- ---- a row key has one table
 
@@ -133,7 +133,7 @@ some_table : (o : Option ℕ) → is_some o ≡ true → (n : ℕ) × (o ≡ Som
 some_table None h = cc
 some_table (Some n) h = (n, refl)
 
-module _ (s : Schema) (d : IsDeclared s) (group : GroupId) (listed : Listed) (up : Ascends listed) (kept : Kept s group.key (row_under listed)) where
+module _ (s : Schema) (d : IsDeclared s) (group : GroupId) (listed : Listed) (up : Ascends listed) (kept : IndexExact s group.key (row_under listed)) where
   abbrev rows : Listed
   rows = table_rows s group listed
 

@@ -19,7 +19,7 @@ use Rattle.mega_outcome.specs.Changes.{replaced, change, all_changes}
 use Rattle.mega_tape_laws.specs.Indexed.{PutsValues, PutValues}
 use Rattle.mega_tape_laws.proofs.RowKeys.{Standing, standing, of_table, key_behind, behind_one, Behind, spelt_behind, key_spelt, group_spelt, put_key, table_is}
 use Rattle.mega_tape_laws.proofs.IndexKeys.{entry_behind}
-use Rattle.mega_tape_laws.proofs.IndexKept.{RowOf, table_least, entry_in, keyed, Kept, replaced_kept}
+use Rattle.mega_tape_laws.proofs.IndexKept.{RowOf, table_least, entry_in, keyed, IndexExact, replaced_kept}
 use Rattle.mega_tape_laws.proofs.Replacing.{bind_turn, change_replaces}
 
 -- what `is_kept` asks of the row of a write
@@ -29,7 +29,7 @@ row_kept s n key (Some row) = stands_in s n (numbered s.tables n) key row
 
 module _ (s : Schema) (most : length s.tables ≤ 64) (group : List ℕ) where
   -- where a row stands under the key that key values spell in a table, the key is one of that table
-  row_table : (rows : Rows) → Kept s group rows → (n : ℕ) (t : Table) (values : List Value) (key : List ℕ) (old : Row) → numbered s.tables n ≡ Some t → group_of s n t values ≡ Ok group → key_of s n t values ≡ Ok key
+  row_table : (rows : Rows) → IndexExact s group rows → (n : ℕ) (t : Table) (values : List Value) (key : List ℕ) (old : Row) → numbered s.tables n ≡ Some t → group_of s n t values ≡ Ok group → key_of s n t values ≡ Ok key
       → rows key ≡ Some old → table_of s group key ≡ Some n
   row_table rows kept n t values key old is of_group own stands = by (table_of s group key) refl
     where
@@ -49,33 +49,33 @@ module _ (s : Schema) (most : length s.tables ≤ 64) (group : List ℕ) where
           absurd (omega (arith, same))
 
   -- a row is replaced, whose key is that of a table
-  replaces : (rows : Rows) → Kept s group rows → (n : ℕ) (t : Table) (key : List ℕ) (old new : Option Row) → table_of s group key ≡ Some n → numbered s.tables n ≡ Some t → rows key ≡ old
-      → ((row : Row) → new ≡ Some row → Standing s n t key row) → Kept s group (written (replaced s n key old new) rows)
+  replaces : (rows : Rows) → IndexExact s group rows → (n : ℕ) (t : Table) (key : List ℕ) (old new : Option Row) → table_of s group key ≡ Some n → numbered s.tables n ≡ Some t → rows key ≡ old
+      → ((row : Row) → new ≡ Some row → Standing s n t key row) → IndexExact s group (written (replaced s n key old new) rows)
   replaces rows kept n t key old new of_number is was fit =
-      subst (λ o. Kept s group (written (replaced s n key o new) rows)) was (replaced_kept s most group rows kept key n t of_number is new fit)
+      subst (λ o. IndexExact s group (written (replaced s n key o new) rows)) was (replaced_kept s most group rows kept key n t of_number is new fit)
 
   -- ---- the changes of a transaction
 
-  change_kept : (rows : Rows) → Kept s group rows → (i : ℕ) (c : Change) (writes : List Write) → PutsValues c → change s group rows i c ≡ Ok writes → Kept s group (written writes rows)
+  change_kept : (rows : Rows) → IndexExact s group rows → (i : ℕ) (c : Change) (writes : List Write) → PutsValues c → change s group rows i c ≡ Ok writes → IndexExact s group (written writes rows)
   change_kept rows kept i c writes held h =
       let r = change_replaces s group rows i writes c h in
       let of_number : table_of s group r.key ≡ Some r.number = elim (r.held held) [
         | inl values ↦ table_is s group r.key r.number r.table most r.numbered_is (put_key s r.number r.table group r.key r.values values r.own r.of_group)
         | inr old ↦ row_table rows kept r.number r.table r.values r.key old.0 r.numbered_is r.of_group r.own old.1
       ] in
-      subst (λ w. Kept s group (written w rows)) r.is
+      subst (λ w. IndexExact s group (written w rows)) r.is
       (replaces rows kept r.number r.table r.key (rows r.key) r.new of_number r.numbered_is refl
       (r.fits (λ old stands. kept.fit r.key r.number r.table old of_number r.numbered_is stands)))
 
-  pub changes_kept : (rows : Rows) → Kept s group rows → (i : ℕ) (cs : List Change) (writes : List Write) → PutValues cs → all_changes s group rows i cs ≡ Ok writes → Kept s group (written writes rows)
-  changes_kept rows kept i [] writes held h = let same : [] ≡ writes = cc in subst (λ w. Kept s group (written w rows)) same kept
+  pub changes_kept : (rows : Rows) → IndexExact s group rows → (i : ℕ) (cs : List Change) (writes : List Write) → PutValues cs → all_changes s group rows i cs ≡ Ok writes → IndexExact s group (written writes rows)
+  changes_kept rows kept i [] writes held h = let same : [] ≡ writes = cc in subst (λ w. IndexExact s group (written w rows)) same kept
   changes_kept rows kept i (c ∷ cs) writes held h =
       let a = bind_turn (change s group rows i c) (λ first. all_changes s group (written first rows) (i + 1) cs >>= λ others. Ok (first ++ others)) writes h in
       let b = bind_turn (all_changes s group (written a.0 rows) (i + 1) cs) (λ others. Ok (a.0 ++ others)) writes a.2 in
       let same : a.0 ++ b.0 ≡ writes = (let e = b.2 in cc) in
       let first = change_kept rows kept i c a.0 held.0 a.1 in
       let more = changes_kept (written a.0 rows) first (i + 1) cs b.0 held.1 b.1 in
-      subst (λ w. Kept s group (written w rows)) same (subst (Kept s group) (sym (fold-append changed rows a.0 b.0)) more)
+      subst (λ w. IndexExact s group (written w rows)) same (subst (IndexExact s group) (sym (fold-append changed rows a.0 b.0)) more)
 
   -- ---- what a handler writes
 
@@ -83,23 +83,23 @@ module _ (s : Schema) (most : length s.tables ≤ 64) (group : List ℕ) where
   written_alike [] R T k h = h
   written_alike (write ∷ writes) R T k h = written_alike writes (changed R write) (changed T write) k (ap (cond (same_key write.key k) write.row) h)
 
-  one_kept : (rows seen : Rows) → Kept s group rows → (write : Write) → ((n : ℕ) → table_of s group write.key ≡ Some n → seen write.key ≡ rows write.key) → Kept s group (written (kept_write s (table_of s group write.key) seen write) rows)
+  one_kept : (rows seen : Rows) → IndexExact s group rows → (write : Write) → ((n : ℕ) → table_of s group write.key ≡ Some n → seen write.key ≡ rows write.key) → IndexExact s group (written (kept_write s (table_of s group write.key) seen write) rows)
   one_kept rows seen kept write agree = by (table_of s group write.key) refl
     where
-      tested : (n : ℕ) → table_of s group write.key ≡ Some n → (b : Bool) → is_kept s n write ≡ b → Kept s group (written (if b then write ∷ index_writes s n (seen write.key) write.row else []) rows)
+      tested : (n : ℕ) → table_of s group write.key ≡ Some n → (b : Bool) → is_kept s n write ≡ b → IndexExact s group (written (if b then write ∷ index_writes s n (seen write.key) write.row else []) rows)
       tested n at false is = kept
       tested n at true is =
           let r = of_table s group write.key n most at in
           replaces rows kept n r.table write.key (seen write.key) write.row at r.numbered_is (sym (agree n at))
           (λ row same. standing s n r.table write.key row (sym (ap (λ o. stands_in s n o write.key row) r.numbered_is) ∙ sym (ap (row_kept s n write.key) same) ∙ is))
 
-      by : (o : Option ℕ) → table_of s group write.key ≡ o → Kept s group (written (kept_write s o seen write) rows)
+      by : (o : Option ℕ) → table_of s group write.key ≡ o → IndexExact s group (written (kept_write s o seen write) rows)
       by None at = kept
       by (Some n) at = tested n at (is_kept s n write) refl
 
-  pub fitted_kept : (writes : List Write) (rows seen : Rows) → Kept s group rows → ((k : List ℕ) (n : ℕ) → table_of s group k ≡ Some n → seen k ≡ rows k) → Kept s group (written (fitted_writes s group seen writes) rows)
+  pub fitted_kept : (writes : List Write) (rows seen : Rows) → IndexExact s group rows → ((k : List ℕ) (n : ℕ) → table_of s group k ≡ Some n → seen k ≡ rows k) → IndexExact s group (written (fitted_writes s group seen writes) rows)
   fitted_kept [] rows seen kept agree = kept
   fitted_kept (write ∷ writes) rows seen kept agree =
       let first = kept_write s (table_of s group write.key) seen write in
       let more = fitted_kept writes (written first rows) (written first seen) (one_kept rows seen kept write (agree write.key)) (λ k n at. written_alike first seen rows k (agree k n at)) in
-      subst (Kept s group) (sym (fold-append changed rows first (fitted_writes s group (written first seen) writes))) more
+      subst (IndexExact s group) (sym (fold-append changed rows first (fitted_writes s group (written first seen) writes))) more

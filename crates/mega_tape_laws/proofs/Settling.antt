@@ -15,7 +15,7 @@ use Rattle.mega_promises.specs.of_rules.Examples.{cluster, entry_of, group, op_o
 use Rattle.mega_promises.specs.of_rules.Members.{full_nodes}
 use Rattle.mega_tape_laws.specs.Lawful.{Heard, Lawful}
 use Rattle.mega_tape_laws.specs.Places.{In, Place}
-use Rattle.mega_tape_laws.specs.Settled.{IsCovered, IsSettled, Told, free, invalidated, voted}
+use Rattle.mega_tape_laws.specs.Settled.{IsCovered, IsSettled, SentInvalidate, free, invalidated, voted}
 use Rattle.mega_tape_laws.specs.Examples.{all_accept, asked_before, decided_at_zero, first, place, second}
 use Rattle.mega_tape_laws.proofs.Witnesses.{first_two, two_accept_lawful, two_of_three}
 use Rattle.mega_tape_laws.specs.Lawful.{lowest, spreads}
@@ -68,7 +68,7 @@ not_heard : (body : Body) → Heard (newest decided_at_zero) 3 (op_of 1) body �
 unfolding is_from_three
 not_heard body h = let e : false ≡ true = finds is_from_three (Sent h.number (record { from = 3; to = 1; body = body })) (newest decided_at_zero) h.sent refl in cc
 
-not_told : Told (newest decided_at_zero) (op_of 1) place 3 → ⊥
+not_told : SentInvalidate (newest decided_at_zero) (op_of 1) place 3 → ⊥
 unfolding is_told tells
 not_told t = let e : false ≡ true = finds is_told (Sent t.key (record { from = 1; to = 3; body = Invalidate (op_of 1) group first })) (newest decided_at_zero) t.sent refl in cc
 
@@ -88,7 +88,7 @@ unfolding is_from_three
 unheard body h = let e : false ≡ true = finds is_from_three (Sent h.number (record { from = 3; to = 1; body = body })) (newest asked_before) h.sent refl in cc
 
 -- it was told while position 1 was covered
-told_first : Told (newest asked_before) (op_of 1) place 3
+told_first : SentInvalidate (newest asked_before) (op_of 1) place 3
 told_first = record { key = 1; sent = inr (inr (inr (inr (inr (inl refl))))) }
 
 pub not_believed : (b : Ballot) (e : Content) → IsCovered cluster (newest asked_before) (op_of 1) second b e 3 → ⊥

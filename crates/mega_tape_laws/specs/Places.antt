@@ -1,8 +1,9 @@
 -- What a tape tells of one position of a group: what each voter made there, and which moves each operation made.
-use Rattle.std.specs.Prelude.{◌≡◌, ℕ, ◌+◌, ◌*◌, ◌<◌, ◌==◌, ◌&&◌, ◌⊎◌, Bool, if◌then◌else◌, List, [], ◌∷◌, filter_map, length, Option, Some, None}
+use Rattle.std.specs.Prelude.{ℕ, ◌+◌, ◌*◌, ◌<◌, ◌==◌, ◌&&◌, Bool, if◌then◌else◌, List, [], ◌∷◌, filter_map, length, Option, Some, None}
 use Rattle.mega_base.specs.declared.names.GroupId.{GroupId}
 use Rattle.mega_base.specs.declared.names.OpId.{OpId}
 use Rattle.mega_base.specs.declared.names.Position.{Position}
+pub use Rattle.mega_base.specs.ListWords.{Stands as In}
 use Rattle.mega_ballot.specs.declared.ballot.Ballot.{Ballot}
 use Rattle.mega_cluster.specs.declared.cluster.Cluster.{Cluster}
 use Rattle.mega_entry.specs.declared.content.Content.{Content}
@@ -16,11 +17,6 @@ use Rattle.mega_promises.specs.of_transcript.declared.item.Item.TheVariants.{Sen
 use Rattle.mega_promises.specs.Promises.{Stands}
 use Rattle.mega_promises.specs.of_rules.Members.{voters}
 use Rattle.mega_promises.specs.of_rules.Voting.{act_in}
-
--- an element of a list
-abbrev pub In : {X : Type 0} → X → List X → Type 0
-In x [] = ⊥
-In x (y ∷ ys) = (y ≡ x) ⊎ In x ys
 
 -- a position of a group's log
 pub record Place : Type 0 where

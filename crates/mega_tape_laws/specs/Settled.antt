@@ -22,7 +22,7 @@ use Rattle.mega_tape_laws.specs.Lawful.{Heard, message}
 use Rattle.mega_tape_laws.specs.Places.{In, IsMajority, Place, Proposes, count, moves, newest}
 
 -- the operation told a node, while it covered a place, to count the group invalid
-pub record Told (tape : List Item) (op : OpId) (p : Place) (node : ℕ) : Type 0 where
+pub record SentInvalidate (tape : List Item) (op : OpId) (p : Place) (node : ℕ) : Type 0 where
   pub key : ℕ
   pub sent : Stands (Sent key (message op.node.0 node (Invalidate op p.group p.position))) tape
 
@@ -34,8 +34,8 @@ IsCellMajority c test = c.cells < 2 * count test (cells c)
 -- while this place was covered, and while no other was: an answer to an earlier covering may come late
 pub data IsCovered (c : Cluster) (tape : List Item) (op : OpId) (p : Place) (b : Ballot) (e : Content) (node : ℕ) : Type 0 where
   voted : Heard tape node op (Accepted op p.group p.position b e) → IsCovered c tape op p b e node
-  invalidated : Told tape op p node → Heard tape node op (Invalidated op p.group p.position) → IsCovered c tape op p b e node
-  free : (test : ℕ → Bool) → IsCellMajority c test → Told tape op p node → ((other : Place) → Told tape op other node → other ≡ p)
+  invalidated : SentInvalidate tape op p node → Heard tape node op (Invalidated op p.group p.position) → IsCovered c tape op p b e node
+  free : (test : ℕ → Bool) → IsCellMajority c test → SentInvalidate tape op p node → ((other : Place) → SentInvalidate tape op other node → other ≡ p)
       → ((cell : ℕ) → test cell ≡ true → Heard tape cell op (Unheld op cell (number node))) → IsCovered c tape op p b e node
 
 pub record IsSettled (c : Cluster) (tape : List Item) (op : OpId) (p : Place) (e : Content) : Type 0 where

@@ -36,10 +36,9 @@ turn_number (CheckFailed item) = item
 turn_number (NoRow item) = item
 turn_number (Overflow item) = item
 turn_number (TooLarge bytes) = bytes
-turn_number DiskFault = 0
 turn_number (Full length) = length
 turn_number (BadRecord at) = at
-turn_number NoMemory = 0
+turn_number _ = 0
 
 -- ["committed",REPLIES] or ["turned",WORD,NUMBER]
 abbrev pub result_data : Schema → Result (List (Option Shown)) Turn → Data

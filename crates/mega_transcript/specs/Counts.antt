@@ -1,12 +1,11 @@
 -- The counts of a run.
 use Rattle.std.specs.Prelude.{ℕ, zero, suc, ◌==◌, ◌&&◌, ◌||◌, max, sum, map, filter, Bool, true, false, if◌then◌else◌, List, [], ◌∷◌, ◌++◌, length, codes, decimal, Option, Some, None}
 use Rattle.std.specs.List.{list_any}
-use Rattle.std.specs.Ordering.{nat_cmp, is_eq}
-use Rattle.std.specs.declared.cmp.Ordering.{Ordering}
-use Rattle.std.specs.Cmp.Lexicographic.{slice_cmp}
+use Rattle.std.specs.Ordering.{is_eq}
 use Rattle.std.specs.Map.{lookup}
 use Rattle.std.specs.BTreeMap.{insert_entry}
 use Rattle.mega_base.specs.declared.names.GroupId.{GroupId}
+pub use Rattle.mega_base.specs.NameOrder.{group_cmp}
 use Rattle.mega_syntax.specs.Names.{same}
 use Rattle.mega_outcome.specs.declared.answer.Answer.TheVariants as answers
 use Rattle.mega_transcript.specs.declared.item.Item.{Item}
@@ -58,10 +57,6 @@ climb test (suc steps) from = if test (suc from) then climb test steps (suc from
 -- the greatest position of a group through which all are decided at a node, from 1 on; 0 for none
 abbrev pub prefix_of : List Item → GroupId → ℕ → ℕ
 prefix_of tape group node = climb (is_decided tape group node) (greatest_of tape group node) 0
-
--- groups are in the order of their key bytes
-abbrev pub group_cmp : GroupId → GroupId → Ordering
-group_cmp g h = slice_cmp nat_cmp g.key h.key
 
 abbrev pub or_zero : Option ℕ → ℕ
 or_zero None = 0

@@ -9,7 +9,7 @@ use Rattle.mega_transcript.specs.declared.item.Item.{Item}
 use Rattle.mega_transcript.specs.PlainNames.{IsU8, IsU32, IsU64, IsNode, IsPosition, IsEpoch, IsOp, IsGroup}
 use Rattle.mega_transcript.specs.Requests.{IsRequest}
 use Rattle.mega_transcript.specs.PlainAnswers.{IsPlainAnswer}
-use Rattle.mega_transcript.specs.declared.item.Item.TheVariants.{Start, Unsent, Tick, Begin, Taken, Dropped, Sent, Grant, Lapse, Counts, Forgets, Serving, Lost, Valid, Invalid, Decide, Apply, Answer, Crash, Cut, Unsafe}
+use Rattle.mega_transcript.specs.declared.item.Item.TheVariants.{Start, Unsent, Tick, Begin, Taken, Dropped, Sent, Grant, Lapse, Counts, Forgets, Serving, Lost, Valid, Invalid, Decide, Apply, Answer, Crash}
 
 -- a message of the format, whose text is bytes
 abbrev pub IsWhole : Message → Type 0
@@ -40,5 +40,4 @@ IsPlain schema (Decide node group position entry) = (IsNode node × (IsGroup gro
 IsPlain schema (Apply node group position) = IsNode node × (IsGroup group × IsPosition position)
 IsPlain schema (Answer op answer) = IsOp op × IsPlainAnswer schema answer
 IsPlain schema (Crash node) = IsNode node
-IsPlain schema Cut = Unit {0}
-IsPlain schema Unsafe = Unit {0}
+IsPlain schema _ = Unit {0}

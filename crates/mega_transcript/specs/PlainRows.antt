@@ -6,7 +6,7 @@ use Rattle.std.specs.Cmp.Lexicographic.{slice_cmp}
 use Rattle.hex.specs.Hex.{IsBytes}
 use Rattle.mega_base.specs.declared.values.Kind.{Kind}
 use Rattle.mega_base.specs.declared.values.Value.{Value}
-use Rattle.mega_base.specs.declared.values.Value.TheVariants.{Int32, Int64, Bool as Truth, Str, Raw}
+use Rattle.mega_base.specs.declared.values.Value.TheVariants.{Raw}
 use Rattle.mega_base.specs.declared.values.Cell.{Cell}
 use Rattle.mega_keys.specs.Fit.{has_kind, key_kinds, IsValue}
 use Rattle.mega_schema.specs.declared.schema.Property.{Property}
@@ -25,11 +25,8 @@ use Rattle.mega_transcript.specs.PlainTurns.{IsPlainTurn}
 
 -- a value that its type holds
 abbrev pub IsHeld : Value → Type 0
-IsHeld (Int32 z) = IsValue (Int32 z)
-IsHeld (Int64 z) = IsValue (Int64 z)
-IsHeld (Truth b) = IsValue (Truth b)
-IsHeld (Str text) = IsValue (Str text)
 IsHeld (Raw bytes) = IsBytes bytes
+IsHeld value = IsValue value
 
 -- ---- rows
 
@@ -61,9 +58,8 @@ ArePlainRows schema rows = AllByRecursion (IsPlainShown schema) rows
 -- one value for each place, of its kind
 abbrev pub HaveKinds : List Kind → List Value → Type 0
 HaveKinds [] [] = Unit {0}
-HaveKinds [] (value ∷ values) = ⊥
-HaveKinds (kind ∷ kinds) [] = ⊥
 HaveKinds (kind ∷ kinds) (value ∷ values) = (has_kind kind value ≡ true) × (IsHeld value × HaveKinds kinds values)
+HaveKinds _ _ = ⊥
 
 abbrev pub IsPlainKey : Schema → ℕ → Option Table → List Value → Type 0
 IsPlainKey schema n None key = ⊥

@@ -41,10 +41,6 @@ taken read refused (Some word) = shown refused word.1 (read word.0)
 abbrev pub word_as : {A : Type 0} → (List ℕ → Option A) → Field A
 word_as read end left = taken read (length left) (until end left)
 
--- a word of any bytes
-unfoldable pub word_field : Field (List ℕ)
-word_field = word_as Some
-
 -- the number with one digit more, up to the greatest
 abbrev pub with_digit : ℕ → ℕ → ℕ → Option ℕ
 with_digit most number byte =

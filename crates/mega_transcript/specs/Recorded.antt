@@ -30,5 +30,4 @@ reply_line me client token words = Put (OfClient client) (message_text (record {
 -- what is put out
 abbrev pub put_in : Line → Option (Peer × List ℕ)
 put_in (Put to bytes) = Some (to, bytes)
-put_in (Got from bytes) = None
-put_in (Noted item) = None
+put_in _ = None

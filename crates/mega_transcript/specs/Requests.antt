@@ -2,7 +2,7 @@
 use Rattle.std.specs.Prelude.{◌≡◌, ℕ, ◌==◌, not, Bool, true, false, if◌then◌else◌, List, Option, Some, None, option_and_then}
 use Rattle.std.specs.List.{list_all}
 use Rattle.std.specs.Str.{is_utf8}
-use Rattle.serde_json.specs.Data.{Data, null, boolean, number, string, array, object}
+use Rattle.serde_json.specs.Data.{Data, object}
 use Rattle.serde_json.specs.Read.{read}
 use Rattle.serde_json.specs.Written.{has_float, compact_text}
 use Rattle.mega_syntax.specs.Names.{same}
@@ -10,12 +10,8 @@ use Rattle.mega_transcript.specs.Reading.{Field, word_as}
 
 -- the compact text of an object with no float
 abbrev pub compact_of : Data → Option (List ℕ)
-compact_of null = None
-compact_of (boolean b) = None
-compact_of (number n) = None
-compact_of (string s) = None
-compact_of (array ds) = None
 compact_of (object ms) = if has_float (object ms) then None else Some (compact_text (object ms))
+compact_of _ = None
 
 abbrev pub is_text : List ℕ → Option (List ℕ) → Bool
 is_text text None = false

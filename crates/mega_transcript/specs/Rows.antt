@@ -15,6 +15,7 @@ use Rattle.mega_schema.specs.declared.schema.Table.{Table}
 use Rattle.mega_schema.specs.declared.schema.Schema.{Schema}
 use Rattle.mega_schema.specs.Lookup.{property_at, is_repeated}
 use Rattle.mega_schema.specs.Shaping.{table_at}
+pub use Rattle.mega_schema.specs.Lookup.{properties_in as properties_of}
 use Rattle.mega_outcome.specs.of_index.declared.found.Found.{Found}
 use Rattle.mega_outcome.specs.declared.answer.Shown.{Shown}
 use Rattle.mega_outcome.specs.declared.answer.Mark.{Mark}
@@ -54,10 +55,6 @@ cells_members properties (cell ∷ cells) members = cells_members properties cel
 abbrev pub name_of : Option Table → List ℕ
 name_of None = []
 name_of (Some table) = table.name
-
-abbrev pub properties_of : Option Table → List Property
-properties_of None = []
-properties_of (Some table) = table.properties
 
 abbrev pub row_data : Option Table → Row → Data
 row_data table row = object (cells_members (properties_of table) row.cells no_members)

@@ -1,12 +1,8 @@
 -- What a tape tells, looking back: here its newest item stands first, and what came before is the rest.
-use Rattle.std.specs.Prelude.{◌≡◌, ℕ, ◌+◌, ◌==◌, ◌||◌, ◌&&◌, nat_le, not, Bool, false, List, [], ◌∷◌, ◌⊎◌}
+use Rattle.std.specs.Prelude.{◌≡◌, ℕ, ◌+◌, ◌==◌, ◌||◌, ◌&&◌, nat_le, Bool, false, List, [], ◌∷◌, ◌⊎◌}
 use Rattle.mega_transcript.specs.declared.item.Item.{Item}
 use Rattle.mega_transcript.specs.declared.item.Item.TheVariants.{Start, Unsent, Taken, Dropped, Sent, Crash, Cut, Unsafe}
-
--- these items, oldest first, come onto the tape
-abbrev pub onto : List Item → List Item → List Item
-onto [] tape = tape
-onto (item ∷ items) tape = onto items (item ∷ tape)
+pub use Rattle.mega_base.specs.ListWords.{onto}
 
 -- the items of a stored tape, which has its oldest item first
 abbrev pub newest : List Item → List Item
@@ -27,14 +23,6 @@ is_taken (_ ∷ before) n = is_taken before n
 -- whether a message of this number was sent
 abbrev pub is_sent : List Item → ℕ → Bool
 is_sent tape n = nat_le 1 n && nat_le n (sent_count tape)
-
--- whether it was sent and never taken
-abbrev pub waits : List Item → ℕ → Bool
-waits tape n = is_sent tape n && not (is_taken tape n)
-
--- every message that was sent was taken
-abbrev pub IsQuiet : List Item → Type 0
-IsQuiet tape = (n : ℕ) → waits tape n ≡ false
 
 -- the item is a note of a node
 abbrev pub IsNote : Item → Type 0

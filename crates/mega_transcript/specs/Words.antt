@@ -1,5 +1,5 @@
 -- How names, numbers and bytes are spelled in a line.
-use Rattle.std.specs.Prelude.{ℕ, List, [], ◌∷◌, ◌++◌, decimal}
+use Rattle.std.specs.Prelude.{ℕ, List, [], ◌∷◌, ◌++◌, codes, decimal}
 use Rattle.hex.specs.Hex.{encode_lower}
 use Rattle.mega_base.specs.declared.names.NodeId.{NodeId}
 use Rattle.mega_base.specs.declared.names.Position.{Position}
@@ -29,3 +29,7 @@ op_word op = decimal op.node.0 ++ 46 ∷ (decimal op.start ++ 46 ∷ decimal op.
 -- a group's key in hex
 abbrev pub group_word : GroupId → List ℕ
 group_word group = encode_lower group.key
+
+-- the last line, where the header breaks this rule
+abbrev pub header_line : ℕ → List ℕ
+header_line rule = codes "header " ++ (decimal rule ++ codes "\n")

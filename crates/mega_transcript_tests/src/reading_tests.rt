@@ -4,7 +4,7 @@ use crate::lines;
 use crate::written::written_back;
 use mega_base::{Bytes, Text};
 use mega_schema::{Schema, parse};
-use mega_transcript_reading::ItemFault;
+use mega_transcript_reader::ItemFault;
 use std::alloc::Global;
 use std::process::Abort;
 

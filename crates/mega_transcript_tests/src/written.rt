@@ -5,7 +5,7 @@ ghost use Rattle.mega_transcript.specs.Lines.{line, HasLine};
 use mega_base::{Bytes, NoMemory};
 use mega_schema::Schema;
 use mega_transcript::{Item, text};
-use mega_transcript_reading::{ItemFault, parse};
+use mega_transcript_reader::{ItemFault, parse};
 use std::alloc::Global;
 
 /// The line of an item.
@@ -29,7 +29,7 @@ fn into_line(alloc: Global, schema: &Schema, item: Item) -> Result<Bytes, NoMemo
 }
 
 /// What a line is read as, written back: the line itself.
-#[tactic(auto, using(mega_transcript_reading::proofs::ItemLaws::HasLine_from_IsPlain))]
+#[tactic(auto, using(mega_transcript_reader::proofs::ItemLaws::HasLine_from_IsPlain))]
 pub fn written_back(alloc: Global, schema: &Schema, read: &[u8]) -> Result<Bytes, ItemFault>
     ensures { IfOk result (λ made. made ≡ read.now) }
 {

@@ -3,4 +3,4 @@ pub mod Events
 pub mod Started
 pub mod Steps
 pub mod Turns
-pub mod Told
+pub mod OwnEntries

@@ -14,7 +14,7 @@ use Rattle.mega_format_laws.specs.Nodes.{IsEvent, IsNode, IsSetting, IsStep}
 use Rattle.mega_format_laws.proofs.Journals.{journal_formed}
 use Rattle.mega_format_laws.proofs.Whole.{whole_step}
 use Rattle.mega_server.specs.of_core.Stepping.{IsPlacedAt}
-use Rattle.mega_server.specs.of_core.of_stepping.Placed.{IsPlaced}
+use Rattle.mega_server.specs.of_core.of_step_parts.Placed.{IsPlaced}
 use Rattle.mega_server.specs.Serving.{MayStep}
 use Rattle.mega_turn_laws.proofs.Decided.{decision_formed}
 

@@ -20,7 +20,7 @@ ghost use Rattle.mega_promises.specs.Served.{served, served_start};
 ghost use Rattle.mega_serve.specs.Turns.{AreTimes, MayServe, turns_of};
 ghost use Rattle.mega_serve.specs.Wishes.{wish_of};
 ghost use Rattle.mega_server.specs.Serving.{MayStep};
-ghost use Rattle.mega_turn_laws.specs.Told.{DatagramsOwn, ItemsOwn};
+ghost use Rattle.mega_turn_laws.specs.OwnEntries.{DatagramsOwn, ItemsOwn};
 
 use mega_serve::Steps;
 

@@ -6,9 +6,9 @@ use Rattle.mega_schema.proofs.Naming.{same_is}
 use Rattle.mega_two_moves.specs.declared.phase.Ended.TheVariants.{Open}
 use Rattle.mega_two_moves.specs.declared.phase.Phase.TheVariants.{Over}
 use Rattle.mega_two_driver.specs.declared.plan.Plan.{Plan}
-use Rattle.mega_two_moves.specs.declared.told.State.{State}
-use Rattle.mega_two_moves.specs.declared.told.Told.{Told}
-use Rattle.mega_two_moves.specs.declared.told.Told.TheVariants.{Done, Turned, Again, Lost, Refused, NoPlan, Stands, Held, Free}
+use Rattle.mega_two_moves.specs.declared.request_result.State.{State}
+use Rattle.mega_two_moves.specs.declared.request_result.RequestResult.{RequestResult}
+use Rattle.mega_two_moves.specs.declared.request_result.RequestResult.TheVariants.{Done, Turned, Again, Lost, Refused, NoPlan, StateIs, Held, Free}
 use Rattle.mega_two_driver.specs.declared.two.Two.{Two}
 use Rattle.mega_two_moves.specs.Moves.{by_state}
 use Rattle.mega_two_driver.specs.Rows.{plan_told, plan_line}
@@ -23,14 +23,14 @@ learns two state (Some plan) = by (same plan.name two.plan.name) refl
     by true is = same_is plan.name two.plan.name is
     by false is = refl
 
-reads : (two : Two) (reply : List ℕ) (told : Told) → (read_plan two reply told).plan.name ≡ two.plan.name
+reads : (two : Two) (reply : List ℕ) (told : RequestResult) → (read_plan two reply told).plan.name ≡ two.plan.name
 reads two reply Done = refl
 reads two reply Turned = refl
 reads two reply Again = refl
 reads two reply Lost = refl
 reads two reply Refused = refl
 reads two reply NoPlan = refl
-reads two reply (Stands state) = learns two state (result_ok (plan_of two.schema (plan_line reply)))
+reads two reply (StateIs state) = learns two state (result_ok (plan_of two.schema (plan_line reply)))
 reads two reply Held = refl
 reads two reply Free = refl
 

@@ -4,10 +4,10 @@ use Rattle.mega_two_moves.specs.declared.phase.Ended.{Ended}
 use Rattle.mega_two_moves.specs.declared.phase.Ended.TheVariants.{Committed, Aborted, Used, Open}
 use Rattle.mega_two_moves.specs.declared.phase.Phase.{Phase}
 use Rattle.mega_two_moves.specs.declared.phase.Phase.TheVariants.{Begins, Prepares, Decides, Looks, Finishes, Checks, Recovers, Over}
-use Rattle.mega_two_moves.specs.declared.told.State.{State}
-use Rattle.mega_two_moves.specs.declared.told.State.TheVariants.{Undecided, Made, Dropped}
-use Rattle.mega_two_moves.specs.declared.told.Told.{Told}
-use Rattle.mega_two_moves.specs.declared.told.Told.TheVariants.{Done, Turned, Again, Lost, Refused, NoPlan, Stands, Held, Free}
+use Rattle.mega_two_moves.specs.declared.request_result.State.{State}
+use Rattle.mega_two_moves.specs.declared.request_result.State.TheVariants.{Undecided, Made, Dropped}
+use Rattle.mega_two_moves.specs.declared.request_result.RequestResult.{RequestResult}
+use Rattle.mega_two_moves.specs.declared.request_result.RequestResult.TheVariants.{Done, Turned, Again, Lost, Refused, NoPlan, StateIs, Held, Free}
 use Rattle.mega_two_moves.specs.Moves.{preparing, ending_of, finishing, by_state, planned, prepared, decided, looked, finished, checked, moved, is_within}
 
 prepares : (count i : ℕ) → is_within count (preparing count i) ≡ true
@@ -29,73 +29,73 @@ stands count made Undecided = refl
 stands count made Made = finishes count true 0
 stands count made Dropped = finishes count false 0
 
-plans : (count : ℕ) (told : Told) → is_within count (planned count told) ≡ true
+plans : (count : ℕ) (told : RequestResult) → is_within count (planned count told) ≡ true
 plans count Done = prepares count 0
 plans count Turned = refl
 plans count Again = refl
 plans count Lost = refl
 plans count Refused = refl
 plans count NoPlan = refl
-plans count (Stands state) = refl
+plans count (StateIs state) = refl
 plans count Held = refl
 plans count Free = refl
 
-prepared_within : (count i : ℕ) (told : Told) → nat_lt i count ≡ true → is_within count (prepared count i told) ≡ true
+prepared_within : (count i : ℕ) (told : RequestResult) → nat_lt i count ≡ true → is_within count (prepared count i told) ≡ true
 prepared_within count i Done is = prepares count (i + 1)
 prepared_within count i Turned is = refl
 prepared_within count i Again is = is
 prepared_within count i Lost is = refl
 prepared_within count i Refused is = refl
 prepared_within count i NoPlan is = is
-prepared_within count i (Stands state) is = is
+prepared_within count i (StateIs state) is = is
 prepared_within count i Held is = is
 prepared_within count i Free is = is
 
-decides : (count : ℕ) (made : Bool) (told : Told) → is_within count (decided count made told) ≡ true
+decides : (count : ℕ) (made : Bool) (told : RequestResult) → is_within count (decided count made told) ≡ true
 decides count made Done = finishes count made 0
 decides count made Turned = refl
 decides count made Again = refl
 decides count made Lost = refl
 decides count made Refused = refl
 decides count made NoPlan = refl
-decides count made (Stands state) = refl
+decides count made (StateIs state) = refl
 decides count made Held = refl
 decides count made Free = refl
 
-looks : (count : ℕ) (made : Bool) (same : Phase) (told : Told) → is_within count same ≡ true → is_within count (looked count made same told) ≡ true
+looks : (count : ℕ) (made : Bool) (same : Phase) (told : RequestResult) → is_within count same ≡ true → is_within count (looked count made same told) ≡ true
 looks count made same Done is = is
 looks count made same Turned is = is
 looks count made same Again is = is
 looks count made same Lost is = is
 looks count made same Refused is = refl
 looks count made same NoPlan is = refl
-looks count made same (Stands state) is = stands count made state
+looks count made same (StateIs state) is = stands count made state
 looks count made same Held is = is
 looks count made same Free is = is
 
-finished_within : (count : ℕ) (made : Bool) (i : ℕ) (told : Told) → nat_lt i count ≡ true → is_within count (finished count made i told) ≡ true
+finished_within : (count : ℕ) (made : Bool) (i : ℕ) (told : RequestResult) → nat_lt i count ≡ true → is_within count (finished count made i told) ≡ true
 finished_within count made i Done is = finishes count made (i + 1)
 finished_within count made i Turned is = is
 finished_within count made i Again is = is
 finished_within count made i Lost is = is
 finished_within count made i Refused is = refl
 finished_within count made i NoPlan is = is
-finished_within count made i (Stands state) is = is
+finished_within count made i (StateIs state) is = is
 finished_within count made i Held is = is
 finished_within count made i Free is = is
 
-checked_within : (count : ℕ) (made : Bool) (i : ℕ) (told : Told) → nat_lt i count ≡ true → is_within count (checked count made i told) ≡ true
+checked_within : (count : ℕ) (made : Bool) (i : ℕ) (told : RequestResult) → nat_lt i count ≡ true → is_within count (checked count made i told) ≡ true
 checked_within count made i Done is = is
 checked_within count made i Turned is = is
 checked_within count made i Again is = is
 checked_within count made i Lost is = is
 checked_within count made i Refused is = refl
 checked_within count made i NoPlan is = is
-checked_within count made i (Stands state) is = is
+checked_within count made i (StateIs state) is = is
 checked_within count made i Held is = is
 checked_within count made i Free is = finishes count made (i + 1)
 
-pub stays_within : (count : ℕ) (phase : Phase) (told : Told) → is_within count phase ≡ true → is_within count (moved count phase told) ≡ true
+pub stays_within : (count : ℕ) (phase : Phase) (told : RequestResult) → is_within count phase ≡ true → is_within count (moved count phase told) ≡ true
 stays_within count Begins told is = plans count told
 stays_within count (Prepares i) told is = prepared_within count i told is
 stays_within count (Decides made) told is = decides count made told

@@ -6,9 +6,9 @@ use Rattle.mega_schema.specs.declared.schema.Schema.{Schema}
 use Rattle.mega_two_moves.specs.declared.phase.Phase.{Phase}
 use Rattle.mega_two_moves.specs.declared.phase.Ended.TheVariants.{Open}
 use Rattle.mega_two_moves.specs.declared.phase.Phase.TheVariants.{Begins, Prepares, Decides, Looks, Finishes, Checks, Recovers, Over}
-use Rattle.mega_two_moves.specs.declared.told.State.{State}
-use Rattle.mega_two_moves.specs.declared.told.Told.{Told}
-use Rattle.mega_two_moves.specs.declared.told.Told.TheVariants.{Done, Turned, Again, Lost, Refused, NoPlan, Stands, Held, Free}
+use Rattle.mega_two_moves.specs.declared.request_result.State.{State}
+use Rattle.mega_two_moves.specs.declared.request_result.RequestResult.{RequestResult}
+use Rattle.mega_two_moves.specs.declared.request_result.RequestResult.TheVariants.{Done, Turned, Again, Lost, Refused, NoPlan, StateIs, Held, Free}
 use Rattle.mega_two_driver.specs.declared.plan.PartRequests.{PartRequests}
 use Rattle.mega_two_driver.specs.declared.plan.Plan.{Plan}
 use Rattle.mega_two_driver.specs.declared.two.Two.{Two}
@@ -74,7 +74,7 @@ recovered schema name =
 -- ---- how it goes on
 
 -- what a reply tells of the present request
-abbrev pub told_in : List ℕ → Phase → List ℕ → Told
+abbrev pub told_in : List ℕ → Phase → List ℕ → RequestResult
 told_in name Begins reply = transaction_told reply
 told_in name (Prepares i) reply = transaction_told reply
 told_in name (Decides made) reply = transaction_told reply
@@ -87,7 +87,7 @@ told_in name (Over ending) reply = Again
 abbrev pub moved_to : Two → Phase → Two
 moved_to two phase = two_in two.schema phase two.plan
 
-abbrev pub stepped : Two → Told → Two
+abbrev pub stepped : Two → RequestResult → Two
 stepped two told = moved_to two (moved (length two.plan.parts) two.phase told)
 
 -- the line of the plan that it recovers tells its parts, where it is a line of this name
@@ -96,14 +96,14 @@ learned two state None = moved_to two (Over Open)
 learned two state (Some plan) =
     if same plan.name two.plan.name then two_in two.schema (by_state (length plan.parts) false state) plan else moved_to two (Over Open)
 
-abbrev pub read_plan : Two → List ℕ → Told → Two
+abbrev pub read_plan : Two → List ℕ → RequestResult → Two
 read_plan two reply Done = stepped two Done
 read_plan two reply Turned = stepped two Turned
 read_plan two reply Again = stepped two Again
 read_plan two reply Lost = stepped two Lost
 read_plan two reply Refused = stepped two Refused
 read_plan two reply NoPlan = stepped two NoPlan
-read_plan two reply (Stands state) = learned two state (result_ok (plan_of two.schema (plan_line reply)))
+read_plan two reply (StateIs state) = learned two state (result_ok (plan_of two.schema (plan_line reply)))
 read_plan two reply Held = stepped two Held
 read_plan two reply Free = stepped two Free
 

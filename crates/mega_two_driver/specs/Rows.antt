@@ -6,9 +6,9 @@ use Rattle.serde_json.specs.Find.{get, at, as_null, as_str, as_number, as_u64}
 use Rattle.serde_json.specs.Read.{read as read_json}
 use Rattle.mega_syntax.specs.Names.{same}
 use Rattle.mega_schedule.specs.Values.{bytes_of}
-use Rattle.mega_two_moves.specs.declared.told.State.TheVariants.{Undecided, Made, Dropped}
-use Rattle.mega_two_moves.specs.declared.told.Told.{Told}
-use Rattle.mega_two_moves.specs.declared.told.Told.TheVariants.{Again, NoPlan, Stands, Held, Free}
+use Rattle.mega_two_moves.specs.declared.request_result.State.TheVariants.{Undecided, Made, Dropped}
+use Rattle.mega_two_moves.specs.declared.request_result.RequestResult.{RequestResult}
+use Rattle.mega_two_moves.specs.declared.request_result.RequestResult.TheVariants.{Again, NoPlan, StateIs, Held, Free}
 use Rattle.mega_two_driver.specs.Words.{has_word, unread_told}
 
 -- the list of rows: a reply from its first bracket on
@@ -30,9 +30,9 @@ row_or_null d = if is_some (as_null d) then Some None else option_map Some (at 1
 abbrev pub first_row : Option Data → Option (Option Data)
 first_row rows = option_and_then row_or_null (option_and_then (at 0) rows)
 
-abbrev pub state_told : Option ℕ → Told
+abbrev pub state_told : Option ℕ → RequestResult
 state_told None = Again
-state_told (Some n) = if n == 0 then Stands Undecided else (if n == 1 then Stands Made else (if n == 2 then Stands Dropped else Again))
+state_told (Some n) = if n == 0 then StateIs Undecided else (if n == 1 then StateIs Made else (if n == 2 then StateIs Dropped else Again))
 
 abbrev pub number_in : List ℕ → Data → Option ℕ
 number_in name row = option_and_then as_u64 (option_and_then as_number (get name row))
@@ -41,25 +41,25 @@ abbrev pub text_in : List ℕ → Data → Option (List ℕ)
 text_in name row = option_and_then as_str (get name row)
 
 -- what a look at the plan tells
-abbrev pub plan_row_told : List ℕ → Option (Option Data) → Told
+abbrev pub plan_row_told : List ℕ → Option (Option Data) → RequestResult
 plan_row_told reply None = unread_told reply
 plan_row_told reply (Some None) = NoPlan
 plan_row_told reply (Some (Some row)) = state_told (number_in (codes "state") row)
 
-unfoldable pub plan_told : List ℕ → Told
+unfoldable pub plan_told : List ℕ → RequestResult
 plan_told reply = plan_row_told reply (first_row (rows_in reply))
 
 -- what a look at a lock tells the change with this name
-abbrev pub holder_told : List ℕ → Option (List ℕ) → Told
+abbrev pub holder_told : List ℕ → Option (List ℕ) → RequestResult
 holder_told name None = Again
 holder_told name (Some holder) = if same holder name then Held else Free
 
-abbrev pub lock_row_told : List ℕ → List ℕ → Option (Option Data) → Told
+abbrev pub lock_row_told : List ℕ → List ℕ → Option (Option Data) → RequestResult
 lock_row_told name reply None = unread_told reply
 lock_row_told name reply (Some None) = Free
 lock_row_told name reply (Some (Some row)) = holder_told name (text_in (codes "gid") row)
 
-unfoldable pub lock_told : List ℕ → List ℕ → Told
+unfoldable pub lock_told : List ℕ → List ℕ → RequestResult
 lock_told name reply = lock_row_told name reply (first_row (rows_in reply))
 
 -- the line that a plan holds; none where it shows none

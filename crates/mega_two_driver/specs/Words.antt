@@ -1,7 +1,7 @@
 -- What the first word of a reply tells.
 use Rattle.std.specs.Prelude.{ℕ, ◌==◌, ◌&&◌, ◌||◌, if◌then◌else◌, Bool, true, false, List, [], ◌∷◌, codes}
-use Rattle.mega_two_moves.specs.declared.told.Told.{Told}
-use Rattle.mega_two_moves.specs.declared.told.Told.TheVariants.{Done, Turned, Again, Lost, Refused}
+use Rattle.mega_two_moves.specs.declared.request_result.RequestResult.{RequestResult}
+use Rattle.mega_two_moves.specs.declared.request_result.RequestResult.TheVariants.{Done, Turned, Again, Lost, Refused}
 
 -- the word stands at the front of the text, and the text ends behind it, or a space follows
 abbrev pub has_word : List ℕ → List ℕ → Bool
@@ -19,7 +19,7 @@ abbrev pub is_closed : List ℕ → Bool
 is_closed reply = (has_word (codes "nothere") reply || has_word (codes "worn") reply) || has_word (codes "refused") reply
 
 -- what the reply to a transaction tells; where the reply is none of those that are known, none knows
-unfoldable pub transaction_told : List ℕ → Told
+unfoldable pub transaction_told : List ℕ → RequestResult
 transaction_told reply =
     if has_word (codes "committed") reply then Done
     else (if has_word (codes "turned") reply then Turned
@@ -27,5 +27,5 @@ transaction_told reply =
     else (if is_closed reply || has_word (codes "logfull") reply then Refused else Lost)))
 
 -- what a reply to a read that shows no rows tells
-abbrev pub unread_told : List ℕ → Told
+abbrev pub unread_told : List ℕ → RequestResult
 unread_told reply = if is_closed reply then Refused else Again

@@ -19,6 +19,6 @@ mod two;
 mod words;
 
 pub use fault::TwoFault;
-pub use mega_two_moves::{Ended, Phase, State, Told};
+pub use mega_two_moves::{Ended, Phase, RequestResult, State};
 pub use plan::{PartRequests, Plan};
 pub use two::Two;

@@ -7,7 +7,7 @@ ghost use Rattle.mega_two_driver.specs.Rows.{data_in, first_row, holder_told, li
 use crate::words::{has_word, same, unread_told};
 use mega_base::{Bytes, NoMemory};
 use mega_schedule::values::bytes_of;
-use mega_two_moves::{State, Told};
+use mega_two_moves::{RequestResult, State};
 use serde_json::Value as Json;
 use std::alloc::Global;
 
@@ -75,14 +75,14 @@ fn first_row(rows: Option<&Json>) -> Option<Option<&Json>>
     }
 }
 
-fn state_told(number: Option<u64>) -> Told
+fn state_told(number: Option<u64>) -> RequestResult
     ensures { result ≡ state_told number }
 {
     match number {
-        Some(0) => Told::Stands(State::Undecided),
-        Some(1) => Told::Stands(State::Made),
-        Some(2) => Told::Stands(State::Dropped),
-        _ => Told::Again,
+        Some(0) => RequestResult::StateIs(State::Undecided),
+        Some(1) => RequestResult::StateIs(State::Made),
+        Some(2) => RequestResult::StateIs(State::Dropped),
+        _ => RequestResult::Again,
     }
 }
 
@@ -100,41 +100,41 @@ fn text_in<'a>(row: &'a Json, name: &str) -> Option<&'a str>
 
 /// What a look at the plan tells.
 #[tactic(auto, unfolding(crate::specs::Rows::plan_told))]
-pub(crate) fn plan_told(alloc: Global, reply: &[u8]) -> Result<Told, NoMemory>
+pub(crate) fn plan_told(alloc: Global, reply: &[u8]) -> Result<RequestResult, NoMemory>
     ensures { IfOk result (λ told. told ≡ plan_told reply.now) }
 {
     let rows = rows_in(alloc, reply)?;
     match first_row(rows.as_ref()) {
         Some(Some(row)) => Ok(state_told(number_in(row, "state"))),
-        Some(None) => Ok(Told::NoPlan),
+        Some(None) => Ok(RequestResult::NoPlan),
         None => Ok(unread_told(reply)),
     }
 }
 
-fn holder_told(name: &str, holder: Option<&str>) -> Told
+fn holder_told(name: &str, holder: Option<&str>) -> RequestResult
     ensures { result ≡ holder_told name.now (option_map (λ s. s.now) holder.entry) }
 {
     match holder {
         Some(holder) => {
             if same(holder.as_bytes(), name.as_bytes()) {
-                Told::Held
+                RequestResult::Held
             } else {
-                Told::Free
+                RequestResult::Free
             }
         }
-        None => Told::Again,
+        None => RequestResult::Again,
     }
 }
 
 /// What a look at a lock tells the change with this name.
 #[tactic(auto, unfolding(crate::specs::Rows::lock_told))]
-pub(crate) fn lock_told(alloc: Global, name: &str, reply: &[u8]) -> Result<Told, NoMemory>
+pub(crate) fn lock_told(alloc: Global, name: &str, reply: &[u8]) -> Result<RequestResult, NoMemory>
     ensures { IfOk result (λ told. told ≡ lock_told name.now reply.now) }
 {
     let rows = rows_in(alloc, reply)?;
     match first_row(rows.as_ref()) {
         Some(Some(row)) => Ok(holder_told(name, text_in(row, "gid"))),
-        Some(None) => Ok(Told::Free),
+        Some(None) => Ok(RequestResult::Free),
         None => Ok(unread_told(reply)),
     }
 }

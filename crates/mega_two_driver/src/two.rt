@@ -16,7 +16,7 @@ use crate::tables::has_plans;
 use crate::words::{same, transaction_told};
 use mega_base::{Copied, NoMemory, Text};
 use mega_schema::Schema;
-use mega_two_moves::{Ended, Phase, State, Told, by_state, ended_in, moved};
+use mega_two_moves::{Ended, Phase, RequestResult, State, by_state, ended_in, moved};
 use std::alloc::Global;
 
 /// A change of several groups: its requests, and where it is.
@@ -96,7 +96,7 @@ fn asked_in(plan: &Plan, phase: Phase) -> Option<&[u8]>
 }
 
 /// What a reply tells of the present request.
-fn told_in(alloc: Global, name: &str, phase: Phase, reply: &[u8]) -> Result<Told, NoMemory>
+fn told_in(alloc: Global, name: &str, phase: Phase, reply: &[u8]) -> Result<RequestResult, NoMemory>
     ensures { IfOk result (λ told. told ≡ told_in name.now phase reply.now) }
 {
     match phase {
@@ -105,7 +105,7 @@ fn told_in(alloc: Global, name: &str, phase: Phase, reply: &[u8]) -> Result<Told
         }
         Phase::Looks(_) | Phase::Recovers => plan_told(alloc, reply),
         Phase::Checks(_, _) => lock_told(alloc, name, reply),
-        Phase::Over(_) => Ok(Told::Again),
+        Phase::Over(_) => Ok(RequestResult::Again),
     }
 }
 
@@ -177,7 +177,7 @@ impl Two {
     }
 
     /// Goes on by what it is told.
-    fn step(&mut self, told: Told)
+    fn step(&mut self, told: RequestResult)
         ensures { self.new ≡ stepped self.old told }
     {
         self.phase = moved(self.plan.parts.len(), self.phase, told);
@@ -200,12 +200,17 @@ impl Two {
     }
 
     /// Takes a reply that shows the plan of the change that it recovers.
-    fn read_plan(&mut self, alloc: Global, reply: &[u8], told: Told) -> Result<(), NoMemory>
+    fn read_plan(
+        &mut self,
+        alloc: Global,
+        reply: &[u8],
+        told: RequestResult,
+    ) -> Result<(), NoMemory>
         ensures ok { OnOk result (self.new ≡ read_plan self.old reply.now told) }
         ensures err { OnErr result (self.new ≡ self.old) }
     {
         match told {
-            Told::Stands(state) => {
+            RequestResult::StateIs(state) => {
                 let line = plan_line(alloc, reply)?;
                 let plan = plan_if(alloc, &self.schema, line.as_slice())?;
                 self.learn(state, plan);
@@ -240,7 +245,7 @@ impl Two {
         ensures done { result ≡ Ok tt }
         ensures state { self.new ≡ lost self.old }
     {
-        self.step(Told::Lost);
+        self.step(RequestResult::Lost);
         Ok(())
     }
 }

@@ -3,7 +3,7 @@ ghost use Rattle.std.specs.Prelude.{◌≡◌};
 ghost use Rattle.mega_syntax.specs.Names.{same};
 ghost use Rattle.mega_two_driver.specs.Words.{has_word, is_again, is_closed, transaction_told, unread_told};
 
-use mega_two_moves::Told;
+use mega_two_moves::RequestResult;
 
 /// Whether the two texts are the same.
 pub(crate) fn same(text: &[u8], other: &[u8]) -> bool
@@ -42,29 +42,29 @@ fn is_closed(reply: &[u8]) -> bool
 
 /// What the reply to a transaction tells; where it is none of those that are known, none knows.
 #[tactic(auto, unfolding(crate::specs::Words::transaction_told))]
-pub(crate) fn transaction_told(reply: &[u8]) -> Told
+pub(crate) fn transaction_told(reply: &[u8]) -> RequestResult
     ensures { result ≡ transaction_told reply.now }
 {
     if has_word(b"committed", reply) {
-        Told::Done
+        RequestResult::Done
     } else if has_word(b"turned", reply) {
-        Told::Turned
+        RequestResult::Turned
     } else if is_again(reply) {
-        Told::Again
+        RequestResult::Again
     } else if is_closed(reply) || has_word(b"logfull", reply) {
-        Told::Refused
+        RequestResult::Refused
     } else {
-        Told::Lost
+        RequestResult::Lost
     }
 }
 
 /// What a reply to a read that shows no rows tells.
-pub(crate) fn unread_told(reply: &[u8]) -> Told
+pub(crate) fn unread_told(reply: &[u8]) -> RequestResult
     ensures { result ≡ unread_told reply.now }
 {
     if is_closed(reply) {
-        Told::Refused
+        RequestResult::Refused
     } else {
-        Told::Again
+        RequestResult::Again
     }
 }

@@ -2,18 +2,18 @@
 use Rattle.std.proofs.Common.{◌≡◌, ℕ, ◌+◌, ◌<◌, ◌≤◌, Bool, true, false, nat_lt, if◌then◌else◌, List, [], ◌∷◌, drop, length, get_or, Option, Some, None, refl, ap, ◌∙◌, sym, subst, arith, drop_of_length-le}
 use Rattle.std.proofs.lemmas.Bool.Decides.{nat_tests}
 use Rattle.std.proofs.lemmas.List.{drop_more}
-use Rattle.mega_two.specs.Parts.{Part, Rows}
-use Rattle.mega_two.specs.World.{Text, same, Plan, Request, Reply, Event}
-use Rattle.mega_two.specs.World as world
-use Rattle.mega_two.specs.Driver.{Driver, parts_read, next, asks, Reached, goes_on}
-use Rattle.mega_two.specs.Driver as drivers
+use Rattle.mega_two_laws.specs.Parts.{Part, Rows}
+use Rattle.mega_two_laws.specs.World.{Text, same, Plan, Request, Reply, Event}
+use Rattle.mega_two_laws.specs.World as world
+use Rattle.mega_two_laws.specs.Driver.{Driver, parts_read, next, asks, IsReachable, goes_on}
+use Rattle.mega_two_laws.specs.Driver as drivers
 use Rattle.mega_two_driver.specs.of_moves.declared.phase.Ended.{Ended}
 use Rattle.mega_two_driver.specs.of_moves.declared.phase.Ended.TheVariants.{Committed, Aborted, Used, Open}
 use Rattle.mega_two_driver.specs.of_moves.declared.phase.Phase.{Phase}
 use Rattle.mega_two_driver.specs.of_moves.declared.phase.Phase.TheVariants.{Begins, Prepares, Decides, Looks, Finishes, Checks, Recovers, Over}
-use Rattle.mega_two_driver.specs.of_moves.declared.told.State.{State}
-use Rattle.mega_two_driver.specs.of_moves.declared.told.Told.{Told}
-use Rattle.mega_two_driver.specs.of_moves.declared.told.Told.TheVariants.{Done, Turned, Again, Lost, Refused, NoPlan, Stands, Held, Free}
+use Rattle.mega_two_driver.specs.of_moves.declared.request_result.State.{State}
+use Rattle.mega_two_driver.specs.of_moves.declared.request_result.RequestResult.{RequestResult}
+use Rattle.mega_two_driver.specs.of_moves.declared.request_result.RequestResult.TheVariants.{Done, Turned, Again, Lost, Refused, NoPlan, StateIs, Held, Free}
 use Rattle.mega_two_driver.specs.Moves.{preparing, ending_of, finishing, by_state, planned, prepared, decided, looked, finished, checked, moved, is_within}
 use Rattle.mega_two_driver_laws.specs.Joined.{ending_in, phase_in, driver_in, state_in, plan_in, lock_in, told_in}
 
@@ -57,7 +57,7 @@ state_is parts made world.Made = finishing_is parts true 0
 state_is parts made world.Dropped = finishing_is parts false 0
 
 -- whichever of the two the change is told
-either : {A : Type 0} (f : Told → A) (value : A) (held : Bool) → value ≡ f Held → value ≡ f Free → value ≡ f (if held then Held else Free)
+either : {A : Type 0} (f : RequestResult → A) (value : A) (held : Bool) → value ≡ f Held → value ≡ f Free → value ≡ f (if held then Held else Free)
 either f value true one other = one
 either f value false one other = other
 
@@ -189,7 +189,7 @@ pub moves_as_driver : (name : Text) (parts : List Part) (phase : Phase) (reply :
 moves_as_driver name parts phase reply is = ap (driver_with name (Read parts phase reply)) (moves name parts phase reply is)
 
 pub stays_reached : (events : List Event) (name : Text) (parts : List Part) (phase : Phase) (reply : Reply) → is_within (length parts) phase ≡ true
-    → Reached events (driver_in name parts phase) → drivers.Told events (asks (driver_in name parts phase)) reply
-    → Reached events (driver_in name (parts_read parts (phase_in parts phase) reply) (moved (length (parts_read parts (phase_in parts phase) reply)) phase (told_in name reply)))
+    → IsReachable events (driver_in name parts phase) → drivers.MayReply events (asks (driver_in name parts phase)) reply
+    → IsReachable events (driver_in name (parts_read parts (phase_in parts phase) reply) (moved (length (parts_read parts (phase_in parts phase) reply)) phase (told_in name reply)))
 stays_reached events name parts phase reply is there told =
-    subst (λ d. Reached events d) (moves_as_driver name parts phase reply is) (goes_on (driver_in name parts phase) reply there told)
+    subst (λ d. IsReachable events d) (moves_as_driver name parts phase reply is) (goes_on (driver_in name parts phase) reply there told)

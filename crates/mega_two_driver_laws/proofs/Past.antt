@@ -4,10 +4,10 @@ use Rattle.mega_two_driver.specs.of_moves.declared.phase.Ended.{Ended}
 use Rattle.mega_two_driver.specs.of_moves.declared.phase.Ended.TheVariants.{Committed, Aborted, Used, Open}
 use Rattle.mega_two_driver.specs.of_moves.declared.phase.Phase.{Phase}
 use Rattle.mega_two_driver.specs.of_moves.declared.phase.Phase.TheVariants.{Begins, Prepares, Decides, Looks, Finishes, Checks, Recovers, Over}
-use Rattle.mega_two_driver.specs.of_moves.declared.told.State.{State}
-use Rattle.mega_two_driver.specs.of_moves.declared.told.State.TheVariants.{Undecided, Made, Dropped}
-use Rattle.mega_two_driver.specs.of_moves.declared.told.Told.{Told}
-use Rattle.mega_two_driver.specs.of_moves.declared.told.Told.TheVariants.{Done, Turned, Again, Lost, Refused, NoPlan, Stands, Held, Free}
+use Rattle.mega_two_driver.specs.of_moves.declared.request_result.State.{State}
+use Rattle.mega_two_driver.specs.of_moves.declared.request_result.State.TheVariants.{Undecided, Made, Dropped}
+use Rattle.mega_two_driver.specs.of_moves.declared.request_result.RequestResult.{RequestResult}
+use Rattle.mega_two_driver.specs.of_moves.declared.request_result.RequestResult.TheVariants.{Done, Turned, Again, Lost, Refused, NoPlan, StateIs, Held, Free}
 use Rattle.mega_two_driver.specs.Moves.{preparing, ending_of, finishing, by_state, planned, prepared, decided, looked, finished, checked, moved}
 use Rattle.mega_two_driver_laws.specs.Runs.{run, gives_up, was}
 
@@ -36,51 +36,51 @@ stands count Undecided = refl
 stands count Made = finishes count true 0
 stands count Dropped = finishes count false 0
 
-decides : (count : ℕ) (told : Told) → is_past (decided count false told) ≡ true
+decides : (count : ℕ) (told : RequestResult) → is_past (decided count false told) ≡ true
 decides count Done = finishes count false 0
 decides count Turned = refl
 decides count Again = refl
 decides count Lost = refl
 decides count Refused = refl
 decides count NoPlan = refl
-decides count (Stands state) = refl
+decides count (StateIs state) = refl
 decides count Held = refl
 decides count Free = refl
 
-looks : (count : ℕ) (told : Told) → is_past (looked count false (Looks false) told) ≡ true
+looks : (count : ℕ) (told : RequestResult) → is_past (looked count false (Looks false) told) ≡ true
 looks count Done = refl
 looks count Turned = refl
 looks count Again = refl
 looks count Lost = refl
 looks count Refused = refl
 looks count NoPlan = refl
-looks count (Stands state) = stands count state
+looks count (StateIs state) = stands count state
 looks count Held = refl
 looks count Free = refl
 
-finished_past : (count : ℕ) (made : Bool) (i : ℕ) (told : Told) → is_past (finished count made i told) ≡ true
+finished_past : (count : ℕ) (made : Bool) (i : ℕ) (told : RequestResult) → is_past (finished count made i told) ≡ true
 finished_past count made i Done = finishes count made (i + 1)
 finished_past count made i Turned = refl
 finished_past count made i Again = refl
 finished_past count made i Lost = refl
 finished_past count made i Refused = refl
 finished_past count made i NoPlan = refl
-finished_past count made i (Stands state) = refl
+finished_past count made i (StateIs state) = refl
 finished_past count made i Held = refl
 finished_past count made i Free = refl
 
-checked_past : (count : ℕ) (made : Bool) (i : ℕ) (told : Told) → is_past (checked count made i told) ≡ true
+checked_past : (count : ℕ) (made : Bool) (i : ℕ) (told : RequestResult) → is_past (checked count made i told) ≡ true
 checked_past count made i Done = refl
 checked_past count made i Turned = refl
 checked_past count made i Again = refl
 checked_past count made i Lost = refl
 checked_past count made i Refused = refl
 checked_past count made i NoPlan = refl
-checked_past count made i (Stands state) = refl
+checked_past count made i (StateIs state) = refl
 checked_past count made i Held = refl
 checked_past count made i Free = finishes count made (i + 1)
 
-stays_past : (count : ℕ) (phase : Phase) (told : Told) → is_past phase ≡ true → is_past (moved count phase told) ≡ true
+stays_past : (count : ℕ) (phase : Phase) (told : RequestResult) → is_past phase ≡ true → is_past (moved count phase told) ≡ true
 stays_past count Begins told is = absurd (cc)
 stays_past count (Prepares i) told is = absurd (cc)
 stays_past count (Decides true) told is = absurd (cc)
@@ -92,18 +92,18 @@ stays_past count (Checks made i) told is = checked_past count made i told
 stays_past count Recovers told is = absurd (cc)
 stays_past count (Over ending) told is = refl
 
-unprepared : (count i : ℕ) (told : Told) → gives_up (Prepares i) told ≡ true → is_past (prepared count i told) ≡ true
+unprepared : (count i : ℕ) (told : RequestResult) → gives_up (Prepares i) told ≡ true → is_past (prepared count i told) ≡ true
 unprepared count i Done is = absurd (cc)
 unprepared count i Turned is = refl
 unprepared count i Again is = absurd (cc)
 unprepared count i Lost is = refl
 unprepared count i Refused is = absurd (cc)
 unprepared count i NoPlan is = absurd (cc)
-unprepared count i (Stands state) is = absurd (cc)
+unprepared count i (StateIs state) is = absurd (cc)
 unprepared count i Held is = absurd (cc)
 unprepared count i Free is = absurd (cc)
 
-up : (count : ℕ) (phase : Phase) (told : Told) → gives_up phase told ≡ true → is_past (moved count phase told) ≡ true
+up : (count : ℕ) (phase : Phase) (told : RequestResult) → gives_up phase told ≡ true → is_past (moved count phase told) ≡ true
 up count Begins told is = absurd (cc)
 up count (Prepares i) told is = unprepared count i told is
 up count (Decides made) told is = absurd (cc)
@@ -113,7 +113,7 @@ up count (Checks made i) told is = absurd (cc)
 up count Recovers told is = absurd (cc)
 up count (Over ending) told is = absurd (cc)
 
-pasts : (count : ℕ) (from : Phase) (told : List Told) → was gives_up count from told ≡ true → is_past (run count from told) ≡ true
+pasts : (count : ℕ) (from : Phase) (told : List RequestResult) → was gives_up count from told ≡ true → is_past (run count from told) ≡ true
 pasts count from [] is = absurd (cc)
 pasts count from (told ∷ before) is = by (gives_up (run count from before) told) refl is (λ held. pasts count from before held)
   where
@@ -122,5 +122,5 @@ pasts count from (told ∷ before) is = by (gives_up (run count from before) tol
     by true gives held more = up count (run count from before) told gives
     by false gives held more = stays_past count (run count from before) told (more held)
 
-pub never_committed : (count : ℕ) (told : List Told) → was gives_up count Begins told ≡ true → run count Begins told ≡ Decides true → ⊥
+pub never_committed : (count : ℕ) (told : List RequestResult) → was gives_up count Begins told ≡ true → run count Begins told ≡ Decides true → ⊥
 never_committed count told is at = let past = pasts count Begins told is in let no : is_past (run count Begins told) ≡ false = ap is_past at in cc

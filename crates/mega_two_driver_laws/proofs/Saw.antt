@@ -6,10 +6,10 @@ use Rattle.mega_two_driver.specs.of_moves.declared.phase.Ended.{Ended}
 use Rattle.mega_two_driver.specs.of_moves.declared.phase.Ended.TheVariants.{Committed, Aborted, Used, Open}
 use Rattle.mega_two_driver.specs.of_moves.declared.phase.Phase.{Phase}
 use Rattle.mega_two_driver.specs.of_moves.declared.phase.Phase.TheVariants.{Begins, Prepares, Decides, Looks, Finishes, Checks, Recovers, Over}
-use Rattle.mega_two_driver.specs.of_moves.declared.told.State.{State}
-use Rattle.mega_two_driver.specs.of_moves.declared.told.State.TheVariants.{Undecided, Made, Dropped}
-use Rattle.mega_two_driver.specs.of_moves.declared.told.Told.{Told}
-use Rattle.mega_two_driver.specs.of_moves.declared.told.Told.TheVariants.{Done, Turned, Again, Lost, Refused, NoPlan, Stands, Held, Free}
+use Rattle.mega_two_driver.specs.of_moves.declared.request_result.State.{State}
+use Rattle.mega_two_driver.specs.of_moves.declared.request_result.State.TheVariants.{Undecided, Made, Dropped}
+use Rattle.mega_two_driver.specs.of_moves.declared.request_result.RequestResult.{RequestResult}
+use Rattle.mega_two_driver.specs.of_moves.declared.request_result.RequestResult.TheVariants.{Done, Turned, Again, Lost, Refused, NoPlan, StateIs, Held, Free}
 use Rattle.mega_two_driver.specs.Moves.{preparing, ending_of, finishing, by_state, planned, prepared, decided, looked, finished, checked, moved}
 use Rattle.mega_two_driver_laws.specs.Runs.{run, is_done, is_free, is_made, stands_made, shows_made, closes, was}
 
@@ -79,7 +79,7 @@ still closed shows i all part before = or_right (shows part) (closed part) (all 
 
 -- ---- one reply more, at each place
 
-abbrev Next : ℕ → Bool → (ℕ → Bool) → Phase → Told → Phase → Type 0
+abbrev Next : ℕ → Bool → (ℕ → Bool) → Phase → RequestResult → Phase → Type 0
 Next count made closed phase told after = Saw count (shows_made phase told || made) (λ part. closes part phase told || closed part) after
 
 stands : (count : ℕ) (made truth : Bool) (closed : ℕ → Bool) (state : State) → Saw count (is_made state || made) closed (by_state count truth state)
@@ -87,113 +87,113 @@ stands count made truth closed Undecided = tt
 stands count made truth closed Made = finishing_true count true closed 0 refl (none_before closed)
 stands count made truth closed Dropped = finishing_false count (false || made) closed 0
 
-plans : (count : ℕ) (made : Bool) (closed : ℕ → Bool) (told : Told) → Next count made closed Begins told (planned count told)
+plans : (count : ℕ) (made : Bool) (closed : ℕ → Bool) (told : RequestResult) → Next count made closed Begins told (planned count told)
 plans count made closed Done = prepares count (false || made) (λ part. false || closed part) 0
 plans count made closed Turned = tt
 plans count made closed Again = tt
 plans count made closed Lost = tt
 plans count made closed Refused = tt
 plans count made closed NoPlan = tt
-plans count made closed (Stands state) = tt
+plans count made closed (StateIs state) = tt
 plans count made closed Held = tt
 plans count made closed Free = tt
 
-prepared_saw : (count : ℕ) (made : Bool) (closed : ℕ → Bool) (i : ℕ) (told : Told) → Next count made closed (Prepares i) told (prepared count i told)
+prepared_saw : (count : ℕ) (made : Bool) (closed : ℕ → Bool) (i : ℕ) (told : RequestResult) → Next count made closed (Prepares i) told (prepared count i told)
 prepared_saw count made closed i Done = prepares count (false || made) (λ part. false || closed part) (i + 1)
 prepared_saw count made closed i Turned = tt
 prepared_saw count made closed i Again = tt
 prepared_saw count made closed i Lost = tt
 prepared_saw count made closed i Refused = tt
 prepared_saw count made closed i NoPlan = tt
-prepared_saw count made closed i (Stands state) = tt
+prepared_saw count made closed i (StateIs state) = tt
 prepared_saw count made closed i Held = tt
 prepared_saw count made closed i Free = tt
 
-commits : (count : ℕ) (made : Bool) (closed : ℕ → Bool) (told : Told) → Next count made closed (Decides true) told (decided count true told)
+commits : (count : ℕ) (made : Bool) (closed : ℕ → Bool) (told : RequestResult) → Next count made closed (Decides true) told (decided count true told)
 commits count made closed Done = finishing_true count (true || made) (λ part. false || closed part) 0 refl (none_before (λ part. false || closed part))
 commits count made closed Turned = tt
 commits count made closed Again = tt
 commits count made closed Lost = tt
 commits count made closed Refused = tt
 commits count made closed NoPlan = tt
-commits count made closed (Stands state) = tt
+commits count made closed (StateIs state) = tt
 commits count made closed Held = tt
 commits count made closed Free = tt
 
-aborts : (count : ℕ) (made : Bool) (closed : ℕ → Bool) (told : Told) → Next count made closed (Decides false) told (decided count false told)
+aborts : (count : ℕ) (made : Bool) (closed : ℕ → Bool) (told : RequestResult) → Next count made closed (Decides false) told (decided count false told)
 aborts count made closed Done = finishing_false count (false || made) (λ part. false || closed part) 0
 aborts count made closed Turned = tt
 aborts count made closed Again = tt
 aborts count made closed Lost = tt
 aborts count made closed Refused = tt
 aborts count made closed NoPlan = tt
-aborts count made closed (Stands state) = tt
+aborts count made closed (StateIs state) = tt
 aborts count made closed Held = tt
 aborts count made closed Free = tt
 
-looks : (count : ℕ) (made : Bool) (closed : ℕ → Bool) (truth : Bool) (told : Told) → Next count made closed (Looks truth) told (looked count truth (Looks truth) told)
+looks : (count : ℕ) (made : Bool) (closed : ℕ → Bool) (truth : Bool) (told : RequestResult) → Next count made closed (Looks truth) told (looked count truth (Looks truth) told)
 looks count made closed truth Done = tt
 looks count made closed truth Turned = tt
 looks count made closed truth Again = tt
 looks count made closed truth Lost = tt
 looks count made closed truth Refused = tt
 looks count made closed truth NoPlan = tt
-looks count made closed truth (Stands state) = stands count made truth (λ part. false || closed part) state
+looks count made closed truth (StateIs state) = stands count made truth (λ part. false || closed part) state
 looks count made closed truth Held = tt
 looks count made closed truth Free = tt
 
-recovers : (count : ℕ) (made : Bool) (closed : ℕ → Bool) (told : Told) → Next count made closed Recovers told (looked count false Recovers told)
+recovers : (count : ℕ) (made : Bool) (closed : ℕ → Bool) (told : RequestResult) → Next count made closed Recovers told (looked count false Recovers told)
 recovers count made closed Done = tt
 recovers count made closed Turned = tt
 recovers count made closed Again = tt
 recovers count made closed Lost = tt
 recovers count made closed Refused = tt
 recovers count made closed NoPlan = tt
-recovers count made closed (Stands state) = stands count made false (λ part. false || closed part) state
+recovers count made closed (StateIs state) = stands count made false (λ part. false || closed part) state
 recovers count made closed Held = tt
 recovers count made closed Free = tt
 
-finished_true : (count : ℕ) (made : Bool) (closed : ℕ → Bool) (i : ℕ) (told : Told) → Saw count made closed (Finishes true i) → Next count made closed (Finishes true i) told (finished count true i told)
+finished_true : (count : ℕ) (made : Bool) (closed : ℕ → Bool) (i : ℕ) (told : RequestResult) → Saw count made closed (Finishes true i) → Next count made closed (Finishes true i) told (finished count true i told)
 finished_true count made closed i Done all = finishing_true count (false || made) (λ part. ((i == part) && true) || closed part) (i + 1) all.0 (one_more closed i all.1)
 finished_true count made closed i Turned all = (all.0, still closed (λ part. (i == part) && false) i all.1)
 finished_true count made closed i Again all = (all.0, still closed (λ part. (i == part) && false) i all.1)
 finished_true count made closed i Lost all = (all.0, still closed (λ part. (i == part) && false) i all.1)
 finished_true count made closed i Refused all = tt
 finished_true count made closed i NoPlan all = (all.0, still closed (λ part. (i == part) && false) i all.1)
-finished_true count made closed i (Stands state) all = (all.0, still closed (λ part. (i == part) && false) i all.1)
+finished_true count made closed i (StateIs state) all = (all.0, still closed (λ part. (i == part) && false) i all.1)
 finished_true count made closed i Held all = (all.0, still closed (λ part. (i == part) && false) i all.1)
 finished_true count made closed i Free all = (all.0, still closed (λ part. (i == part) && false) i all.1)
 
-finished_false : (count : ℕ) (made : Bool) (closed : ℕ → Bool) (i : ℕ) (told : Told) → Next count made closed (Finishes false i) told (finished count false i told)
+finished_false : (count : ℕ) (made : Bool) (closed : ℕ → Bool) (i : ℕ) (told : RequestResult) → Next count made closed (Finishes false i) told (finished count false i told)
 finished_false count made closed i Done = finishing_false count (false || made) (λ part. ((i == part) && true) || closed part) (i + 1)
 finished_false count made closed i Turned = tt
 finished_false count made closed i Again = tt
 finished_false count made closed i Lost = tt
 finished_false count made closed i Refused = tt
 finished_false count made closed i NoPlan = tt
-finished_false count made closed i (Stands state) = tt
+finished_false count made closed i (StateIs state) = tt
 finished_false count made closed i Held = tt
 finished_false count made closed i Free = tt
 
-checked_true : (count : ℕ) (made : Bool) (closed : ℕ → Bool) (i : ℕ) (told : Told) → Saw count made closed (Checks true i) → Next count made closed (Checks true i) told (checked count true i told)
+checked_true : (count : ℕ) (made : Bool) (closed : ℕ → Bool) (i : ℕ) (told : RequestResult) → Saw count made closed (Checks true i) → Next count made closed (Checks true i) told (checked count true i told)
 checked_true count made closed i Done all = (all.0, still closed (λ part. (i == part) && false) i all.1)
 checked_true count made closed i Turned all = (all.0, still closed (λ part. (i == part) && false) i all.1)
 checked_true count made closed i Again all = (all.0, still closed (λ part. (i == part) && false) i all.1)
 checked_true count made closed i Lost all = (all.0, still closed (λ part. (i == part) && false) i all.1)
 checked_true count made closed i Refused all = tt
 checked_true count made closed i NoPlan all = (all.0, still closed (λ part. (i == part) && false) i all.1)
-checked_true count made closed i (Stands state) all = (all.0, still closed (λ part. (i == part) && false) i all.1)
+checked_true count made closed i (StateIs state) all = (all.0, still closed (λ part. (i == part) && false) i all.1)
 checked_true count made closed i Held all = (all.0, still closed (λ part. (i == part) && false) i all.1)
 checked_true count made closed i Free all = finishing_true count (false || made) (λ part. ((i == part) && true) || closed part) (i + 1) all.0 (one_more closed i all.1)
 
-checked_false : (count : ℕ) (made : Bool) (closed : ℕ → Bool) (i : ℕ) (told : Told) → Next count made closed (Checks false i) told (checked count false i told)
+checked_false : (count : ℕ) (made : Bool) (closed : ℕ → Bool) (i : ℕ) (told : RequestResult) → Next count made closed (Checks false i) told (checked count false i told)
 checked_false count made closed i Done = tt
 checked_false count made closed i Turned = tt
 checked_false count made closed i Again = tt
 checked_false count made closed i Lost = tt
 checked_false count made closed i Refused = tt
 checked_false count made closed i NoPlan = tt
-checked_false count made closed i (Stands state) = tt
+checked_false count made closed i (StateIs state) = tt
 checked_false count made closed i Held = tt
 checked_false count made closed i Free = finishing_false count (false || made) (λ part. ((i == part) && true) || closed part) (i + 1)
 
@@ -203,7 +203,7 @@ stays_over count made closed Aborted saw = tt
 stays_over count made closed Used saw = tt
 stays_over count made closed Open saw = tt
 
-step : (count : ℕ) (made : Bool) (closed : ℕ → Bool) (phase : Phase) (told : Told) → Saw count made closed phase → Next count made closed phase told (moved count phase told)
+step : (count : ℕ) (made : Bool) (closed : ℕ → Bool) (phase : Phase) (told : RequestResult) → Saw count made closed phase → Next count made closed phase told (moved count phase told)
 step count made closed Begins told saw = plans count made closed told
 step count made closed (Prepares i) told saw = prepared_saw count made closed i told
 step count made closed (Decides true) told saw = commits count made closed told
@@ -216,19 +216,19 @@ step count made closed (Checks false i) told saw = checked_false count made clos
 step count made closed Recovers told saw = recovers count made closed told
 step count made closed (Over ending) told saw = stays_over count made closed ending saw
 
-saw_all : (count : ℕ) (from : Phase) → Saw count false (λ part. false) from → (told : List Told) → Saw count (was shows_made count from told) (λ part. was (closes part) count from told) (run count from told)
+saw_all : (count : ℕ) (from : Phase) → Saw count false (λ part. false) from → (told : List RequestResult) → Saw count (was shows_made count from told) (λ part. was (closes part) count from told) (run count from told)
 saw_all count from first [] = first
 saw_all count from first (told ∷ before) =
     step count (was shows_made count from before) (λ part. was (closes part) count from before) (run count from before) told (saw_all count from first before)
 
-abbrev pub Seen : ℕ → Phase → List Told → Type 0
+abbrev pub Seen : ℕ → Phase → List RequestResult → Type 0
 Seen count from told = (was shows_made count from told ≡ true) × ((part : ℕ) → nat_lt part count ≡ true → was (closes part) count from told ≡ true)
 
-seen_by : (count : ℕ) (from : Phase) → Saw count false (λ part. false) from → (told : List Told) → run count from told ≡ Over Committed → Seen count from told
+seen_by : (count : ℕ) (from : Phase) → Saw count false (λ part. false) from → (told : List RequestResult) → run count from told ≡ Over Committed → Seen count from told
 seen_by count from first told at = subst (λ phase. Saw count (was shows_made count from told) (λ part. was (closes part) count from told) phase) at (saw_all count from first told)
 
-pub begun_seen : (count : ℕ) (told : List Told) → run count Begins told ≡ Over Committed → Seen count Begins told
+pub begun_seen : (count : ℕ) (told : List RequestResult) → run count Begins told ≡ Over Committed → Seen count Begins told
 begun_seen count told at = seen_by count Begins tt told at
 
-pub recovered_seen : (count : ℕ) (told : List Told) → run count Recovers told ≡ Over Committed → Seen count Recovers told
+pub recovered_seen : (count : ℕ) (told : List RequestResult) → run count Recovers told ≡ Over Committed → Seen count Recovers told
 recovered_seen count told at = seen_by count Recovers tt told at

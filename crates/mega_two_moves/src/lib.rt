@@ -4,9 +4,9 @@
 mod finish;
 mod moves;
 mod phase;
-mod told;
+mod request_result;
 
 pub use finish::finish_of;
 pub use moves::{by_state, ended_in, moved};
 pub use phase::{Ended, Phase};
-pub use told::{State, Told};
+pub use request_result::{RequestResult, State};

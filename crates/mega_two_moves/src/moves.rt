@@ -3,7 +3,7 @@ ghost use Rattle.std.specs.Prelude.{◌≡◌, ◌+◌};
 ghost use Rattle.mega_two_moves.specs.Moves.{by_state, checked, decided, ended_in, ending_of, finished, finishing, looked, moved, planned, prepared, preparing};
 
 use crate::phase::{Ended, Phase};
-use crate::told::{State, Told};
+use crate::request_result::{RequestResult, State};
 
 /// The parts from this one on are prepared, and then the change is made.
 fn preparing(count: usize, part: usize) -> Phase
@@ -72,74 +72,74 @@ pub fn by_state(count: usize, made: bool, state: State) -> Phase
     }
 }
 
-fn planned(count: usize, told: Told) -> Phase
+fn planned(count: usize, told: RequestResult) -> Phase
     ensures { result ≡ planned count told }
 {
     match told {
-        Told::Done => preparing(count, 0),
-        Told::Turned => Phase::Over(Ended::Used),
-        Told::Lost | Told::Refused => Phase::Over(Ended::Open),
+        RequestResult::Done => preparing(count, 0),
+        RequestResult::Turned => Phase::Over(Ended::Used),
+        RequestResult::Lost | RequestResult::Refused => Phase::Over(Ended::Open),
         _ => Phase::Begins,
     }
 }
 
 /// Only where each prepare was done is the change made.
-fn prepared(count: usize, part: usize, told: Told) -> Phase
+fn prepared(count: usize, part: usize, told: RequestResult) -> Phase
     ensures { result ≡ prepared count part told }
 {
     match told {
-        Told::Done => preparing_behind(count, part),
-        Told::Turned | Told::Lost => Phase::Decides(false),
-        Told::Refused => Phase::Over(Ended::Open),
+        RequestResult::Done => preparing_behind(count, part),
+        RequestResult::Turned | RequestResult::Lost => Phase::Decides(false),
+        RequestResult::Refused => Phase::Over(Ended::Open),
         _ => Phase::Prepares(part),
     }
 }
 
-fn decided(count: usize, made: bool, told: Told) -> Phase
+fn decided(count: usize, made: bool, told: RequestResult) -> Phase
     ensures { result ≡ decided count made told }
 {
     match told {
-        Told::Done => finishing(count, made, 0),
-        Told::Turned | Told::Lost => Phase::Looks(made),
-        Told::Refused => Phase::Over(Ended::Open),
+        RequestResult::Done => finishing(count, made, 0),
+        RequestResult::Turned | RequestResult::Lost => Phase::Looks(made),
+        RequestResult::Refused => Phase::Over(Ended::Open),
         _ => Phase::Decides(made),
     }
 }
 
-fn looked(count: usize, made: bool, same: Phase, told: Told) -> Phase
+fn looked(count: usize, made: bool, same: Phase, told: RequestResult) -> Phase
     ensures { result ≡ looked count made same told }
 {
     match told {
-        Told::Stands(state) => by_state(count, made, state),
-        Told::NoPlan | Told::Refused => Phase::Over(Ended::Open),
+        RequestResult::StateIs(state) => by_state(count, made, state),
+        RequestResult::NoPlan | RequestResult::Refused => Phase::Over(Ended::Open),
         _ => same,
     }
 }
 
-fn finished(count: usize, made: bool, part: usize, told: Told) -> Phase
+fn finished(count: usize, made: bool, part: usize, told: RequestResult) -> Phase
     ensures { result ≡ finished count made part told }
 {
     match told {
-        Told::Done => finishing_behind(count, made, part),
-        Told::Turned | Told::Lost => Phase::Checks(made, part),
-        Told::Refused => Phase::Over(Ended::Open),
+        RequestResult::Done => finishing_behind(count, made, part),
+        RequestResult::Turned | RequestResult::Lost => Phase::Checks(made, part),
+        RequestResult::Refused => Phase::Over(Ended::Open),
         _ => Phase::Finishes(made, part),
     }
 }
 
-fn checked(count: usize, made: bool, part: usize, told: Told) -> Phase
+fn checked(count: usize, made: bool, part: usize, told: RequestResult) -> Phase
     ensures { result ≡ checked count made part told }
 {
     match told {
-        Told::Free => finishing_behind(count, made, part),
-        Told::Held => Phase::Finishes(made, part),
-        Told::Refused => Phase::Over(Ended::Open),
+        RequestResult::Free => finishing_behind(count, made, part),
+        RequestResult::Held => Phase::Finishes(made, part),
+        RequestResult::Refused => Phase::Over(Ended::Open),
         _ => Phase::Checks(made, part),
     }
 }
 
 /// Where a change of so many parts is, once it is told this of its present request.
-pub fn moved(count: usize, phase: Phase, told: Told) -> Phase
+pub fn moved(count: usize, phase: Phase, told: RequestResult) -> Phase
     ensures { result ≡ moved count phase told }
 {
     match phase {

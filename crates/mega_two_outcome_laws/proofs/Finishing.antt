@@ -23,9 +23,9 @@ use Rattle.mega_outcome.specs.Checks.{may_be_in, has_values}
 use Rattle.mega_outcome.specs.Changes.{all_changes}
 use Rattle.mega_outcome.specs.Outcome.{entry_length}
 use Rattle.mega_schedule.specs.Values.{properties_of, property_number}
-use Rattle.mega_two.specs.Parts.{Part}
-use Rattle.mega_two.specs.World.{same, at, World, with_done, with_rows, Request, Finishing, Turned, rows_behind, finished_with, finished, run}
-use Rattle.mega_two.proofs.Names.{same_is, not_same, at_self}
+use Rattle.mega_two_laws.specs.Parts.{Part}
+use Rattle.mega_two_laws.specs.World.{same, at, World, with_done, with_rows, Request, Finishing, Turned, rows_behind, finished_with, finished, run}
+use Rattle.mega_two_laws.proofs.Names.{same_is, not_same, at_self}
 use Rattle.mega_two_driver.specs.Fits.{writes_of as writes_told}
 use Rattle.mega_two_outcome_laws.specs.Places.{locks, ends, plan_group, plan_place, lock_place, end_place}
 use Rattle.mega_two_outcome_laws.specs.Changes.{rows_after, part_by}

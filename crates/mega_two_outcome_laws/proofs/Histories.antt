@@ -2,12 +2,12 @@
 use Rattle.std.proofs.Common.{◌≡◌, Bool, List, [], ◌∷◌, refl, sym, ap, ◌∙◌, subst, Option, Some}
 use Rattle.mega_schema.specs.declared.schema.Schema.{Schema}
 use Rattle.mega_outcome.specs.declared.transaction.Transaction.{Transaction}
-use Rattle.mega_two.specs.Parts.{Part}
-use Rattle.mega_two.specs.World.{Text, Plan, World, with_rows, Request, Planning, Preparing, Deciding, Finishing, LookingAtPlan, LookingAtLock, run, Event, world}
-use Rattle.mega_two.specs.Driver.{Phase, Begins, Prepares, Decides, Looks, Finishes, Checks, Recovers, Ended, Reached, asked, IsHistory}
-use Rattle.mega_two.specs.Atomic.{IsAtomic}
-use Rattle.mega_two.proofs.History.{fit_of}
-use Rattle.mega_two.proofs.Whole.{facts_of, changes_atomic}
+use Rattle.mega_two_laws.specs.Parts.{Part}
+use Rattle.mega_two_laws.specs.World.{Text, Plan, World, with_rows, Request, Planning, Preparing, Deciding, Finishing, LookingAtPlan, LookingAtLock, run, Event, world}
+use Rattle.mega_two_laws.specs.Driver.{Phase, Begins, Prepares, Decides, Looks, Finishes, Checks, Recovers, Ended, IsReachable, asked, IsHistory}
+use Rattle.mega_two_laws.specs.Atomic.{IsAtomic}
+use Rattle.mega_two_laws.proofs.History.{fit_of}
+use Rattle.mega_two_laws.proofs.Whole.{facts_of, changes_atomic}
 use Rattle.mega_two_outcome_laws.specs.Shown.{Stores, shown}
 use Rattle.mega_two_outcome_laws.specs.Runs.{behind, IsStep}
 use Rattle.mega_two_outcome_laws.specs.Histories.{Happening, Ran, Seen, Wrote, stores_of, events_of, IsRequest, IsLook, AreHappenings}
@@ -26,7 +26,7 @@ history_of s (Wrote group rows ∷ before) ok = history_of s before ok.1
 other_parts : (p q : Plan) → ◌≡◌ {A = Option Plan} (Some p) (Some q) → p.parts ≡ q.parts
 other_parts p q e = cc
 
-pub decider_knows : (events : List Event) → IsHistory events → (name : Text) (parts : List Part) (phase : Phase) → Reached events (record { name = name; parts = parts; phase = phase })
+pub decider_knows : (events : List Event) → IsHistory events → (name : Text) (parts : List Part) (phase : Phase) → IsReachable events (record { name = name; parts = parts; phase = phase })
     → (asked_name : Text) (made : Bool) → asked name parts phase ≡ Some (Deciding asked_name made) → (plan : Plan) → (world events).plans asked_name ≡ Some plan → plan.parts ≡ parts
 decider_knows events history name parts Begins there n made e plan stands = absurd (cc)
 decider_knows events history name parts (Prepares []) there n made e plan stands = absurd (cc)

@@ -3,8 +3,8 @@ use Rattle.std.proofs.Common.{◌≡◌, ℕ, cond, Bool, true, false, List, [],
 use Rattle.mega_entry.specs.declared.content.Write.{Write}
 use Rattle.mega_index.specs.Rows.{Rows, same_key, changed, written}
 use Rattle.mega_index.proofs.Turning.{same_key-Decides}
-use Rattle.mega_two.specs.World.{Text, same, at, World}
-use Rattle.mega_two.proofs.Names.{same_is, same_self}
+use Rattle.mega_two_laws.specs.World.{Text, same, at, World}
+use Rattle.mega_two_laws.proofs.Names.{same_is, same_self}
 use Rattle.mega_two_outcome_laws.specs.Shown.{Stores}
 use Rattle.mega_two_outcome_laws.specs.Runs.{stores_with}
 

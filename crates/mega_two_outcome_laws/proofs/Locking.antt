@@ -17,9 +17,9 @@ use Rattle.mega_outcome.specs.declared.transaction.Check.TheVariants.{Gone}
 use Rattle.mega_outcome.specs.declared.transaction.Change.TheVariants.{Put}
 use Rattle.mega_outcome.specs.declared.transaction.Transaction.{Transaction}
 use Rattle.mega_outcome.specs.Outcome.{entry_length}
-use Rattle.mega_two.specs.Parts.{Part}
-use Rattle.mega_two.specs.World.{same, at, World, with_lock, with_rows, Preparing, is_free, prepared}
-use Rattle.mega_two.proofs.Names.{same_is, not_same}
+use Rattle.mega_two_laws.specs.Parts.{Part}
+use Rattle.mega_two_laws.specs.World.{same, at, World, with_lock, with_rows, Preparing, is_free, prepared}
+use Rattle.mega_two_laws.proofs.Names.{same_is, not_same}
 use Rattle.mega_two_driver.specs.Tables.{is_local_over}
 use Rattle.mega_two_driver.specs.Texts.{lock_table, end_table}
 use Rattle.mega_two_driver.specs.Fits.{write_of}

@@ -18,7 +18,7 @@ use Rattle.mega_schedule.specs.Parts.{check_check, write_check}
 use Rattle.mega_schedule.specs.Values.{list_in}
 use Rattle.mega_schedule.specs.Rows.{each_in}
 use Rattle.mega_schedule.specs.Events.{object_of, only_object}
-use Rattle.mega_two.specs.Parts.{Part}
+use Rattle.mega_two_laws.specs.Parts.{Part}
 use Rattle.mega_two_driver.specs.declared.plan.PartRequests.{PartRequests}
 use Rattle.mega_two_driver.specs.Lines.{name_check, part_fields, part_check, line_check}
 use Rattle.mega_two_driver.specs.Texts.{part_requests, parts_requests}

@@ -4,8 +4,8 @@ use Rattle.std.specs.Prelude.{slice_get}
 use Rattle.serde_json.specs.Data.{Items, no_items, item}
 use Rattle.mega_schema.specs.declared.schema.Schema.{Schema}
 use Rattle.mega_schedule.specs.Rows.{each_in}
-use Rattle.mega_two.specs.Parts.{Part}
-use Rattle.mega_two.specs.World.{Request, Preparing, Finishing}
+use Rattle.mega_two_laws.specs.Parts.{Part}
+use Rattle.mega_two_laws.specs.World.{Request, Preparing, Finishing}
 use Rattle.mega_two_driver.specs.Lines.{is_name}
 use Rattle.mega_two_driver.specs.declared.plan.PartRequests.{PartRequests}
 use Rattle.mega_two_driver.specs.declared.plan.Plan.{Plan as Requests}

@@ -2,7 +2,7 @@
 use Rattle.std.proofs.Common.{◌≡◌, ℕ, Bool, true, false, List, refl, sym, subst, Some, Ok}
 use Rattle.hex.specs.Hex.{IsBytes}
 use Rattle.mega_schema.specs.declared.schema.Schema.{Schema}
-use Rattle.mega_two.specs.World.{Plan, Planning, Deciding}
+use Rattle.mega_two_laws.specs.World.{Plan, Planning, Deciding}
 use Rattle.mega_two_driver.specs.declared.plan.Plan.{Plan as Requests}
 use Rattle.mega_two_driver.specs.Texts.{planning_text, deciding_text, plan_with}
 use Rattle.mega_two_driver.specs.Fits.{transaction_of}

@@ -38,7 +38,7 @@ use Rattle.mega_outcome.specs.Checks.{may_have, may_be, may_be_in}
 use Rattle.mega_keys.specs.Fit.{has_kind}
 use Rattle.mega_syntax.specs.declared.need.Need.{Need}
 use Rattle.mega_syntax.specs.declared.need.Need.TheVariants.{Required, Optional, Repeated}
-use Rattle.mega_two.specs.World.{State, Undecided, state_of}
+use Rattle.mega_two_laws.specs.World.{State, Undecided, state_of}
 use Rattle.mega_schedule.specs.Values.{property_number, properties_of, primary_of, first_kind, value_of, bytes_of, values_at, group_of}
 use Rattle.mega_schedule.specs.Rows.{cells_in}
 use Rattle.mega_two_driver.specs.Texts.{quoted, transaction_text, plan_group as plan_group_text, plan_put, no_plan_check, undecided_check, planning_text, deciding_text, state_digit}

@@ -24,9 +24,9 @@ use Rattle.mega_outcome.specs.declared.transaction.Transaction.{Transaction}
 use Rattle.mega_outcome.specs.Checks.{may_be_in, has_values}
 use Rattle.mega_outcome.specs.Outcome.{entry_length}
 use Rattle.mega_schedule.specs.Values.{properties_of, property_number}
-use Rattle.mega_two.specs.Parts.{Part}
-use Rattle.mega_two.specs.World.{same, at, Undecided, Made, Dropped, state_of, Plan, new_plan, decided_as, is_undecided, World, with_plan, with_rows, Planning, Deciding, planned, decided, decided_if, run}
-use Rattle.mega_two.proofs.Names.{same_is, same_self}
+use Rattle.mega_two_laws.specs.Parts.{Part}
+use Rattle.mega_two_laws.specs.World.{same, at, Undecided, Made, Dropped, state_of, Plan, new_plan, decided_as, is_undecided, World, with_plan, with_rows, Planning, Deciding, planned, decided, decided_if, run}
+use Rattle.mega_two_laws.proofs.Names.{same_is, same_self}
 use Rattle.mega_two_driver.specs.Tables.{is_local_over}
 use Rattle.mega_two_driver.specs.Texts.{lock_table, end_table}
 use Rattle.mega_two_driver.specs.Fits.{write_of, with_write, writes_of as writes_told}

@@ -14,7 +14,7 @@ use Rattle.mega_outcome.specs.declared.transaction.Change.{Change}
 use Rattle.mega_outcome.specs.declared.transaction.Change.TheVariants.{Put, Delete}
 use Rattle.mega_outcome.specs.declared.transaction.Transaction.{Transaction}
 use Rattle.mega_outcome.specs.Outcome.{entry_length}
-use Rattle.mega_two.specs.World.{State, Undecided, state_of, Plan, Planning, Preparing, Deciding, Finishing}
+use Rattle.mega_two_laws.specs.World.{State, Undecided, state_of, Plan, Planning, Preparing, Deciding, Finishing}
 use Rattle.mega_two_driver.specs.Tables.{may_write}
 use Rattle.mega_two_driver.specs.Lines.{is_name}
 use Rattle.mega_two_driver.specs.Fits.{table_of, write_of, write_under, with_write, writes_of as writes_told, transaction_fits}

@@ -3,7 +3,7 @@ use Rattle.std.proofs.Common.{◌≡◌, ℕ, List, refl, sym, ap, ◌∙◌, su
 use Rattle.mega_entry.specs.declared.content.Write.{Write}
 use Rattle.mega_schema.specs.declared.schema.Schema.{Schema}
 use Rattle.mega_outcome.specs.declared.transaction.Transaction.{Transaction}
-use Rattle.mega_two.specs.World.{Text, same, World, with_rows, Request, Reply, Done, Turned, run}
+use Rattle.mega_two_laws.specs.World.{Text, same, World, with_rows, Request, Reply, Done, Turned, run}
 use Rattle.mega_two_outcome_laws.specs.Places.{plan_place, lock_place, end_place}
 use Rattle.mega_two_outcome_laws.specs.Shown.{Stores, shown}
 use Rattle.mega_two_outcome_laws.specs.Runs.{stores_with, told, writes_of, IsStep}

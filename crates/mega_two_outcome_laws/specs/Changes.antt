@@ -14,7 +14,7 @@ use Rattle.mega_outcome.specs.Checks.{all_checks}
 use Rattle.mega_outcome.specs.Changes.{all_changes}
 use Rattle.mega_schedule.specs.Events.{object_of}
 use Rattle.mega_schedule.specs.Rows.{each_in}
-use Rattle.mega_two.specs.Parts.{Part, Rows}
+use Rattle.mega_two_laws.specs.Parts.{Part, Rows}
 use Rattle.mega_two_driver.specs.Fits.{own_of}
 use Rattle.mega_two_driver.specs.Begins.{parts_in}
 

@@ -9,7 +9,7 @@ use Rattle.mega_schema.specs.declared.schema.Table.{Table}
 use Rattle.mega_schema.specs.declared.schema.Schema.{Schema}
 use Rattle.mega_outcome.specs.declared.transaction.Transaction.{Transaction}
 use Rattle.mega_schedule.specs.Events.{object_of}
-use Rattle.mega_two.specs.World.{Reply}
+use Rattle.mega_two_laws.specs.World.{Reply}
 use Rattle.mega_two_driver.specs.declared.plan.PartRequests.{PartRequests}
 use Rattle.mega_two_driver.specs.declared.plan.Plan.{Plan}
 use Rattle.mega_two_driver.specs.Texts.{plan_named}

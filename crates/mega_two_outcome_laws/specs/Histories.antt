@@ -2,9 +2,9 @@
 use Rattle.std.specs.Prelude.{◌≡◌, ℕ, true, List, [], ◌∷◌, Some, None}
 use Rattle.mega_schema.specs.declared.schema.Schema.{Schema}
 use Rattle.mega_outcome.specs.declared.transaction.Transaction.{Transaction}
-use Rattle.mega_two.specs.Parts.{Part, Rows}
-use Rattle.mega_two.specs.World.{Text, at, with_rows, Request, Planning, Preparing, Deciding, Finishing, LookingAtPlan, LookingAtLock, Event, Runs, Writes}
-use Rattle.mega_two.specs.Driver.{Driver, Reached, asks}
+use Rattle.mega_two_laws.specs.Parts.{Part, Rows}
+use Rattle.mega_two_laws.specs.World.{Text, at, with_rows, Request, Planning, Preparing, Deciding, Finishing, LookingAtPlan, LookingAtLock, Event, Runs, Writes}
+use Rattle.mega_two_laws.specs.Driver.{Driver, IsReachable, asks}
 use Rattle.mega_two_driver.specs.Lines.{is_name}
 use Rattle.mega_two_outcome_laws.specs.Changes.{part_by, parts_of}
 use Rattle.mega_two_outcome_laws.specs.Shown.{Stores, shown}
@@ -60,6 +60,6 @@ LeavesChanges s stores group rows = shown s (at group rows stores) ≡ with_rows
 abbrev pub AreHappenings : Schema → List Happening → Type 0
 AreHappenings s [] = Unit {0}
 AreHappenings s (Ran request txn ∷ before) =
-    ((d : Driver) × Reached (events_of s before) d × (asks d ≡ Some request) × IsRequest s d.parts request txn) × AreHappenings s before
-AreHappenings s (Seen request ∷ before) = ((d : Driver) × Reached (events_of s before) d × (asks d ≡ Some request) × IsLook request) × AreHappenings s before
+    ((d : Driver) × IsReachable (events_of s before) d × (asks d ≡ Some request) × IsRequest s d.parts request txn) × AreHappenings s before
+AreHappenings s (Seen request ∷ before) = ((d : Driver) × IsReachable (events_of s before) d × (asks d ≡ Some request) × IsLook request) × AreHappenings s before
 AreHappenings s (Wrote group rows ∷ before) = LeavesChanges s (stores_of s before) group rows × AreHappenings s before

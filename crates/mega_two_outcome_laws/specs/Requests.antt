@@ -17,7 +17,7 @@ use Rattle.mega_outcome.specs.declared.transaction.Transaction.{Transaction}
 use Rattle.mega_outcome.specs.Places.{key_in}
 use Rattle.mega_outcome.specs.Checks.{may_be_in}
 use Rattle.mega_schedule.specs.Values.{properties_of, property_number}
-use Rattle.mega_two.specs.World.{State, Undecided, state_of}
+use Rattle.mega_two_laws.specs.World.{State, Undecided, state_of}
 use Rattle.mega_two_driver.specs.Tables.{is_local_over, may_write}
 use Rattle.mega_two_driver.specs.Fits.{table_of, write_of, transaction_fits}
 use Rattle.mega_two_outcome_laws.specs.Places.{plans, locks, ends, plan_group, plan_place, lock_place, end_place}

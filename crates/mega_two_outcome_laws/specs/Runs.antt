@@ -7,7 +7,7 @@ use Rattle.mega_outcome.specs.declared.answer.Turn.{Turn}
 use Rattle.mega_outcome.specs.declared.answer.Done.{Done}
 use Rattle.mega_outcome.specs.declared.transaction.Transaction.{Transaction}
 use Rattle.mega_outcome.specs.Outcome.{outcome}
-use Rattle.mega_two.specs.World.{Text, at, Request, Reply, Done as IsDone, Turned, with_rows, run}
+use Rattle.mega_two_laws.specs.World.{Text, at, Request, Reply, Done as IsDone, Turned, with_rows, run}
 use Rattle.mega_two_outcome_laws.specs.Places.{plan_place, lock_place, end_place}
 use Rattle.mega_two_outcome_laws.specs.Shown.{Stores, shown}
 

@@ -8,8 +8,8 @@ use Rattle.mega_index.specs.Cells.{values_of}
 use Rattle.mega_entry.specs.Same.{same_values}
 use Rattle.mega_index.specs.Fits.{numbered}
 use Rattle.mega_schedule.specs.Values.{properties_of, property_number}
-use Rattle.mega_two.specs.Parts.{Rows}
-use Rattle.mega_two.specs.World.{State, Undecided, Made, Dropped, Plan, World}
+use Rattle.mega_two_laws.specs.Parts.{Rows}
+use Rattle.mega_two_laws.specs.World.{State, Undecided, Made, Dropped, Plan, World}
 use Rattle.mega_two_outcome_laws.specs.Places.{plans, locks, ends, plan_group, plan_place, lock_place, end_place}
 use Rattle.mega_two_outcome_laws.specs.Changes.{parts_of}
 

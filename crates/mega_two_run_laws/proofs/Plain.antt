@@ -2,10 +2,10 @@
 use Rattle.std.proofs.Common.{◌≡◌, ℕ, ◌+◌, Bool, true, false, nat_lt, if◌then◌else◌, refl}
 use Rattle.mega_two_driver.specs.of_moves.declared.phase.Phase.{Phase}
 use Rattle.mega_two_driver.specs.of_moves.declared.phase.Phase.TheVariants.{Begins, Prepares, Decides, Looks, Finishes, Checks, Recovers, Over}
-use Rattle.mega_two_driver.specs.of_moves.declared.told.State.{State}
-use Rattle.mega_two_driver.specs.of_moves.declared.told.State.TheVariants.{Undecided, Made, Dropped}
-use Rattle.mega_two_driver.specs.of_moves.declared.told.Told.{Told}
-use Rattle.mega_two_driver.specs.of_moves.declared.told.Told.TheVariants.{Done, Turned, Again, Lost, Refused, NoPlan, Stands, Held, Free}
+use Rattle.mega_two_driver.specs.of_moves.declared.request_result.State.{State}
+use Rattle.mega_two_driver.specs.of_moves.declared.request_result.State.TheVariants.{Undecided, Made, Dropped}
+use Rattle.mega_two_driver.specs.of_moves.declared.request_result.RequestResult.{RequestResult}
+use Rattle.mega_two_driver.specs.of_moves.declared.request_result.RequestResult.TheVariants.{Done, Turned, Again, Lost, Refused, NoPlan, StateIs, Held, Free}
 use Rattle.mega_two_driver.specs.Moves.{preparing, ending_of, finishing, by_state, planned, prepared, decided, looked, finished, checked, moved}
 use Rattle.mega_two_driver.specs.Driver.{is_recovering}
 
@@ -28,73 +28,73 @@ stands count made Undecided = refl
 stands count made Made = finishes count true 0
 stands count made Dropped = finishes count false 0
 
-plans : (count : ℕ) (told : Told) → is_recovering (planned count told) ≡ false
+plans : (count : ℕ) (told : RequestResult) → is_recovering (planned count told) ≡ false
 plans count Done = prepares count 0
 plans count Turned = refl
 plans count Again = refl
 plans count Lost = refl
 plans count Refused = refl
 plans count NoPlan = refl
-plans count (Stands state) = refl
+plans count (StateIs state) = refl
 plans count Held = refl
 plans count Free = refl
 
-prepared_within : (count i : ℕ) (told : Told) → is_recovering (prepared count i told) ≡ false
+prepared_within : (count i : ℕ) (told : RequestResult) → is_recovering (prepared count i told) ≡ false
 prepared_within count i Done = prepares count (i + 1)
 prepared_within count i Turned = refl
 prepared_within count i Again = refl
 prepared_within count i Lost = refl
 prepared_within count i Refused = refl
 prepared_within count i NoPlan = refl
-prepared_within count i (Stands state) = refl
+prepared_within count i (StateIs state) = refl
 prepared_within count i Held = refl
 prepared_within count i Free = refl
 
-decides : (count : ℕ) (made : Bool) (told : Told) → is_recovering (decided count made told) ≡ false
+decides : (count : ℕ) (made : Bool) (told : RequestResult) → is_recovering (decided count made told) ≡ false
 decides count made Done = finishes count made 0
 decides count made Turned = refl
 decides count made Again = refl
 decides count made Lost = refl
 decides count made Refused = refl
 decides count made NoPlan = refl
-decides count made (Stands state) = refl
+decides count made (StateIs state) = refl
 decides count made Held = refl
 decides count made Free = refl
 
-looks : (count : ℕ) (made : Bool) (same : Phase) (told : Told) → is_recovering same ≡ false → is_recovering (looked count made same told) ≡ false
+looks : (count : ℕ) (made : Bool) (same : Phase) (told : RequestResult) → is_recovering same ≡ false → is_recovering (looked count made same told) ≡ false
 looks count made same Done is = is
 looks count made same Turned is = is
 looks count made same Again is = is
 looks count made same Lost is = is
 looks count made same Refused is = refl
 looks count made same NoPlan is = refl
-looks count made same (Stands state) is = stands count made state
+looks count made same (StateIs state) is = stands count made state
 looks count made same Held is = is
 looks count made same Free is = is
 
-finished_within : (count : ℕ) (made : Bool) (i : ℕ) (told : Told) → is_recovering (finished count made i told) ≡ false
+finished_within : (count : ℕ) (made : Bool) (i : ℕ) (told : RequestResult) → is_recovering (finished count made i told) ≡ false
 finished_within count made i Done = finishes count made (i + 1)
 finished_within count made i Turned = refl
 finished_within count made i Again = refl
 finished_within count made i Lost = refl
 finished_within count made i Refused = refl
 finished_within count made i NoPlan = refl
-finished_within count made i (Stands state) = refl
+finished_within count made i (StateIs state) = refl
 finished_within count made i Held = refl
 finished_within count made i Free = refl
 
-checked_within : (count : ℕ) (made : Bool) (i : ℕ) (told : Told) → is_recovering (checked count made i told) ≡ false
+checked_within : (count : ℕ) (made : Bool) (i : ℕ) (told : RequestResult) → is_recovering (checked count made i told) ≡ false
 checked_within count made i Done = refl
 checked_within count made i Turned = refl
 checked_within count made i Again = refl
 checked_within count made i Lost = refl
 checked_within count made i Refused = refl
 checked_within count made i NoPlan = refl
-checked_within count made i (Stands state) = refl
+checked_within count made i (StateIs state) = refl
 checked_within count made i Held = refl
 checked_within count made i Free = finishes count made (i + 1)
 
-pub stays_plain : (count : ℕ) (phase : Phase) (told : Told) → is_recovering phase ≡ false → is_recovering (moved count phase told) ≡ false
+pub stays_plain : (count : ℕ) (phase : Phase) (told : RequestResult) → is_recovering phase ≡ false → is_recovering (moved count phase told) ≡ false
 stays_plain count Begins told is = plans count told
 stays_plain count (Prepares i) told is = prepared_within count i told
 stays_plain count (Decides made) told is = decides count made told

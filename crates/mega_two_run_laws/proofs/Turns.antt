@@ -6,8 +6,8 @@ use Rattle.mega_two_driver.specs.of_moves.declared.phase.Ended.TheVariants.{Comm
 use Rattle.mega_two_driver.specs.of_moves.declared.phase.Phase.{Phase}
 use Rattle.mega_two_driver.specs.of_moves.declared.phase.Phase.TheVariants.{Begins, Prepares, Decides, Looks, Finishes, Checks, Recovers, Over}
 use Rattle.mega_two_driver.specs.declared.plan.Plan.{Plan}
-use Rattle.mega_two_driver.specs.of_moves.declared.told.Told.{Told}
-use Rattle.mega_two_driver.specs.of_moves.declared.told.Told.TheVariants.{Lost}
+use Rattle.mega_two_driver.specs.of_moves.declared.request_result.RequestResult.{RequestResult}
+use Rattle.mega_two_driver.specs.of_moves.declared.request_result.RequestResult.TheVariants.{Lost}
 use Rattle.mega_two_driver.specs.declared.two.Two.{Two}
 use Rattle.mega_two_driver.specs.Moves.{ended_in, moved}
 use Rattle.mega_two_driver.specs.Rows.{plan_told}
@@ -15,16 +15,16 @@ use Rattle.mega_two_driver.specs.Driver.{is_recovering, lost, read_plan, stepped
 use Rattle.mega_two_driver_laws.specs.Runs.{run}
 use Rattle.mega_two_turns.specs.Messages.{reply_in}
 use Rattle.mega_two_turns.specs.Turns.{answered, driven, driving, heard, is_due, put_out, start, proceeds_out}
-use Rattle.mega_two_run_laws.specs.Tolds.{answers, lost_in, told_by, tolds}
+use Rattle.mega_two_run_laws.specs.TurnResults.{answers, lost_in, told_by, tolds}
 use Rattle.mega_two_run_laws.proofs.Plain.{stays_plain}
 
 -- a change has the plan with which it began, and is where what it was told leads
-pub record Stays (two now : Two) (told : List Told) : Type 0 where
+pub record Stays (two now : Two) (told : List RequestResult) : Type 0 where
   pub plan : now.plan ≡ two.plan
   pub phase : now.phase ≡ run (length two.plan.parts) Begins told
   pub plain : is_recovering now.phase ≡ false
 
-tells : (two now : Two) (told : Told) (before : List Told) → Stays two now before → Stays two (stepped now told) (told ∷ before)
+tells : (two now : Two) (told : RequestResult) (before : List RequestResult) → Stays two now before → Stays two (stepped now told) (told ∷ before)
 tells two now told before is = record {
   plan = is.plan;
   phase = ap (λ (plan : Plan). moved (length plan.parts) now.phase told) is.plan ∙ ap (λ (phase : Phase). moved (length two.plan.parts) phase told) is.phase;
@@ -39,7 +39,7 @@ pub loses : (now : Two) → lost now ≡ stepped now Lost
 unfolding lost
 loses now = refl
 
-goes_out : (patience now : ℕ) (two at : Two) (token : ℕ) (since : Option ℕ) (before : List Told) → Stays two at before → Stays two (put_out patience now at token since).two (lost_in patience now since ++ before)
+goes_out : (patience now : ℕ) (two at : Two) (token : ℕ) (since : Option ℕ) (before : List RequestResult) → Stays two at before → Stays two (put_out patience now at token since).two (lost_in patience now since ++ before)
 goes_out patience now two at token None before is = is
 goes_out patience now two at token (Some since) before is = by (is_due patience since now)
   where
@@ -47,7 +47,7 @@ goes_out patience now two at token (Some since) before is = by (is_due patience 
     by true = subst (λ (one : Two). Stays two one (Lost ∷ before)) (sym (loses at)) (tells two at Lost before is)
     by false = is
 
-comes_in : (node : ℕ) (two at : Two) (token : ℕ) (since : Option ℕ) (got : Option Datagram) (before : List Told) → Stays two at before → Stays two (heard node at token since got).two (answers node at token since got ++ before)
+comes_in : (node : ℕ) (two at : Two) (token : ℕ) (since : Option ℕ) (got : Option Datagram) (before : List RequestResult) → Stays two at before → Stays two (heard node at token since got).two (answers node at token since got ++ before)
 comes_in node two at token None got before is = is
 comes_in node two at token (Some since) got before is = by (reply_in node token got)
   where

@@ -1,1 +1,1 @@
-pub mod Tolds
+pub mod TurnResults

@@ -7,7 +7,7 @@ ghost use Rattle.mega_two_driver.specs.of_moves.declared.phase.Phase.TheVariants
 ghost use Rattle.mega_two_driver.specs.declared.two.Two.{Two};
 ghost use Rattle.mega_two_driver_laws.specs.Runs.{closes, run, shows_made, was};
 ghost use Rattle.mega_two_turns.specs.Turns.{driven, ending, start};
-ghost use Rattle.mega_two_run_laws.specs.Tolds.{tolds};
+ghost use Rattle.mega_two_run_laws.specs.TurnResults.{tolds};
 
 /// Where a change is after its turns follows from what it was told in them.
 pub fn changes_go_by_what_they_are_told()

@@ -5,8 +5,8 @@ ghost use Rattle.mega_wire.specs.Messages.{message_at, message_text};
 ghost use Rattle.mega_two_turns.specs.Messages.{reply_from, reply_of, reply_read, request_of, request_text, text_under};
 
 use mega_base::{Bytes, Copied, FieldFault, NoMemory};
-use mega_formed::is_message;
 use mega_link::Peer;
+use mega_well_formed::is_message;
 use mega_wire::{Body, Message, decode, encode};
 use std::alloc::Global;
 

@@ -5,8 +5,8 @@ use Rattle.std.proofs.lemmas.Bool.Decides.{nat_tests}
 use Rattle.mega_io.specs.declared.lines.Ended.{Ended}
 use Rattle.mega_io.specs.declared.lines.Ended.TheVariants.{Feed, Input, Long}
 use Rattle.mega_io.specs.TextLines.{ReadsLine, close_line, lines_of}
-use Rattle.mega_heading.specs.Known.{Told}
-use Rattle.mega_heading.proofs.Inputs.{line_follows, lines_on, long_line}
+use Rattle.mega_header.specs.Known.{IfKnown}
+use Rattle.mega_header.proofs.Inputs.{line_follows, lines_on, long_line}
 use Rattle.mega_schema.specs.declared.schema.Schema.{Schema}
 use Rattle.mega_schedule.specs.Events.{object_of}
 use Rattle.mega_two_driver.specs.Begins.{plan_of, plan_of_object}
@@ -17,7 +17,7 @@ first_close : (line : List ℕ) → first_of (close_line line) ≡ line
 first_close [] = refl
 first_close (byte ∷ line) = refl
 
-pub line_read : (old new : Option (List ℕ)) (line : List ℕ) (ended : Ended) → ReadsLine 16384 old new line ended → Told old (λ left. IsLine line (first_of (lines_of left)))
+pub line_read : (old new : Option (List ℕ)) (line : List ℕ) (ended : Ended) → ReadsLine 16384 old new line ended → IfKnown old (λ left. IsLine line (first_of (lines_of left)))
 line_read None new line ended reads = tt
 line_read (Some old) None line Feed reads = absurd reads.0
 line_read (Some old) None line Input reads = absurd reads.0

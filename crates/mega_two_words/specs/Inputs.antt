@@ -3,7 +3,7 @@ use Rattle.std.specs.Prelude.{◌≡◌, ◌⊎◌, ℕ, ◌<◌, ◌==◌, if�
 use Rattle.mega_io.specs.TextLines.{lines_of}
 use Rattle.mega_cluster.specs.declared.cluster.Cluster.{Cluster}
 use Rattle.mega_schema.specs.declared.schema.Schema.{Schema}
-use Rattle.mega_heading.specs.Parts.{cluster_in, lines_behind}
+use Rattle.mega_header.specs.Parts.{cluster_in, lines_behind}
 use Rattle.mega_two_driver.specs.declared.two.Two.{Two}
 use Rattle.mega_two_driver.specs.Driver.{begun, recovered}
 use Rattle.mega_two_words.specs.declared.last.Last.{Last}

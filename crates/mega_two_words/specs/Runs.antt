@@ -1,6 +1,6 @@
 -- How a run of the word `two` ends, by its start and its turns.
 use Rattle.std.specs.Prelude.{◌≡◌, ℕ, List, Option, Result, Ok, Err}
-use Rattle.mega_heading.specs.Known.{Told}
+use Rattle.mega_header.specs.Known.{IfKnown}
 use Rattle.mega_link.specs.Datagrams.{Datagram}
 use Rattle.mega_two_turns.specs.declared.driving.Driving.{Driving}
 use Rattle.mega_two_turns.specs.Turns.{Drives, IsWhole, ending, start as started}
@@ -25,7 +25,7 @@ EndsBy node turns (Err first) read more_read taken more_taken sent more_sent las
 -- this is how the run ended, by its input
 pub record IsRun (node turns : ℕ) (name : Option (List ℕ)) (known : Option (List ℕ)) (read more_read : Option (List ℕ)) (taken more_taken : Option (List (Option Datagram))) (sent more_sent : Option (List Datagram)) (last : Last) : Type 0 where
   pub first : Result Start Last
-  pub starts_so : Told known (λ input. first ≡ starts node name input)
+  pub starts_so : IfKnown known (λ input. first ≡ starts node name input)
   pub ends_so : EndsBy node turns first read more_read taken more_taken sent more_sent last
 
 -- and this is said of it

@@ -4,7 +4,7 @@ ghost use Rattle.std.specs.Option.{option_copied};
 ghost use Rattle.std.specs.Io.KnownBytes.{prepend_known};
 ghost use Rattle.mega_base.specs.Causes.{Rose};
 ghost use Rattle.mega_io.specs.TextLines.{lines_of};
-ghost use Rattle.mega_heading.specs.Known.{Told};
+ghost use Rattle.mega_header.specs.Known.{IfKnown};
 ghost use Rattle.mega_two_driver.specs.Answers.{GivesOrReason};
 ghost use Rattle.mega_two_driver.specs.declared.two.Two.{Two as Change};
 ghost use Rattle.mega_two_driver.specs.Driver.{begun, recovered};
@@ -15,7 +15,7 @@ use crate::last::Last;
 use crate::stop::Stop;
 use mega_base::{Bytes, NoMemory, Text};
 use mega_cluster::Cluster;
-use mega_heading::{Heading, HeadingFault, read_heading};
+use mega_header::{Heading, HeadingFault, read_heading};
 use mega_io::{LineError, LineReader, Source};
 use mega_schema::Schema;
 use mega_two_driver::{Two, TwoFault};
@@ -60,7 +60,7 @@ fn read_line<I: Source>(
     input: &mut I,
     line: &mut Bytes,
 ) -> Result<(), Stop>
-    ensures read { OnOk result (Told (prepend_known reader.old (I.left input.old)) (λ left. IsLine line.new (first_of (lines_of left)))) }
+    ensures read { OnOk result (IfKnown (prepend_known reader.old (I.left input.old)) (λ left. IsLine line.new (first_of (lines_of left)))) }
     ensures source { result ≡ Err Stop.Source → Rose (I.faults input.old) (I.faults input.new) }
     ensures only { IfErr result IsReadStop }
     ensures count { I.faults input.old ≤ I.faults input.new }
@@ -80,7 +80,7 @@ fn begin_behind<I: Source>(
     reader: &mut LineReader,
     input: &mut I,
 ) -> Result<Result<Two, Last>, Stop>
-    ensures marked { marked ≡ true → IfOk result (λ first. Told (prepend_known reader.old (I.left input.old)) (λ left. first ≡ told_behind schema.now (Some (lines_of left)))) }
+    ensures marked { marked ≡ true → IfOk result (λ first. IfKnown (prepend_known reader.old (I.left input.old)) (λ left. first ≡ told_behind schema.now (Some (lines_of left)))) }
     ensures unmarked { marked ≡ false → IfOk result (λ first. first ≡ told_behind schema.now None) }
     ensures source { result ≡ Err Stop.Source → Rose (I.faults input.old) (I.faults input.new) }
     ensures only { IfErr result IsReadStop }
@@ -104,7 +104,7 @@ fn told_behind<I: Source>(
     reader: &mut LineReader,
     input: &mut I,
 ) -> Result<Result<Two, Last>, Stop>
-    ensures marked { marked ≡ true → IfOk result (λ first. Told (prepend_known reader.old (I.left input.old)) (λ left. first ≡ told_by schema.now (option_copied name.entry) (Some (lines_of left)))) }
+    ensures marked { marked ≡ true → IfOk result (λ first. IfKnown (prepend_known reader.old (I.left input.old)) (λ left. first ≡ told_by schema.now (option_copied name.entry) (Some (lines_of left)))) }
     ensures unmarked { marked ≡ false → IfOk result (λ first. first ≡ told_by schema.now (option_copied name.entry) None) }
     ensures source { result ≡ Err Stop.Source → Rose (I.faults input.old) (I.faults input.new) }
     ensures only { IfErr result IsReadStop }
@@ -125,7 +125,7 @@ fn told_in<I: Source>(
     reader: &mut LineReader,
     input: &mut I,
 ) -> Result<Result<Two, Last>, Stop>
-    ensures marked { marked ≡ true → IfOk result (λ first. Told (prepend_known reader.old (I.left input.old)) (λ left. first ≡ told_in cluster.now (option_copied name.entry) (Some (lines_of left)))) }
+    ensures marked { marked ≡ true → IfOk result (λ first. IfKnown (prepend_known reader.old (I.left input.old)) (λ left. first ≡ told_in cluster.now (option_copied name.entry) (Some (lines_of left)))) }
     ensures unmarked { marked ≡ false → IfOk result (λ first. first ≡ told_in cluster.now (option_copied name.entry) None) }
     ensures source { result ≡ Err Stop.Source → Rose (I.faults input.old) (I.faults input.new) }
     ensures only { IfErr result IsReadStop }
@@ -145,7 +145,7 @@ fn start_behind<I: Source>(
     reader: &mut LineReader,
     input: &mut I,
 ) -> Result<Result<Start, Last>, Stop>
-    ensures marked { heading.marked ≡ true → IfOk result (λ first. Told (prepend_known reader.old (I.left input.old)) (λ left. first ≡ with_cluster heading.cluster (told_in heading.cluster (option_copied name.entry) (Some (lines_of left))))) }
+    ensures marked { heading.marked ≡ true → IfOk result (λ first. IfKnown (prepend_known reader.old (I.left input.old)) (λ left. first ≡ with_cluster heading.cluster (told_in heading.cluster (option_copied name.entry) (Some (lines_of left))))) }
     ensures unmarked { heading.marked ≡ false → IfOk result (λ first. first ≡ with_cluster heading.cluster (told_in heading.cluster (option_copied name.entry) None)) }
     ensures source { result ≡ Err Stop.Source → Rose (I.faults input.old) (I.faults input.new) }
     ensures only { IfErr result IsReadStop }
@@ -190,7 +190,7 @@ pub(crate) fn find_start<I: Source>(
     name: Option<&Text>,
     input: &mut I,
 ) -> Result<Result<Start, Last>, Stop>
-    ensures started { IfOk result (λ first. Told (I.left input.old) (λ input. first ≡ starts number (option_copied name.entry) input)) }
+    ensures started { IfOk result (λ first. IfKnown (I.left input.old) (λ input. first ≡ starts number (option_copied name.entry) input)) }
     ensures source { result ≡ Err Stop.Source → Rose (I.faults input.old) (I.faults input.new) }
     ensures only { IfErr result IsReadStop }
     ensures count { I.faults input.old ≤ I.faults input.new }

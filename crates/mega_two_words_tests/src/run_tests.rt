@@ -2,10 +2,10 @@
 
 use crate::samples;
 use mega_base::{Bytes, NodeId, Text};
-use mega_formed::is_message;
 use mega_io::{MemSink, MemSource};
 use mega_link::{MemClock, MemLink, Peer};
 use mega_two_words::run_two;
+use mega_well_formed::is_message;
 use mega_wire::{Body, Message, encode};
 use std::alloc::Global;
 use std::process::Abort;

@@ -11,7 +11,7 @@ use Rattle.mega_coordinator.specs.declared.answers.NotValid.TheVariants.{Beaten,
 use Rattle.mega_coordinator.specs.declared.lease.Lease.{Lease}
 use Rattle.mega_coordinator.specs.Groups.{is_group, is_same, refusal}
 use Rattle.mega_coordinator.specs.Lease.{after_grant, counts, epoch_of, granted_answer, is_majority, is_present, left, next_lease, past_ends, state_of, tick_ends, until_with}
-use Rattle.mega_coordinator.specs.History.{Call, Ticks as Told, Grants as Grant, Passes, Invalidates as Invalid, beaten, is_valid, lease_of, refused, serving, ticked}
+use Rattle.mega_coordinator.specs.History.{Call, Ticks as CoordinatorTicks, Grants as Grant, Passes, Invalidates as Invalid, beaten, is_valid, lease_of, refused, serving, ticked}
 use Rattle.mega_coordinator.proofs.Validity.{validated_above}
 use Rattle.mega_wal.specs.Same.{same_group}
 use Rattle.mega_wal.proofs.Orders.{is_group_is}
@@ -163,7 +163,7 @@ module _ (start cells : ℕ) (calls : List Call) (served : Option Epoch) (valid 
 
   -- ---- a tick
 
-  pub tick_agrees : (now : ℕ) → Agrees start cells (Told now ∷ calls) (after_serving (lost_note (ticked start cells calls now).lost) served) (λ group. after_valid group (lost_note (ticked start cells calls now).lost) (valid group))
+  pub tick_agrees : (now : ℕ) → Agrees start cells (CoordinatorTicks now ∷ calls) (after_serving (lost_note (ticked start cells calls now).lost) served) (λ group. after_valid group (lost_note (ticked start cells calls now).lost) (valid group))
   tick_agrees now = record { serves = serves_by (tick_ends cells lease now); groups = groups_by (tick_ends cells lease now) }
     where
       lease : Lease

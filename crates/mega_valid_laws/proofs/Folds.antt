@@ -43,7 +43,7 @@ IsOwnNote (Begins op text) = Unit {0}
 IsOwnNote _ = ⊥
 
 -- something that a tape tells of a node, and what each note makes of it
-pub record Told (X : Type 0) (on : List Item → ℕ → X) (next : Met → X → X) : Type 0 where
+pub record TapeFold (X : Type 0) (on : List Item → ℕ → X) (next : Met → X → X) : Type 0 where
   pub unsafe : (tape : List Item) (v : ℕ) → on (Unsafe ∷ tape) v ≡ on tape v
   pub sends : (k : ℕ) (m : Message) (tape : List Item) (v : ℕ) → on (Sent k m ∷ tape) v ≡ on tape v
   pub one : (c : Cluster) (nodes : ℕ → Node) (me v : ℕ) (note : Met) (tape : List Item) → on (with_items c nodes tape (shown me note)) v ≡ cond (me == v) (next note (on tape v)) (on tape v)
@@ -95,7 +95,7 @@ serving_note (Ticks now) is x = refl
 serving_note (Begins op text) is x = refl
 serving_note _ is x = absurd is
 
-pub tells_serving : Told (Option Epoch) serving_on next_serving
+pub tells_serving : TapeFold (Option Epoch) serving_on next_serving
 tells_serving = record { unsafe = λ tape v. refl; sends = λ k m tape v. refl; one = serving_one; sent_met = λ m x. refl; own = serving_own; own_note = serving_note }
 
 valid_told : (group : GroupId) (v : ℕ) (c : Cluster) (nodes : ℕ → Node) (tape : List Item) (item : Item) → valid_on (with_item c nodes tape item) v group ≡ valid_on (item ∷ tape) v group
@@ -136,12 +136,12 @@ valid_note group (Ticks now) is x = refl
 valid_note group (Begins op text) is x = refl
 valid_note group _ is x = absurd is
 
-pub tells_valid : (group : GroupId) → Told Bool (λ tape v. valid_on tape v group) (next_valid group)
+pub tells_valid : (group : GroupId) → TapeFold Bool (λ tape v. valid_on tape v group) (next_valid group)
 tells_valid group = record { unsafe = λ tape v. refl; sends = λ k m tape v. refl; one = valid_one group; sent_met = λ m x. refl; own = valid_own group; own_note = valid_note group }
 
 -- ---- lists of notes
 
-module _ {X : Type 0} (on : List Item → ℕ → X) (next : Met → X → X) (told : Told X on next) where
+module _ {X : Type 0} (on : List Item → ℕ → X) (next : Met → X → X) (told : TapeFold X on next) where
   abbrev pub after : List Met → X → X
   after [] x = x
   after (one ∷ more) x = after more (next one x)

@@ -7,7 +7,7 @@ use Rattle.mega_coordinator.specs.History.{lease_of}
 use Rattle.mega_coordinator.specs.declared.answers.Counted.{Counted}
 use Rattle.mega_coordinator.specs.declared.answers.Counted.TheVariants.{No, Yes, Serving}
 use Rattle.mega_locks.specs.declared.asked.Asked.{Asked}
-use Rattle.mega_locks.specs.declared.asked.Asked.TheVariants.{Granted as AnswerGranted, Renewed, Taken as AnswerTaken, Over}
+use Rattle.mega_locks.specs.declared.asked.Asked.TheVariants.{Granted as AnswerGranted, Renewed, GreaterHeld, Over}
 use Rattle.mega_wire.specs.declared.message.Body.{Body}
 use Rattle.mega_wire.specs.declared.message.Body.TheVariants.{Acquire, Granted, Invalidate}
 use Rattle.mega_settled_laws.specs.of_tape_laws.of_promises.of_rules.Met.{Met, Starts, Ticks, Takes, Validates, Invalidates}
@@ -50,7 +50,7 @@ no_call_if false xs h = tt
 pub grant_no_call : (node : ℕ) (epoch : Epoch) (a : Asked) → Each IsNoCall (grant_note node epoch a)
 grant_no_call node epoch AnswerGranted = (tt, tt)
 grant_no_call node epoch Renewed = tt
-grant_no_call node epoch (AnswerTaken greatest) = tt
+grant_no_call node epoch (GreaterHeld greatest) = tt
 grant_no_call node epoch (Over greatest) = tt
 
 counts_no_call : (cell : ℕ) (epoch : Epoch) (was : Bool) (a : Counted) → Each IsNoCall (counts_notes cell epoch was a)

@@ -24,13 +24,13 @@ use Rattle.mega_settled_laws.proofs.of_run_laws.Runs.{IsMark, Keeps, run_keeps}
 use Rattle.mega_settled_laws.proofs.of_run_laws.Whole.{take_by}
 use Rattle.mega_valid_laws.specs.Leases.{serving_on, valid_on}
 use Rattle.mega_valid_laws.specs.Showing.{next_serving, next_valid, serving_met, valid_met}
-use Rattle.mega_valid_laws.proofs.Folds.{IsOwn, IsOwnNote, Told, after, notes_told, sends_after, sends_told, tells_serving, tells_valid}
+use Rattle.mega_valid_laws.proofs.Folds.{IsOwn, IsOwnNote, TapeFold, after, notes_told, sends_after, sends_told, tells_serving, tells_valid}
 use Rattle.mega_valid_laws.proofs.Walked.{AgreesAt, IsNeutral, agrees_same, neutral_all, step_agrees}
 
 -- ---- what a tape tells and what was met
 
 -- what was met is what each note makes of what was met before
-module _ {X : Type 0} (on : List Item → ℕ → X) (next : Met → X → X) (told : Told X on next) (met_of : List Met → X) (each : (one : Met) (met : List Met) → met_of (one ∷ met) ≡ next one (met_of met)) where
+module _ {X : Type 0} (on : List Item → ℕ → X) (next : Met → X → X) (told : TapeFold X on next) (met_of : List Met → X) (each : (one : Met) (met : List Met) → met_of (one ∷ met) ≡ next one (met_of met)) where
   met_after : (notes met : List Met) → met_of (onto notes met) ≡ after on next told notes (met_of met)
   met_after [] met = refl
   met_after (one ∷ notes) met = met_after notes (one ∷ met) ∙ ap (after on next told notes) (each one met)

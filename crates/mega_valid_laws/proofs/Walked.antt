@@ -6,11 +6,11 @@ use Rattle.mega_base.specs.declared.names.OpId.{OpId}
 use Rattle.mega_cluster.specs.declared.cluster.Cluster.{Cluster}
 use Rattle.mega_coordinator.specs.declared.answers.NotValid.{NotValid}
 use Rattle.mega_coordinator.specs.Lease.{counted_by}
-use Rattle.mega_coordinator.specs.History.{Grants as Grant, Invalidates as Invalid, Passes, Ticks as Told, epoch_after, is_valid, lease_of, serving}
+use Rattle.mega_coordinator.specs.History.{Grants as Grant, Invalidates as Invalid, Passes, Ticks as CoordinatorTicks, epoch_after, is_valid, lease_of, serving}
 use Rattle.mega_locks.specs.declared.asked.Asked.{Asked}
 use Rattle.mega_locks.specs.History.{lapse_for, nodes as lock_nodes}
 use Rattle.mega_wal.specs.Same.{same_group}
-use Rattle.mega_locks.specs.declared.asked.Asked.TheVariants.{Granted as AnswerGranted, Renewed, Taken as AnswerTaken, Over}
+use Rattle.mega_locks.specs.declared.asked.Asked.TheVariants.{Granted as AnswerGranted, Renewed, GreaterHeld, Over}
 use Rattle.mega_outcome.specs.declared.answer.Answer.{Answer}
 use Rattle.mega_outcome.specs.declared.request.Request.{Request}
 use Rattle.mega_wire.specs.declared.message.Message.{Message}
@@ -154,14 +154,14 @@ module _ (s : Setting) (full : is_full s.cluster s.me ≡ true) where
   acquire_serving false from epoch a x = refl
   acquire_serving true from epoch AnswerGranted x = refl
   acquire_serving true from epoch Renewed x = refl
-  acquire_serving true from epoch (AnswerTaken greatest) x = refl
+  acquire_serving true from epoch (GreaterHeld greatest) x = refl
   acquire_serving true from epoch (Over greatest) x = refl
 
   acquire_valid : (group : GroupId) (t : Bool) (from : ℕ) (epoch : Epoch) (a : Asked) (x : Bool) → after_valid group (cond t (grant_note from epoch a) []) x ≡ x
   acquire_valid group false from epoch a x = refl
   acquire_valid group true from epoch AnswerGranted x = refl
   acquire_valid group true from epoch Renewed x = refl
-  acquire_valid group true from epoch (AnswerTaken greatest) x = refl
+  acquire_valid group true from epoch (GreaterHeld greatest) x = refl
   acquire_valid group true from epoch (Over greatest) x = refl
 
   body_agrees : (met : List Met) (from : ℕ) (body : Body) → AgreesAt s.cluster met
@@ -219,7 +219,7 @@ module _ (s : Setting) (full : is_full s.cluster s.me ≡ true) where
       present : Option Epoch
       present = epoch_after (start_of met) s.cluster.cells (coordinator_calls s.cluster met)
 
-      ticking : Agrees (start_of met) s.cluster.cells (Told now ∷ coordinator_calls s.cluster met) (after_serving (lost_note (tick_told s.cluster met now).lost) (serving_met met))
+      ticking : Agrees (start_of met) s.cluster.cells (CoordinatorTicks now ∷ coordinator_calls s.cluster met) (after_serving (lost_note (tick_told s.cluster met now).lost) (serving_met met))
           (λ group. after_valid group (lost_note (tick_told s.cluster met now).lost) (valid_met met group))
       ticking = tick_agrees (start_of met) s.cluster.cells (coordinator_calls s.cluster met) (serving_met met) (valid_met met) a now
 

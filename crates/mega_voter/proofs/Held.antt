@@ -7,7 +7,7 @@ use Rattle.mega_rules.specs.Met.{Met, Sends, Unsends}
 use Rattle.mega_rules.specs.Clock.{start_of}
 use Rattle.mega_voter.specs.Holding.{Agrees, HoldsMet}
 use Rattle.mega_voter.specs.Journal.{item_of, journal_of}
-use Rattle.mega_voter.proofs.Told.{silent_follows, silent_journal, silent_start}
+use Rattle.mega_voter.proofs.KeptTells.{silent_follows, silent_journal, silent_start}
 
 pub nothing_held : HoldsMet [] 0 []
 nothing_held = record {

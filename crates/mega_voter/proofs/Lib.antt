@@ -3,7 +3,7 @@ pub mod Folds
 pub mod Prefixes
 pub mod Grouped
 pub mod Answered
-pub mod Told
+pub mod KeptTells
 pub mod Replied
 pub mod Opened
 pub mod Holding

@@ -1,18 +1,13 @@
 -- What a voter's journal holds of what its node met.
-use Rattle.std.specs.Prelude.{◌-◌, List, [], ◌∷◌, option_to_list, Option, Some, None}
+use Rattle.std.specs.Prelude.{◌-◌, List, [], ◌∷◌, option_to_list, Option, Some}
 use Rattle.std.specs.List.{cons_option}
 use Rattle.mega_wire.specs.declared.message.Body.{Body}
-use Rattle.mega_wire.specs.declared.message.Body.TheVariants.{Accepted, Promise as PromiseBody}
 use Rattle.mega_wal.specs.declared.item.JournalItem.{JournalItem}
-use Rattle.mega_wal.specs.declared.item.JournalItem.TheVariants.{Start, Promise, Accept, Decide, Grant, Lapse, Starts as Counted}
-use Rattle.mega_rules.specs.Met.{Met, Starts, Sends, Unsends, Grants, Lapses, Decides}
+use Rattle.mega_wal.specs.declared.item.JournalItem.TheVariants.{Start, Starts as Counted}
+use Rattle.mega_rules.specs.Met.{Met, Starts, Sends, Unsends}
 use Rattle.mega_rules.specs.Clock.{start_of}
-
--- the promise or the vote that a message tells of its sender
-abbrev pub item_in : Body → Option JournalItem
-item_in (PromiseBody op group position ballot report) = Some (Promise group position ballot)
-item_in (Accepted op group position ballot entry) = Some (Accept group position ballot entry)
-item_in _ = None
+use Rattle.mega_rules.specs.Kept.{kept_of_note}
+pub use Rattle.mega_rules.specs.Kept.{kept_of_body as item_in}
 
 abbrev pub items_in : Body → List JournalItem
 items_in body = option_to_list (item_in body)
@@ -23,10 +18,7 @@ abbrev pub item_of : List Met → Met → Option JournalItem
 item_of before (Starts start) = Some (Counted (start - start_of before))
 item_of before (Sends message) = item_in message.body
 item_of before (Unsends message) = item_in message.body
-item_of before (Grants node epoch) = Some (Grant (record { 0 = node }) epoch)
-item_of before (Lapses node epoch) = Some (Lapse (record { 0 = node }) epoch)
-item_of before (Decides group position entry) = Some (Decide group (record { 0 = position }) entry)
-item_of before _ = None
+item_of before other = kept_of_note other
 
 abbrev pub journal_of : List Met → List JournalItem
 journal_of [] = []

@@ -26,19 +26,19 @@ ghost use Rattle.mega_voter.specs.Telling.{AreHonest, IsAnswer, IsHonest, Tells}
 
 /// What is of no journal kind, as a tick, a crash, or a message that is neither a promise nor a vote, leaves what is
 /// told.
-#[tactic(auto, using(crate::proofs::Told::silent_told))]
+#[tactic(auto, using(crate::proofs::KeptTells::silent_told))]
 pub fn other_things_leave_what_is_told()
     ensures { (kept : Kept) (met : List Met) (one : Met) → item_of met one ≡ None → Tells kept met ↔ Tells kept (one ∷ met) }
 {}
 
 /// A message that a crash left unsent is kept as one that was sent is.
-#[tactic(auto, using(crate::proofs::Told::unsent_told))]
+#[tactic(auto, using(crate::proofs::KeptTells::unsent_told))]
 pub fn unsent_is_kept_as_sent()
     ensures { (kept : Kept) (met : List Met) (message : Message) → Tells kept (Sends message ∷ met) ↔ Tells kept (Unsends message ∷ met) }
 {}
 
 /// Logs that keep nothing tell that nothing was met.
-#[tactic(auto, using(crate::proofs::Told::nothing_told))]
+#[tactic(auto, using(crate::proofs::KeptTells::nothing_told))]
 pub fn nothing_is_told_first()
     ensures { (kept : Kept) → Represents kept [] → Tells kept [] }
 {}
@@ -50,7 +50,7 @@ pub fn opened_logs_tell_their_journal()
 {}
 
 /// Logs that are opened over the same journal tell the same.
-#[tactic(auto, using(crate::proofs::Told::reopened_told))]
+#[tactic(auto, using(crate::proofs::KeptTells::reopened_told))]
 pub fn a_reopening_tells_the_same()
     ensures { (old new : Kept) (items : List Item) (met : List Met) → Represents old items → Represents new items → Tells old met → Tells new met }
 {}
@@ -64,7 +64,7 @@ pub fn answers_may_be_sent()
 {}
 
 /// What a message of the format tells of its sender is an item of the journal's format.
-#[tactic(auto, using(crate::proofs::Told::sent_fits))]
+#[tactic(auto, using(crate::proofs::KeptTells::sent_fits))]
 pub fn sent_items_fit()
     ensures { (body : Body) → IsBody body → All IsItem (items_in body) }
 {}

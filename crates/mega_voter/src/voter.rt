@@ -47,7 +47,7 @@ impl<R: Records> Voter<R> {
 
     /// Notes that the node starts once more, with the number behind the count of starts, and shows what it owes to a step that
     /// was cut off (`counted`).
-    #[tactic(auto, using(crate::proofs::Told::begun_told, crate::proofs::Told::still_told))]
+    #[tactic(auto, using(crate::proofs::KeptTells::begun_told, crate::proofs::KeptTells::still_told))]
     pub fn begins(&mut self, alloc: Global) -> Result<(), LogFault>
         requires { self.old.logs.kept.starts < 4294967295 }
         ensures state { OnOk result ((met : List Met) → Tells self.old.logs.kept met → Tells self.new.logs.kept (Starts (start_of met + 1) ∷ met)) }
@@ -65,7 +65,7 @@ impl<R: Records> Voter<R> {
 
     /// Notes that the node sends a message. A promise and a vote, which are to be what the voter answers now, are kept;
     /// any other message changes nothing.
-    #[tactic(auto, using(crate::proofs::Told::still_told, crate::proofs::Told::silent_told))]
+    #[tactic(auto, using(crate::proofs::KeptTells::still_told, crate::proofs::KeptTells::silent_told))]
     pub fn sent(&mut self, alloc: Global, message: &Message) -> Result<(), LogFault>
         ensures state { OnOk result ((met : List Met) → IsAnswer met message.now.body → Tells self.old.logs.kept met → Tells self.new.logs.kept (Sends message.now ∷ met)) }
         ensures staged { OnOk result ((met : List Met) → IsAnswer met message.now.body → Tells self.old.logs.kept met → self.new.logs.staged.items ≡ self.old.logs.staged.items ++ items_in message.now.body) }
@@ -102,7 +102,7 @@ impl<R: Records> Voter<R> {
 
     /// Notes that an entry is decided at a position, from 1 on. Where one was decided there before the answer is false,
     /// and nothing changes.
-    #[tactic(auto, using(crate::proofs::Told::still_told))]
+    #[tactic(auto, using(crate::proofs::KeptTells::still_told))]
     pub fn decides(
         &mut self,
         alloc: Global,
@@ -124,7 +124,7 @@ impl<R: Records> Voter<R> {
     }
 
     /// Notes that the node's lock cell grants an epoch to a node.
-    #[tactic(auto, using(crate::proofs::Told::granting_told, crate::proofs::Told::still_told))]
+    #[tactic(auto, using(crate::proofs::KeptTells::granting_told, crate::proofs::KeptTells::still_told))]
     pub fn grants(&mut self, alloc: Global, node: NodeId, epoch: Epoch) -> Result<(), LogFault>
         ensures state { OnOk result ((met : List Met) → Tells self.old.logs.kept met → Tells self.new.logs.kept (Grants node.0 epoch ∷ met)) }
         ensures staged { OnOk result (self.new.logs.staged.items ≡ self.old.logs.staged.items ++ Grant node epoch ∷ []) }
@@ -138,7 +138,7 @@ impl<R: Records> Voter<R> {
     }
 
     /// Notes that an epoch lapses which the node's lock cell granted to a node.
-    #[tactic(auto, using(crate::proofs::Told::lapsing_told, crate::proofs::Told::still_told))]
+    #[tactic(auto, using(crate::proofs::KeptTells::lapsing_told, crate::proofs::KeptTells::still_told))]
     pub fn lapses(&mut self, alloc: Global, node: NodeId, epoch: Epoch) -> Result<(), LogFault>
         ensures state { OnOk result ((met : List Met) → Tells self.old.logs.kept met → Tells self.new.logs.kept (Lapses node.0 epoch ∷ met)) }
         ensures staged { OnOk result (self.new.logs.staged.items ≡ self.old.logs.staged.items ++ Lapse node epoch ∷ []) }

@@ -5,7 +5,7 @@ use Rattle.std.specs.List.{flat_map}
 use Rattle.std.proofs.lemmas.Bool.Decides.{nat_tests}
 use Rattle.std.proofs.lemmas.List.Elements.{All-cons, All-nil, All-append}
 use Rattle.mega_base.specs.Reading.{Place, place, ◌>>=◌, items_at, list_in, whole_of}
-use Rattle.mega_base.specs.Codec.{Stands}
+use Rattle.mega_base.specs.Codec.{BytesBetween}
 use Rattle.mega_base.specs.Codecs.{bind-ok, if-ok, ok_parts, Stands-then}
 use Rattle.mega_base.specs.Names.{u32_at, u32_text}
 use Rattle.mega_base.specs.NameLaws.{u32_codec}
@@ -17,7 +17,7 @@ use Rattle.mega_wal.specs.Records.{bad_from, history_of, is_record, items_in, re
 use Rattle.mega_wal.proofs.Loading.{reverse_cons}
 
 abbrev Took : ℕ → Place → List JournalItem → Place → Type 0
-Took n p xs q = Stands p (flat_map item_text xs) q × All IsItem xs × (length xs ≡ n)
+Took n p xs q = BytesBetween p (flat_map item_text xs) q × All IsItem xs × (length xs ≡ n)
 
 along : (n : ℕ) (p : Place) (xs ys : List JournalItem) (q r : Place) → xs ≡ ys → q ≡ r → Took n p xs q → Took n p ys r
 along n p xs ys q r e f t = subst (λ zs. Took n p zs r) e (subst (λ (s : Place). Took n p xs s) f t)
@@ -34,14 +34,14 @@ items_takes (suc n) p xs q h =
     along (suc n) p (first.0.0 ∷ second.0.0) xs second.0.1 q e.0 e.1
     (Stands-then p (item_text first.0.0) first.0.1 (flat_map item_text second.0.0) second.0.1 one.0 more.0, All-cons IsItem first.0.0 second.0.0 one.1 more.1, ap suc more.2)
 
-list_takes : (p : Place) (xs : List JournalItem) (q : Place) → record_at p ≡ Ok (xs, q) → Stands p (record_text xs) q × IsRecord xs
+list_takes : (p : Place) (xs : List JournalItem) (q : Place) → record_at p ≡ Ok (xs, q) → BytesBetween p (record_text xs) q × IsRecord xs
 unfolding list_in
 list_takes p xs q h =
     let first = bind-ok (u32_at p) (λ n. items_at item_at n.0 n.1) (xs, q) h in
     let count = u32_codec.takes p first.0.0 first.0.1 first.1 in
     let more = items_takes first.0.0 first.0.1 xs q first.2 in
     let few = count.1.1 in (
-      Stands-then p (u32_text (length xs)) first.0.1 (flat_map item_text xs) q (subst (λ n. Stands p (u32_text n) first.0.1) (sym more.2) count.0) more.0,
+      Stands-then p (u32_text (length xs)) first.0.1 (flat_map item_text xs) q (subst (λ n. BytesBetween p (u32_text n) first.0.1) (sym more.2) count.0) more.0,
       record { each = more.1; least = omega arith; most = subst (λ n. n ≤ 4294967295) (sym more.2) few },
     )
 
@@ -64,7 +64,7 @@ whole_takes body items h =
     zero_of : (a : ℕ) → (a == 0) ≡ true → a ≡ 0
     zero_of a k = grind (arith, nat_tests)
 
-    found : (y : List JournalItem) (q : Place) → Stands (place 0 body) (record_text y) q × IsRecord y → length q.left ≡ 0 → y ≡ items → IsRecord items × (body ≡ record_text items)
+    found : (y : List JournalItem) (q : Place) → BytesBetween (place 0 body) (record_text y) q × IsRecord y → length q.left ≡ 0 → y ≡ items → IsRecord items × (body ≡ record_text items)
     found y q st none e = (subst IsRecord e st.1, st.0.text ∙ (ap (λ l. record_text y ++ l) (is_empty q.left none) ∙ (append-nil (record_text y) ∙ ap record_text e)))
 
 pub record_found : (body : List ℕ) → is_record body ≡ true → IsRecord (items_in body) × (body ≡ record_text (items_in body))

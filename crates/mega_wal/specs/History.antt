@@ -1,5 +1,5 @@
 -- The history of a voter: the items of its journal that it ever kept or staged, the newest first, and what they say.
-use Rattle.std.specs.Prelude.{◌≡◌, ℕ, zero, suc, ◌+◌, ◌==◌, ◌&&◌, ◌||◌, nat_lt, max, min, Bool, true, false, if◌then◌else◌, List, [], ◌∷◌, Option, Some, None, is_some}
+use Rattle.std.specs.Prelude.{◌≡◌, ℕ, zero, suc, ◌+◌, ◌==◌, ◌&&◌, max, min, Bool, true, false, if◌then◌else◌, List, [], ◌∷◌, Option, Some, None, is_some}
 use Rattle.std.specs.Prelude.{◌<◌, All}
 use Rattle.std.specs.List.{list_any}
 use Rattle.std.specs.List.Sorted.{IsStrictlySortedBy}
@@ -9,6 +9,7 @@ use Rattle.std.specs.Cmp.Lexicographic.{slice_cmp}
 use Rattle.mega_base.specs.declared.names.Epoch.{Epoch}
 use Rattle.mega_base.specs.declared.names.GroupId.{GroupId}
 use Rattle.mega_base.specs.declared.names.Position.{Position}
+pub use Rattle.mega_base.specs.NameOrder.{is_epoch_below, is_same_epoch}
 use Rattle.mega_acceptor.specs.of_entry.declared.content.Content.{Content}
 use Rattle.mega_wal.specs.declared.item.JournalItem.{JournalItem}
 use Rattle.mega_wal.specs.declared.item.JournalItem.TheVariants.{Start, Promise, Accept, Decide, Grant, Lapse, Starts}
@@ -76,13 +77,6 @@ starts_of [] = 0
 starts_of (Start ∷ before) = starts_at_most (starts_of before + 1)
 starts_of (Starts starts ∷ before) = starts_at_most (starts_of before + starts)
 starts_of (_ ∷ before) = starts_of before
-
--- epochs are ordered by start and then by count
-abbrev pub is_epoch_below : Epoch → Epoch → Bool
-is_epoch_below a b = nat_lt a.start b.start || (a.start == b.start && nat_lt a.count b.count)
-
-abbrev pub is_same_epoch : Epoch → Epoch → Bool
-is_same_epoch a b = a.start == b.start && a.count == b.count
 
 -- the greatest epoch granted to a node, and whether it is held
 abbrev pub Granted : Type 0

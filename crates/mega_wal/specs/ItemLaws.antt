@@ -4,7 +4,7 @@ use Rattle.std.specs.Prelude.{◌==◌, if◌then◌else◌, ◌≢◌}
 use Rattle.std.proofs.lemmas.Bool.Decides.{nat_tests}
 use Rattle.mega_base.specs.Reading.{Place, place, Read, ◌>>=◌, byte_in}
 use Rattle.mega_base.specs.Pairs.{IsPair}
-use Rattle.mega_base.specs.Codec.{number_text, Codec, Stands, IsText, IsBetween, one_byte, nested_text, IsNested, OpensNested}
+use Rattle.mega_base.specs.Codec.{number_text, Codec, BytesBetween, IsText, IsBetween, one_byte, nested_text, IsNested, OpensNested}
 use Rattle.mega_base.specs.Names.{u32_at, u32_text, IsU32, node_at, node_text, IsNode, position_text, IsPositionIn, epoch_at, epoch_text, IsEpoch, group_at, group_text, IsGroup}
 use Rattle.mega_base.specs.NameLaws.{u32_codec, node_codec, position_codec, epoch_codec, group_codec}
 use Rattle.mega_base.specs.Codecs.{byte_codec, bind_codec, embed_codec, ok_parts}
@@ -104,15 +104,15 @@ start_open = record {
     read : Place → Read JournalItem
     read p = Ok (Start, p)
 
-    stays : (p : Place) → Stands p [] p
+    stays : (p : Place) → BytesBetween p [] p
     stays p = record { text = refl; offset = omega arith }
 
-    takes : (p : Place) (x : JournalItem) (q : Place) → read p ≡ Ok (x, q) → Stands p (fields_text x) q × IsOfKind 1 x
+    takes : (p : Place) (x : JournalItem) (q : Place) → read p ≡ Ok (x, q) → BytesBetween p (fields_text x) q × IsOfKind 1 x
     takes p x q h =
         let parts = ok_parts Start x p q h in
         let item : Start ≡ x = parts.0 in
         let there : p ≡ q = parts.1 in
-        (subst (λ (y : JournalItem). Stands p (fields_text y) q) item (subst (λ (r : Place). Stands p [] r) there (stays p)), subst (IsOfKind 1) item (refl, tt))
+        (subst (λ (y : JournalItem). BytesBetween p (fields_text y) q) item (subst (λ (r : Place). BytesBetween p [] r) there (stays p)), subst (IsOfKind 1) item (refl, tt))
 
     again : (at : ℕ) (x : JournalItem) (rest : List ℕ) → IsOfKind 1 x → read (place at (fields_text x ++ rest)) ≡ Ok (x, place (at + length (fields_text x)) rest)
     again at Start rest f = ap (λ n. Ok (Start, place n rest)) (let e : at ≡ at + 0 = omega arith in e)

@@ -1,27 +1,20 @@
 -- The format of a journal's items, and of a record, which is a list of them.
 use Rattle.std.specs.Prelude.{◌≡◌, ℕ, ◌==◌, ◌≤◌, if◌then◌else◌, List, [], ◌∷◌, ◌++◌, Ok}
-use Rattle.mega_base.specs.Reading.{Place, Read, ◌>>=◌, byte_in, list_in, nested_at}
+use Rattle.mega_base.specs.Reading.{Place, Read, ◌>>=◌, byte_in, list_in}
 use Rattle.mega_base.specs.Pairs.{pair_at}
 use Rattle.mega_base.specs.Codec.{number_text, list_text, IsList, nested_text, IsNested}
-use Rattle.mega_base.specs.Names.{u32_at, u32_text, IsU32, node_at, node_text, IsNode, position_in, position_text, IsPositionIn, epoch_at, epoch_text, IsEpoch, group_at, group_text, IsGroup}
+use Rattle.mega_base.specs.Names.{u32_at, u32_text, IsU32, node_at, node_text, IsNode, position_text, IsPositionIn, epoch_at, epoch_text, IsEpoch, group_at, group_text, IsGroup}
 use Rattle.mega_base.specs.declared.names.NodeId.{NodeId}
 use Rattle.mega_base.specs.declared.names.Position.{Position}
 use Rattle.mega_base.specs.declared.names.Epoch.{Epoch}
 use Rattle.mega_base.specs.declared.names.GroupId.{GroupId}
 use Rattle.mega_acceptor.specs.of_ballot.Ballots.{ballot_at, ballot_text, IsBallot}
 use Rattle.mega_acceptor.specs.of_ballot.declared.ballot.Ballot.{Ballot}
-use Rattle.mega_acceptor.specs.of_entry.Entries.{entry_at, entry_text, IsEntry}
+use Rattle.mega_acceptor.specs.of_entry.Entries.{entry_text, IsEntry}
 use Rattle.mega_acceptor.specs.of_entry.declared.content.Content.{Content}
+pub use Rattle.mega_acceptor.specs.of_entry.Entries.{decide_fields, entry_field_at, log_position_at as item_position_at}
 use Rattle.mega_wal.specs.declared.item.JournalItem.{JournalItem}
 use Rattle.mega_wal.specs.declared.item.JournalItem.TheVariants.{Start, Promise, Accept, Decide, Grant, Lapse, Starts}
-
--- positions from 1 to 1,000,000
-abbrev pub item_position_at : Place → Read Position
-item_position_at p = position_in 1 1000000 p
-
--- an entry: the length of its text, up to 65,536, and the text
-abbrev pub entry_field_at : Place → Read Content
-entry_field_at p = nested_at 65536 entry_at p
 
 -- the fields of each kind, in order
 
@@ -30,9 +23,6 @@ promise_fields = pair_at group_at (pair_at item_position_at ballot_at)
 
 abbrev pub accept_fields : Place → Read (GroupId × (Position × (Ballot × Content)))
 accept_fields = pair_at group_at (pair_at item_position_at (pair_at ballot_at entry_field_at))
-
-abbrev pub decide_fields : Place → Read (GroupId × (Position × Content))
-decide_fields = pair_at group_at (pair_at item_position_at entry_field_at)
 
 abbrev pub lock_fields : Place → Read (NodeId × Epoch)
 lock_fields = pair_at node_at epoch_at

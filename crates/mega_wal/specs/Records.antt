@@ -1,13 +1,9 @@
 -- The history that a list of records tells.
-use Rattle.std.specs.Prelude.{ℕ, ◌+◌, Bool, if◌then◌else◌, List, [], ◌∷◌, ◌++◌, reverse, Option, Some, None, Result, Ok, Err, is_ok}
+use Rattle.std.specs.Prelude.{ℕ, ◌+◌, Bool, if◌then◌else◌, List, [], ◌∷◌, ◌++◌, reverse, Option, Some, None, is_ok}
 use Rattle.mega_base.specs.Reading.{whole_of}
+pub use Rattle.mega_base.specs.ListWords.{items_or_none as read_items}
 use Rattle.mega_wal.specs.declared.item.JournalItem.{JournalItem}
 use Rattle.mega_wal.specs.Items.{record_at, record_text}
-
--- the items that were read, or none
-abbrev pub read_items : Result (List JournalItem) ℕ → List JournalItem
-read_items (Ok items) = items
-read_items (Err at) = []
 
 -- a record of the format, and its items
 abbrev pub is_record : List ℕ → Bool

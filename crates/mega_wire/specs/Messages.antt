@@ -1,6 +1,6 @@
 -- The format of messages.
 use Rattle.std.specs.Prelude.{◌≡◌, ℕ, ◌+◌, ◌≤◌, ◌==◌, if◌then◌else◌, List, [], ◌∷◌, ◌++◌, length, Option, Some, None, Ok}
-use Rattle.mega_base.specs.Reading.{Place, Read, ◌>>=◌, byte_in, number_in, option_at, nested_at}
+use Rattle.mega_base.specs.Reading.{Place, Read, ◌>>=◌, byte_in, number_in, option_at}
 use Rattle.mega_base.specs.Pairs.{pair_at, pair_text, IsPair}
 use Rattle.mega_base.specs.Codec.{number_text, IsBetween, one_byte, option_text, IsOption, bytes_text, nested_text, IsNested}
 use Rattle.mega_base.specs.Names.{u64_at, u64_text, IsU64, node_at, node_text, IsNode, position_in, position_text, IsPositionIn, epoch_at, epoch_text, IsEpoch, op_at, op_text, IsOp, string_at, IsString, group_at, group_text, IsGroup}
@@ -11,16 +11,14 @@ use Rattle.mega_base.specs.declared.names.OpId.{OpId}
 use Rattle.mega_base.specs.declared.names.GroupId.{GroupId}
 use Rattle.mega_ballot.specs.Ballots.{ballot_at, ballot_text, IsBallot}
 use Rattle.mega_ballot.specs.declared.ballot.Ballot.{Ballot}
-use Rattle.mega_entry.specs.Entries.{entry_at, entry_text, IsEntry}
+use Rattle.mega_entry.specs.Entries.{entry_text, IsEntry}
 use Rattle.mega_entry.specs.declared.content.Content.{Content}
+pub use Rattle.mega_entry.specs.Entries.{decide_fields, entry_field_at, log_position_at as message_position_at}
 use Rattle.mega_wire.specs.declared.message.Message.{Message}
 use Rattle.mega_wire.specs.declared.message.Body.{Body}
 use Rattle.mega_wire.specs.declared.message.Body.TheVariants.{Where, Top, Accept, Accepted, Refused, Prepare, Promise, Invalidate, Invalidated, Dead, Held, Unheld, Decide, Fetch, Have, HaveNot, Acquire, Granted, Past, Request, Reply}
 
 -- positions up to 1,000,000, of a top also 0
-abbrev pub message_position_at : Place → Read Position
-message_position_at p = position_in 1 1000000 p
-
 abbrev pub top_position_at : Place → Read Position
 top_position_at p = position_in 0 1000000 p
 
@@ -31,10 +29,6 @@ cell_at p = byte_in 1 5 p
 -- milliseconds, up to 10^12
 abbrev pub clock_at : Place → Read ℕ
 clock_at p = number_in 8 0 1000000000000 p
-
--- an entry: the length of its text, up to 65,536, and the text
-abbrev pub entry_field_at : Place → Read Content
-entry_field_at p = nested_at 65536 entry_at p
 
 -- the fields of each kind, in order
 
@@ -61,9 +55,6 @@ invalidate_fields = pair_at op_at (pair_at group_at message_position_at)
 
 abbrev pub dead_fields : Place → Read (OpId × (ℕ × NodeId))
 dead_fields = pair_at op_at (pair_at cell_at node_at)
-
-abbrev pub decide_fields : Place → Read (GroupId × (Position × Content))
-decide_fields = pair_at group_at (pair_at message_position_at entry_field_at)
 
 abbrev pub have_fields : Place → Read (OpId × (GroupId × (Position × Content)))
 have_fields = pair_at op_at (pair_at group_at (pair_at message_position_at entry_field_at))

@@ -8,7 +8,7 @@ use Rattle.mega_ballot.specs.declared.ballot.Ballot.{Ballot}
 use Rattle.mega_entry.specs.declared.content.Content.{Content}
 use Rattle.mega_wire.specs.declared.message.Body.{Body}
 use Rattle.mega_wire.specs.declared.message.Body.TheVariants.{Accepted, Invalidated, Unheld}
-use Rattle.mega_outcome.specs.declared.answer.Answer.{Answer as Told}
+use Rattle.mega_outcome.specs.declared.answer.Answer.{Answer as AnswerValue}
 use Rattle.mega_outcome.specs.declared.answer.Answer.TheVariants.{Batched, Committed}
 use Rattle.mega_valid_laws.specs.of_settled_laws.of_tape_laws.of_transcript.declared.item.Item.{Item}
 use Rattle.mega_valid_laws.specs.of_settled_laws.of_tape_laws.of_transcript.declared.item.Item.TheVariants.{Answer, Decide, Sent}
@@ -177,7 +177,7 @@ decisions node p e before stood = by stood.later stood.is
     by (one ∷ later) is = absurd (none_stands is_decision (decides_at node p e) (newest asked_first) refl refl
         (subst (Stands (decides_at node p e)) (sym (ap tail_of is)) (stood_behind later (decides_at node p e ∷ before) (decides_at node p e) (inl refl))))
 
-no_answer : {X : Type 0} (op : OpId) (answer : Told) (before : List Item) → StoodOn (Answer op answer) before (newest first_covered) → X
+no_answer : {X : Type 0} (op : OpId) (answer : AnswerValue) (before : List Item) → StoodOn (Answer op answer) before (newest first_covered) → X
 no_answer op answer before stood = absurd (none_stands is_answer (Answer op answer) (newest first_covered) refl refl (subst (Stands (Answer op answer)) (sym stood.is) (stood_behind stood.later (Answer op answer ∷ before) (Answer op answer) (inl refl))))
 
 pub settled_first : AreSettled cluster (newest first_covered)

@@ -5,7 +5,7 @@ use Rattle.std.specs.Prelude.{is_none}
 use Rattle.mega_base.specs.declared.names.GroupId.{GroupId}
 use Rattle.mega_places.specs.of_outcome.declared.request.Request.{Request}
 use Rattle.mega_places.specs.of_outcome.declared.request.Request.TheVariants.{Batch, Find, PumpEnter, PumpHandle, Read, Refresh, Txn}
-use Rattle.mega_places.specs.of_durable.of_actions.of_proposing.Servable.{is_served}
+use Rattle.mega_places.specs.of_durable.of_actions.of_step_work.Servable.{is_served}
 use Rattle.mega_format_laws.specs.Requests.{IsRequest}
 
 few : (n : ℕ) → n ≤ 16 → nat_le n 16 ≡ true

@@ -6,7 +6,7 @@ use Rattle.mega_places.specs.of_promises.of_transcript.Tape.{newest, onto}
 use Rattle.mega_places.proofs.of_transcript.Tapes.{newest-append, onto-append}
 use Rattle.mega_places.specs.of_promises.Runs.{Standing}
 use Rattle.mega_world.specs.declared.world.World.{World}
-use Rattle.mega_world.specs.Stands.{IsAt, StandsWith}
+use Rattle.mega_world.specs.AtRun.{IsAt, StandsWith}
 
 pub behind : (earlier hand own after : List Item) → after ≡ hand ++ own → earlier ++ after ≡ (earlier ++ hand) ++ own
 behind earlier hand own after is = ap (λ (items : List Item). earlier ++ items) is ∙ sym (append_assoc earlier hand own)

@@ -19,7 +19,7 @@ use Rattle.mega_places.specs.Carries.{Carries}
 use Rattle.mega_world.specs.Formed.{IfNext, IsFormed, IsSound, OwnsDelivered, OwnsDrained}
 use Rattle.mega_places.specs.Kept.{AreNodes}
 use Rattle.mega_safety.specs.Lapses.{KnowsLeases}
-use Rattle.mega_world.specs.Stands.{StandsWith}
+use Rattle.mega_world.specs.AtRun.{StandsWith}
 use Rattle.mega_world.proofs.Behind.{behind}
 use Rattle.mega_places.proofs.Carrying.{same_on}
 use Rattle.mega_world.proofs.Events.{drain_is_cut, drains_no_more, drains_on}

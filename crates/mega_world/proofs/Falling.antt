@@ -32,7 +32,7 @@ use Rattle.mega_places.specs.Kept.{AreNodes, AreReady, remains_of}
 use Rattle.mega_safety.specs.Lapses.{KnowsLeases}
 use Rattle.mega_places.specs.Members.{IsMember, is_up_at, node_in, records_of, version_of}
 use Rattle.mega_world.specs.Restarting.{StaysDown}
-use Rattle.mega_world.specs.Stands.{StandsWith}
+use Rattle.mega_world.specs.AtRun.{StandsWith}
 use Rattle.mega_places.proofs.Carrying.{shown_on}
 use Rattle.mega_world.proofs.Fates.{start_cut}
 use Rattle.mega_places.proofs.Joining.{at_other, nodes_on}

@@ -15,7 +15,7 @@ use Rattle.mega_places.specs.of_promises.Messages.{message_of}
 use Rattle.mega_places.specs.of_promises.Runs.{CutByLog, Standing, Whole, after_event, appends, at_node, by_fuse, calls_of, cut_start, fate_by, fated, fated_start, handed, is_burning, left_by, met_in, replies_in, set_at, setting, start_calls, whole_step, with_items}
 use Rattle.mega_world.specs.Restarting.{started}
 use Rattle.mega_world.specs.declared.world.World.{World}
-use Rattle.mega_world.specs.Stands.{StandsWith}
+use Rattle.mega_world.specs.AtRun.{StandsWith}
 use Rattle.mega_places.specs.Stepping.{cut_off}
 use Rattle.mega_places.proofs.Fuses.{fated as fate_is}
 use Rattle.mega_places.proofs.Plain.{with_append}

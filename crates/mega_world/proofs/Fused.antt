@@ -15,7 +15,7 @@ use Rattle.mega_places.specs.Carries.{Carries}
 use Rattle.mega_places.specs.Kept.{AreNodes, IsKept}
 use Rattle.mega_safety.specs.Lapses.{KnowsLeases}
 use Rattle.mega_places.specs.Members.{AreMembers, member_in}
-use Rattle.mega_world.specs.Stands.{StandsWith}
+use Rattle.mega_world.specs.AtRun.{StandsWith}
 use Rattle.mega_places.proofs.Joining.{IsPlace, at_other, at_own, kept_on, joined, member_is, member_up, place_at}
 
 same_all : {X : Type 0} (f : ℕ → X) (me : ℕ) → set_at f me (f me) ≡ f

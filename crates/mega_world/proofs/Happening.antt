@@ -26,8 +26,8 @@ use Rattle.mega_format_laws.specs.Nodes.{IsStep}
 use Rattle.mega_places.specs.of_promises.Items.{number, numbered, shown}
 use Rattle.mega_places.specs.of_promises.Messages.{is_unsafe, message_of}
 use Rattle.mega_places.specs.of_promises.Runs.{Standing, at_node, by_fuse, has_lapsed, met_in, set_at, setting, whole_step, with_items}
-use Rattle.mega_places.specs.of_durable.of_core.of_stepping.declared.step.Step.{Step}
-use Rattle.mega_places.specs.of_durable.of_core.of_stepping.Notes.{met_of}
+use Rattle.mega_places.specs.of_durable.of_core.of_step_parts.declared.step.Step.{Step}
+use Rattle.mega_places.specs.of_durable.of_core.of_step_parts.Notes.{met_of}
 use Rattle.mega_safety.specs.declared.safety.Safety.{Safety}
 use Rattle.mega_places.specs.declared.stepping.Stepped.{Stepped}
 use Rattle.mega_places.specs.declared.stepping.Stepped.TheVariants as stepped
@@ -38,7 +38,7 @@ use Rattle.mega_places.specs.Kept.{AreNodes}
 use Rattle.mega_safety.specs.Lapses.{KnowsLeases}
 use Rattle.mega_world.specs.Showing.{IsShown, IsStepped, LinesStep, ShowsCrash, ShowsStep}
 use Rattle.mega_world.specs.Shown.{notes_shown}
-use Rattle.mega_world.specs.Stands.{StandsWith}
+use Rattle.mega_world.specs.AtRun.{StandsWith}
 use Rattle.mega_places.specs.Stepping.{Comes, Falls, Makes, cut_off}
 use Rattle.mega_places.proofs.Carrying.{shown_on}
 use Rattle.mega_world.proofs.Events.{step_shows}

@@ -8,7 +8,7 @@ use Rattle.mega_wal.specs.declared.item.JournalItem.{JournalItem}
 use Rattle.mega_wal.specs.History.{after_grant as granted_of, after_lapse as lapsed_of}
 use Rattle.mega_wal.specs.Items.{IsItem as IsKeptItem}
 use Rattle.mega_places.specs.of_voter.Journal.{item_in, item_of, journal_of}
-use Rattle.mega_places.proofs.of_voter.Told.{sent_fits}
+use Rattle.mega_places.proofs.of_voter.KeptTells.{sent_fits}
 use Rattle.mega_places.specs.of_voter.of_rules.Clock.{start_of}
 use Rattle.mega_places.specs.of_voter.of_rules.Locks.{last_grant}
 use Rattle.mega_places.specs.of_voter.of_rules.Met.{Met, Starts, Crashes, Ticks, Begins, Takes, Sends, Unsends, Grants, Lapses, Counts, Forgets, Serves, Loses, Validates, Invalidates, Decides, Applies, Answers}

@@ -13,9 +13,9 @@ use Rattle.mega_places.proofs.of_transcript.Tapes.{onto-append}
 use Rattle.mega_places.specs.of_voter.of_rules.Met.{Met}
 use Rattle.mega_places.specs.of_voter.of_rules.Operations.{Node as RuleNode}
 use Rattle.mega_places.specs.of_voter.of_rules.Steps.{onto as met_onto}
-use Rattle.mega_places.specs.of_durable.of_core.of_stepping.declared.note.Note.{Note}
-use Rattle.mega_places.specs.of_durable.of_core.of_stepping.declared.step.Step.{Step}
-use Rattle.mega_places.specs.of_durable.of_core.of_stepping.Notes.{met_of}
+use Rattle.mega_places.specs.of_durable.of_core.of_step_parts.declared.note.Note.{Note}
+use Rattle.mega_places.specs.of_durable.of_core.of_step_parts.declared.step.Step.{Step}
+use Rattle.mega_places.specs.of_durable.of_core.of_step_parts.Notes.{met_of}
 use Rattle.mega_places.specs.of_promises.Items.{numbered, shown}
 use Rattle.mega_places.specs.of_promises.Messages.{is_unsafe}
 use Rattle.mega_places.specs.of_promises.Runs.{set_at, with_items}

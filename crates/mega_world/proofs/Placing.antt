@@ -10,7 +10,7 @@ use Rattle.mega_places.specs.of_voter.of_rules.Replies.{reply_to}
 use Rattle.mega_places.specs.of_node_laws.Acted.{decision_in, or_settled}
 use Rattle.mega_places.proofs.of_node_laws.Ending.{taken_by}
 use Rattle.mega_format_laws.specs.Histories.{IsMet}
-use Rattle.mega_places.specs.of_durable.of_core.of_stepping.Placed.{IsPlaced}
+use Rattle.mega_places.specs.of_durable.of_core.of_step_parts.Placed.{IsPlaced}
 
 front : (xs ys : List Met) → IsMet (xs ++ ys) → IsMet xs
 front [] ys each = tt

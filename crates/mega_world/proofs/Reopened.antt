@@ -29,7 +29,7 @@ use Rattle.mega_world.specs.Formed.{IsFormed}
 use Rattle.mega_world.specs.Owing.{IsOwing, ShowsStart}
 use Rattle.mega_world.specs.Restarting.{Opens, started}
 use Rattle.mega_world.specs.Shown.{notes_shown}
-use Rattle.mega_world.specs.Stands.{StandsWith}
+use Rattle.mega_world.specs.AtRun.{StandsWith}
 use Rattle.mega_world.proofs.Again.{started_lapsed}
 use Rattle.mega_places.proofs.Carrying.{notes_same, same_on}
 use Rattle.mega_world.proofs.Fates.{start_whole}

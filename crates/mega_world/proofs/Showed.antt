@@ -15,7 +15,7 @@ use Rattle.mega_places.proofs.of_transcript.Tapes.{newest-append, onto-append}
 use Rattle.mega_places.specs.of_voter.of_rules.Met.{Met, Unsends}
 use Rattle.mega_places.specs.of_voter.of_rules.Operations.{Node as RuleNode}
 use Rattle.mega_places.specs.of_voter.of_rules.Steps.{onto as met_onto}
-use Rattle.mega_places.specs.of_durable.of_core.of_stepping.Notes.{met_of}
+use Rattle.mega_places.specs.of_durable.of_core.of_step_parts.Notes.{met_of}
 use Rattle.mega_places.specs.of_durable.declared.cut.Cut.{Cut}
 use Rattle.mega_places.specs.of_durable.Replying.{owed_by}
 use Rattle.mega_places.specs.of_promises.Items.{number, shown}

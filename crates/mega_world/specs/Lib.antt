@@ -4,6 +4,6 @@ pub mod Owing
 pub mod Restarting
 pub mod Showing
 pub mod Shown
-pub mod Stands
+pub mod AtRun
 pub mod Last
 pub use Rattle.mega_places.specs.of_durable.of_core as of_core

@@ -4,7 +4,7 @@ use Rattle.mega_cluster.specs.declared.cluster.Cluster.{Cluster}
 use Rattle.mega_places.specs.of_handler.Named.{Meanings}
 use Rattle.mega_places.specs.of_voter.of_rules.Met.{Starts}
 use Rattle.mega_places.specs.of_voter.of_rules.Steps.{onto, start, start_items, start_notes}
-use Rattle.mega_places.specs.of_durable.of_core.of_stepping.Notes.{met_of}
+use Rattle.mega_places.specs.of_durable.of_core.of_step_parts.Notes.{met_of}
 use Rattle.mega_places.specs.of_promises.Runs.{Standing, cut_start, is_burning, left_by, set_at, setting, whole_start}
 use Rattle.mega_places.specs.declared.place.Place.{Place}
 use Rattle.mega_world.specs.declared.restarting.Shown.{Shown}

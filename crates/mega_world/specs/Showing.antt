@@ -8,9 +8,9 @@ use Rattle.mega_places.specs.of_promises.of_transcript.Lines.{HasLine}
 use Rattle.mega_places.specs.of_promises.of_transcript.Tape.{newest, sent_count}
 use Rattle.mega_places.specs.of_voter.of_rules.Operations.{Node as RuleNode}
 use Rattle.mega_places.specs.of_voter.of_rules.Steps.{onto}
-use Rattle.mega_places.specs.of_durable.of_core.of_stepping.declared.note.Note.{Note}
-use Rattle.mega_places.specs.of_durable.of_core.of_stepping.declared.step.Step.{Step}
-use Rattle.mega_places.specs.of_durable.of_core.of_stepping.Notes.{met_of}
+use Rattle.mega_places.specs.of_durable.of_core.of_step_parts.declared.note.Note.{Note}
+use Rattle.mega_places.specs.of_durable.of_core.of_step_parts.declared.step.Step.{Step}
+use Rattle.mega_places.specs.of_durable.of_core.of_step_parts.Notes.{met_of}
 use Rattle.mega_places.specs.of_promises.Items.{number, numbered}
 use Rattle.mega_places.specs.of_promises.Runs.{has_lapsed, set_at, with_items}
 use Rattle.mega_places.specs.declared.stepping.Stepped.{Stepped}

@@ -9,7 +9,7 @@ ghost use Rattle.mega_places.specs.of_promises.of_transcript.Tape.{onto};
 ghost use Rattle.mega_places.specs.of_promises.Runs.{Standing, after_event, by_fuse, refusal};
 ghost use Rattle.mega_places.specs.declared.fault.WorldFault.TheVariants.{Limit, Refused};
 ghost use Rattle.mega_world.specs.Formed.{IsSound};
-ghost use Rattle.mega_world.specs.Stands.{IsAt, MayCome, StandsWith};
+ghost use Rattle.mega_world.specs.AtRun.{IsAt, MayCome, StandsWith};
 ghost use Rattle.mega_world.specs.Last.{IsPastLast};
 
 use crate::world::World;

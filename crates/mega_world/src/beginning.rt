@@ -10,7 +10,7 @@ ghost use Rattle.mega_places.specs.of_promises.Runs.{Standing, after_event, by_f
 ghost use Rattle.mega_places.specs.declared.fault.WorldFault.TheVariants.{Limit, Refused};
 ghost use Rattle.mega_world.specs.Formed.{IsSound};
 ghost use Rattle.mega_places.specs.Members.{AreMembers, is_up_at};
-ghost use Rattle.mega_world.specs.Stands.{StandsWith, IsDue, MayCome};
+ghost use Rattle.mega_world.specs.AtRun.{StandsWith, IsDue, MayCome};
 
 use crate::world::World;
 use mega_base::{GroupId, NodeId, Text};

@@ -13,10 +13,10 @@ ghost use Rattle.mega_places.specs.Carries.{Carries};
 ghost use Rattle.mega_places.specs.declared.fault.WorldFault.TheVariants.{Limit, Refused};
 ghost use Rattle.mega_world.specs.Formed.{IsSound};
 ghost use Rattle.mega_places.specs.Members.{is_up_at};
-ghost use Rattle.mega_world.specs.Stands.{IsAllowed, StandsWith, MayCome};
+ghost use Rattle.mega_world.specs.AtRun.{IsAllowed, StandsWith, MayCome};
 
 use crate::world::World;
-use mega_places::mega_durable::mega_core::mega_stepping::Event;
+use mega_places::mega_durable::mega_core::mega_step_parts::Event;
 use mega_places::mega_meanings::QueueHandlers;
 use mega_places::mega_transcript::{Item, Tape};
 use mega_places::{Mail, Place, WorldFault, is_up, step_at};

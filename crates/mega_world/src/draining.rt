@@ -9,7 +9,7 @@ ghost use Rattle.mega_places.specs.of_promises.of_transcript.Lines.{HasLine};
 ghost use Rattle.mega_places.specs.of_promises.Runs.{Standing, after_event, by_fuse};
 ghost use Rattle.mega_places.specs.declared.fault.WorldFault.TheVariants.{Limit, Refused};
 ghost use Rattle.mega_world.specs.Formed.{IsSound};
-ghost use Rattle.mega_world.specs.Stands.{StandsWith, IsDue};
+ghost use Rattle.mega_world.specs.AtRun.{StandsWith, IsDue};
 
 use crate::world::World;
 use mega_places::WorldFault;

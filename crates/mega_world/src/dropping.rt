@@ -8,7 +8,7 @@ ghost use Rattle.mega_places.specs.of_promises.of_transcript.declared.item.Item.
 ghost use Rattle.mega_places.specs.of_promises.of_transcript.Lines.{HasLine};
 ghost use Rattle.mega_places.specs.of_promises.Runs.{Standing, after_event, by_fuse, refusal};
 ghost use Rattle.mega_places.specs.declared.fault.WorldFault.TheVariants.{Limit, Refused};
-ghost use Rattle.mega_world.specs.Stands.{StandsWith};
+ghost use Rattle.mega_world.specs.AtRun.{StandsWith};
 
 use crate::world::World;
 use mega_places::WorldFault;

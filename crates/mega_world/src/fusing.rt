@@ -10,7 +10,7 @@ ghost use Rattle.mega_places.specs.declared.fault.WorldFault.TheVariants.{Limit,
 ghost use Rattle.mega_places.specs.declared.place.Place.{Place as PlaceValue};
 ghost use Rattle.mega_places.specs.Fusing.{SetsFuse, SetsFuseAt};
 ghost use Rattle.mega_places.specs.Members.{AreMembers};
-ghost use Rattle.mega_world.specs.Stands.{StandsWith};
+ghost use Rattle.mega_world.specs.AtRun.{StandsWith};
 
 use crate::world::World;
 use mega_base::NodeId;

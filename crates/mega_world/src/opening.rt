@@ -10,7 +10,7 @@ ghost use Rattle.mega_places.specs.of_promises.Runs.{opening};
 ghost use Rattle.mega_places.specs.declared.fault.WorldFault.TheVariants.{NoMemory as OutOfMemory};
 ghost use Rattle.mega_places.specs.declared.place.Place.TheVariants.{Up};
 ghost use Rattle.mega_world.specs.Opening.{AreStarted, IsFirst, first_starts};
-ghost use Rattle.mega_world.specs.Stands.{IsAt};
+ghost use Rattle.mega_world.specs.AtRun.{IsAt};
 
 use crate::world::World;
 use mega_base::{Copied, NoMemory, NodeId};

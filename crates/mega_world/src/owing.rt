@@ -4,7 +4,7 @@ ghost use Rattle.std.specs.Prelude.{All};
 ghost use Rattle.mega_cluster.specs.declared.cluster.Cluster.{Cluster};
 ghost use Rattle.mega_places.specs.of_voter.of_rules.Met.{Unsends};
 ghost use Rattle.mega_places.specs.of_voter.of_rules.Operations.{Node as RuleNode};
-ghost use Rattle.mega_places.specs.of_durable.of_core.of_stepping.Notes.{met_of};
+ghost use Rattle.mega_places.specs.of_durable.of_core.of_step_parts.Notes.{met_of};
 ghost use Rattle.mega_places.specs.of_promises.of_transcript.declared.item.Item.{Item as OnTape};
 ghost use Rattle.mega_places.specs.of_promises.of_transcript.Lines.{HasLine};
 ghost use Rattle.mega_places.specs.of_promises.of_transcript.Tape.{newest};

@@ -16,14 +16,14 @@ ghost use Rattle.mega_places.specs.Members.{AreMembers, is_up_at};
 ghost use Rattle.mega_world.specs.Restarting.{AreStartable, OpensOr, Reopens};
 ghost use Rattle.mega_places.specs.Starting.{AtEachFallen, IsStartable};
 ghost use Rattle.mega_world.specs.Formed.{IsFormed};
-ghost use Rattle.mega_world.specs.Stands.{StandsWith, IsDue, MayCome};
+ghost use Rattle.mega_world.specs.AtRun.{StandsWith, IsDue, MayCome};
 ghost use Rattle.mega_world.specs.Last.{IsPastLast};
 
 use crate::world::World;
 use mega_base::{Copied, Items, NodeId};
 use mega_cluster::Cluster;
 use mega_places::mega_durable::Cut;
-use mega_places::mega_durable::mega_core::mega_stepping::Note;
+use mega_places::mega_durable::mega_core::mega_step_parts::Note;
 use mega_places::mega_transcript::{Item, Tape};
 use mega_places::{
     Begun, Fallen, NotBegun, Place, WorldFault, is_node, is_up, put_place, take_place,

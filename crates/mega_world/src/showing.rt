@@ -8,7 +8,7 @@ ghost use Rattle.mega_places.specs.of_promises.of_transcript.declared.item.Item.
 ghost use Rattle.mega_places.specs.of_promises.of_transcript.Lines.{HasLine};
 ghost use Rattle.mega_places.specs.of_promises.of_transcript.Tape.{newest, sent_count};
 ghost use Rattle.mega_places.specs.of_voter.of_rules.Operations.{Node as RuleNode};
-ghost use Rattle.mega_places.specs.of_durable.of_core.of_stepping.Notes.{met_of};
+ghost use Rattle.mega_places.specs.of_durable.of_core.of_step_parts.Notes.{met_of};
 ghost use Rattle.mega_places.specs.of_promises.Items.{numbered, shown};
 ghost use Rattle.mega_places.specs.of_promises.Runs.{with_items};
 ghost use Rattle.mega_places.specs.Carries.{Carries};
@@ -20,7 +20,7 @@ ghost use Rattle.mega_world.specs.Shown.{notes_shown};
 use crate::world::World;
 use mega_base::{Items, NoMemory, NodeId};
 use mega_places::mega_durable::item_of;
-use mega_places::mega_durable::mega_core::mega_stepping::{Note, Step};
+use mega_places::mega_durable::mega_core::mega_step_parts::{Note, Step};
 use mega_places::mega_transcript::{Item, Tape};
 use mega_places::{Place, Safety, Stepped, breaks_first, keep_lapses};
 use std::alloc::Global;

@@ -12,11 +12,11 @@ ghost use Rattle.mega_places.specs.of_promises.Runs.{Standing, after_event, by_f
 ghost use Rattle.mega_places.specs.declared.fault.WorldFault.TheVariants.{Limit, Refused};
 ghost use Rattle.mega_world.specs.Formed.{IsSound};
 ghost use Rattle.mega_places.specs.Members.{AreMembers, is_up_at};
-ghost use Rattle.mega_world.specs.Stands.{StandsWith, IsDue, MayCome};
+ghost use Rattle.mega_world.specs.AtRun.{StandsWith, IsDue, MayCome};
 
 use crate::world::World;
 use mega_base::NodeId;
-use mega_places::mega_durable::mega_core::mega_stepping::Event;
+use mega_places::mega_durable::mega_core::mega_step_parts::Event;
 use mega_places::mega_meanings::QueueHandlers;
 use mega_places::mega_transcript::{Item, Tape};
 use mega_places::{Place, WorldFault, is_node, is_up, member_of, step_at};

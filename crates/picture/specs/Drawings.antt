@@ -5,8 +5,8 @@ use Rattle.mega_cluster.specs.declared.cluster.Cluster.{Cluster}
 use Rattle.mega_io.specs.TextLines.{lines_of}
 use Rattle.mega_schema.specs.declared.schema.Schema.{Schema}
 use Rattle.mega_transcript.specs.declared.item.Item.{Item}
-use Rattle.mega_transcript_reading.specs.ReadingItems.{parsed}
-use Rattle.mega_picture.specs.declared.told.Told.{Told}
+use Rattle.mega_transcript_reader.specs.ReadingItems.{parsed}
+use Rattle.mega_picture.specs.declared.item_line.ItemLine.{ItemLine}
 use Rattle.mega_picture.specs.declared.drawable.Flaw.{Flaw}
 use Rattle.mega_picture.specs.Flaws.{flaw_of}
 use Rattle.mega_picture.specs.Pages.{line_number, page}
@@ -20,28 +20,28 @@ abbrev pub ◌>>=◌ : {A B : Type 0} → Result A Refusal → (A → Result B R
 (Ok x) >>= f = f x
 (Err refusal) >>= f = Err refusal
 
-abbrev pub told_with : List ℕ → ℕ → Result Item ℕ → Result Told Refusal
+abbrev pub told_with : List ℕ → ℕ → Result Item ℕ → Result ItemLine Refusal
 told_with line number (Ok item) = Ok (record { line = line; item = item })
 told_with line number (Err at) = Err (NotItem number)
 
 -- the item that a line of this number tells
-unfoldable pub told_of : Schema → ℕ → List ℕ → Result Told Refusal
+unfoldable pub told_of : Schema → ℕ → List ℕ → Result ItemLine Refusal
 told_of schema number line = told_with line number (parsed schema (line ++ 10 ∷ []))
 
-abbrev pub joined : Told → Result (List Told) Refusal → Result (List Told) Refusal
+abbrev pub joined : ItemLine → Result (List ItemLine) Refusal → Result (List ItemLine) Refusal
 joined one rest = rest >>= λ told. Ok (one ∷ told)
 
 -- the items of the lines from a row on, or the first line that tells none
-abbrev pub told_from : Schema → ℕ → ℕ → List (List ℕ) → Result (List Told) Refusal
+abbrev pub told_from : Schema → ℕ → ℕ → List (List ℕ) → Result (List ItemLine) Refusal
 told_from schema first row [] = Ok []
 told_from schema first row (line ∷ lines) = told_of schema (line_number first row) line >>= λ one. joined one (told_from schema first (row + 1) lines)
 
-abbrev pub page_unless : List NodeKind → ℕ → List Told → Option Flaw → Result (List ℕ) Refusal
+abbrev pub page_unless : List NodeKind → ℕ → List ItemLine → Option Flaw → Result (List ℕ) Refusal
 page_unless nodes first told None = Ok (page nodes first told)
 page_unless nodes first told (Some flaw) = Err (Flawed first flaw)
 
 -- the page of items that can be drawn
-unfoldable pub page_of : List NodeKind → ℕ → List Told → Result (List ℕ) Refusal
+unfoldable pub page_of : List NodeKind → ℕ → List ItemLine → Result (List ℕ) Refusal
 page_of nodes first told = page_unless nodes first told (flaw_of (min (length nodes) 255) told)
 
 -- the lines of a window

@@ -11,7 +11,7 @@ use crate::stop::Stop;
 use crate::words::Window;
 use mega_base::{Bytes, NodeKind};
 use mega_cluster::Cluster;
-use mega_picture::{Flaw, MOST, Told, flaw_of, put_page};
+use mega_picture::{Flaw, ItemLine, MOST, flaw_of, put_page};
 use std::alloc::Global;
 
 /// The page of items, unless one of them has a flaw.
@@ -19,7 +19,7 @@ fn page_unless(
     alloc: Global,
     nodes: &[NodeKind],
     first: u64,
-    told: &[Told],
+    told: &[ItemLine],
     flaw: Option<Flaw>,
 ) -> Result<Bytes, Stop>
     requires { length told.now ≤ 4000 }
@@ -39,7 +39,7 @@ fn page_unless(
 
 /// The page of items that can be drawn.
 #[tactic(auto, unfolding(crate::specs::Drawings::page_of))]
-fn page_of(alloc: Global, nodes: &[NodeKind], first: u64, told: &[Told]) -> Result<Bytes, Stop>
+fn page_of(alloc: Global, nodes: &[NodeKind], first: u64, told: &[ItemLine]) -> Result<Bytes, Stop>
     requires { length told.now ≤ 4000 }
     ensures { Gives result (page_of nodes.now first told.now) }
 {

@@ -6,9 +6,9 @@ ghost use Rattle.picture.specs.Drawings.{told_of, told_from};
 use crate::refusal::{Refusal, line_at};
 use crate::stop::Stop;
 use mega_base::{Bytes, Items, NoMemory};
-use mega_picture::Told;
+use mega_picture::ItemLine;
 use mega_schema::Schema;
-use mega_transcript_reading::{ItemFault, parse};
+use mega_transcript_reader::{ItemFault, parse};
 use std::alloc::Global;
 
 /// A line with its line feed.
@@ -22,7 +22,7 @@ fn fed(alloc: Global, line: &[u8]) -> Result<Bytes, NoMemory>
 
 /// The item that a line of this number tells; the line is copied.
 #[tactic(auto, unfolding(crate::specs::Drawings::told_of))]
-fn told_of(alloc: Global, schema: &Schema, number: u64, line: &[u8]) -> Result<Told, Stop>
+fn told_of(alloc: Global, schema: &Schema, number: u64, line: &[u8]) -> Result<ItemLine, Stop>
     ensures { Gives result (told_of schema.now number line.now) }
 {
     let Ok(kept) = Bytes::from_slice(alloc, line) else {
@@ -32,7 +32,7 @@ fn told_of(alloc: Global, schema: &Schema, number: u64, line: &[u8]) -> Result<T
         return Err(Stop::NoMemory);
     };
     match parse(alloc, schema, fed.as_slice()) {
-        Ok(item) => Ok(Told { line: kept, item }),
+        Ok(item) => Ok(ItemLine { line: kept, item }),
         Err(ItemFault::NotItem { .. }) => Err(Stop::Refused {
             refusal: Refusal::NotItem { line: number },
         }),
@@ -47,7 +47,7 @@ pub fn told_of_lines(
     schema: &Schema,
     first: u64,
     lines: &[Bytes],
-) -> Result<Items<Told>, Stop>
+) -> Result<Items<ItemLine>, Stop>
     requires { length lines.now ≤ 4000 }
     ensures value { Gives result (told_from schema.now first 0 lines.now) }
     ensures few { IfOk result (λ told. length told ≤ 4000) }

@@ -1,9 +1,9 @@
 use Rattle.std.proofs.Common.{◌∙◌, ap}
-use Rattle.mega_finishing.specs.of_operations.Whole.{whole}
+use Rattle.mega_answers.specs.of_operations.Whole.{whole}
 use Rattle.mega_read.specs.Catching.{seeks}
 use Rattle.mega_rules.specs.Acting.{keeps, reader_of, sends_more}
 use Rattle.mega_rules.specs.Operations.{Reads}
-use Rattle.mega_finishing.specs.of_proposing.Settings.{setting}
+use Rattle.mega_answers.specs.of_step_work.Settings.{setting}
 use Rattle.mega_actions.proofs.acting.seeks.Goals as goal
 
 pub returns-in-Ok : goal.returns-in-Ok

@@ -1,6 +1,6 @@
 use Rattle.std.proofs.Common.{◌≡◌, ℕ, List, [], ◌∷◌, ◌+◌, ◌-◌, ◌≤◌, length, sym, subst}
 use Rattle.std.specs.Io.KnownBytes.{prepend_known}
-use Rattle.mega_heading.specs.Known.{Passes, Told}
+use Rattle.mega_header.specs.Known.{Passes, IfKnown}
 use Rattle.mega_backup_words.specs.Inputs.{lines_within}
 use Rattle.mega_backup_words.proofs.Within.{feed_past, feed_reads, last_reads, long_past, none_reads}
 use Rattle.mega_backup_words.proofs.lines.next_line.Goals as goal
@@ -22,7 +22,7 @@ returns-in-Ok-Feed-clause-last g c is =
     let old = prepend_known c.args.reader.now (g.I.Source.left c.args.input.now) in
     let new = prepend_known c.next_line.new.self (g.I.Source.left c.next_line.new.source) in
     let past = c.ended_line.ensures.last cc in
-    subst (λ (xs : List ℕ). Told old (λ old. lines_within room old ≡ xs ∷ [])) (sym past.1)
+    subst (λ (xs : List ℕ). IfKnown old (λ old. lines_within room old ≡ xs ∷ [])) (sym past.1)
     (feed_past room old new c.next_line.new.line (rw c.in-Ok-Feed.field-0-is at c.in-Ok-Feed.ensures.line) past.0)
 
 pub returns-in-Ok-Input-clause-last : goal.returns-in-Ok-Input-clause-last
@@ -36,4 +36,4 @@ returns-in-Ok-Long-clause-last g c is =
     let room = c.args.room in
     let old = prepend_known c.args.reader.now (g.I.Source.left c.args.input.now) in
     let new = prepend_known c.next_line.new.self (g.I.Source.left c.next_line.new.source) in
-    subst (λ (xs : List ℕ). Told old (λ old. lines_within room old ≡ xs ∷ [])) (sym c.clear.ensures) (long_past room old new c.next_line.new.line (rw c.in-Ok-Long.field-0-is at c.in-Ok-Long.ensures.line))
+    subst (λ (xs : List ℕ). IfKnown old (λ old. lines_within room old ≡ xs ∷ [])) (sym c.clear.ensures) (long_past room old new c.next_line.new.line (rw c.in-Ok-Long.field-0-is at c.in-Ok-Long.ensures.line))

@@ -1,4 +1,4 @@
-use Rattle.mega_cause_laws.proofs.Told.{run_causes}
+use Rattle.mega_cause_laws.proofs.LogTells.{run_causes}
 use Rattle.mega_cause_laws.proofs.laws.answers_of_runs_have_their_causes.Goals as goal
 
 pub returns : goal.returns

@@ -3,7 +3,7 @@ use Rattle.mega_replica.specs.Applying.{after_read}
 use Rattle.mega_replica.specs.Following.{Follows, progress_at}
 use Rattle.mega_replica.specs.Stored.{stored_with}
 use Rattle.mega_rules.specs.Logs.{log_of}
-use Rattle.mega_stepping.specs.of_voter.Journal.{journal_of}
+use Rattle.mega_step_parts.specs.of_voter.Journal.{journal_of}
 use Rattle.mega_actions.proofs.of_node_laws.Logs.{log_is}
 use Rattle.mega_core.proofs.Anew.{read_all}
 use Rattle.mega_core.proofs.restarting.apply.Goals as goal

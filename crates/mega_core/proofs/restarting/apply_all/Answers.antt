@@ -3,8 +3,8 @@ use Rattle.std.specs.Vec.Iter.{into_iter_items, into_iter_len}
 use Rattle.mega_base.specs.declared.names.GroupId.{GroupId}
 use Rattle.mega_rules.specs.Steps.{start_note}
 use Rattle.mega_replica.specs.Following.{progress_at}
-use Rattle.mega_stepping.specs.Notes.{met_of}
-use Rattle.mega_stepping.proofs.Left.{nothing_left, one_less}
+use Rattle.mega_step_parts.specs.Notes.{met_of}
+use Rattle.mega_step_parts.proofs.Left.{nothing_left, one_less}
 use Rattle.mega_core.proofs.Anew.{AppliedSo, applied_first, applied_last, applied_next, noted}
 use Rattle.mega_core.proofs.restarting.apply_all.Goals as goal
 

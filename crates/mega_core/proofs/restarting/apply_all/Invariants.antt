@@ -4,9 +4,9 @@ use Rattle.mega_base.specs.declared.names.GroupId.{GroupId}
 use Rattle.mega_rules.specs.Met.{Met}
 use Rattle.mega_rules.specs.Logs.{groups_of, log_of}
 use Rattle.mega_rules.specs.Steps.{start_note}
-use Rattle.mega_stepping.specs.of_voter.Telling.{Tells}
+use Rattle.mega_step_parts.specs.of_voter.Telling.{Tells}
 use Rattle.mega_replica.specs.Following.{Follows, progress_at}
-use Rattle.mega_stepping.specs.Notes.{met_of}
+use Rattle.mega_step_parts.specs.Notes.{met_of}
 use Rattle.mega_core.proofs.Anew.{AppliedSo}
 use Rattle.mega_core.proofs.restarting.apply_all.Given as goal
 

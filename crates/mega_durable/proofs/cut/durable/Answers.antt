@@ -1,7 +1,7 @@
 use Rattle.std.proofs.Common.{◌≡◌, List, ap, filter, map, rules, ◌∙◌}
 use Rattle.std.proofs.lemmas.Fn.{filter_same}
-use Rattle.mega_core.specs.of_stepping.declared.note.Note.{Note}
-use Rattle.mega_core.specs.of_stepping.Notes.{met_of}
+use Rattle.mega_core.specs.of_step_parts.declared.note.Note.{Note}
+use Rattle.mega_core.specs.of_step_parts.Notes.{met_of}
 use Rattle.mega_promises.specs.Runs.{is_durable}
 use Rattle.mega_durable.proofs.Stepping.{kept_notes}
 use Rattle.mega_durable.proofs.cut.durable.Goals as goal

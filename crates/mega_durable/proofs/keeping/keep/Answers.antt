@@ -12,7 +12,7 @@ use Rattle.mega_rules.specs.Steps.{onto, step}
 use Rattle.mega_replica.specs.Following.{progress_at}
 use Rattle.mega_voter.specs.Holding.{HoldsMet}
 use Rattle.mega_core.specs.of_node_laws.Acted.{own_item}
-use Rattle.mega_core.specs.of_actions.of_proposing.Settings.{setting}
+use Rattle.mega_core.specs.of_actions.of_step_work.Settings.{setting}
 use Rattle.mega_core.specs.Represents.{Represents}
 use Rattle.mega_promises.specs.Runs.{appends, owes, replies_in}
 use Rattle.mega_durable.specs.Cut.{IsCut, IsWhole, LogProceeds, MayLeave}

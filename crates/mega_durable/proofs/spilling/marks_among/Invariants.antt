@@ -3,7 +3,7 @@ use Rattle.std.specs.Vec.Iter.{into_iter_items}
 use Rattle.mega_base.specs.declared.names.GroupId.{GroupId}
 use Rattle.mega_rules.specs.Met.{Met}
 use Rattle.mega_replica.specs.Following.{progress_at}
-use Rattle.mega_core.specs.of_stepping.Behind.{Keeps}
+use Rattle.mega_core.specs.of_step_parts.Behind.{Keeps}
 use Rattle.mega_durable.specs.Spilling.{mark_at}
 use Rattle.mega_durable.proofs.spilling.marks_among.Given as goal
 

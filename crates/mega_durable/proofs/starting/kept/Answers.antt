@@ -12,7 +12,7 @@ use Rattle.mega_wal.specs.Items.{IsItem, record_text}
 use Rattle.mega_wal.specs.Records.{flushed}
 use Rattle.mega_replica.specs.Following.{progress_at}
 use Rattle.mega_voter.specs.Holding.{GoesOn, HoldsMet, starts_after}
-use Rattle.mega_core.specs.of_actions.of_proposing.Settings.{setting}
+use Rattle.mega_core.specs.of_actions.of_step_work.Settings.{setting}
 use Rattle.mega_core.specs.Represents.{Represents}
 use Rattle.mega_durable.specs.Cut.{IsCutStart, IsWhole, LogProceeds, MayLeaveStart}
 use Rattle.mega_durable.specs.Standing.{records_in}

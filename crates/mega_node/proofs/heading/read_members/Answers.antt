@@ -1,7 +1,7 @@
 use Rattle.std.proofs.Common.{◌≡◌, Err, ap, subst, ◌∙◌}
 use Rattle.std.specs.Io.KnownBytes.{prepend_known}
 use Rattle.std.proofs.KnownBytes.{prepend_known-nil}
-use Rattle.mega_heading.specs.Known.{Breaks}
+use Rattle.mega_header.specs.Known.{Breaks}
 use Rattle.mega_node.specs.declared.stop.Stop.TheVariants.{Header}
 use Rattle.mega_node.proofs.Headers.{IsFound, broken, found, ok_headed}
 use Rattle.mega_node.proofs.heading.read_members.Goals as goal

@@ -1,4 +1,4 @@
-use Rattle.mega_node_laws.proofs.Told.{all_sent_told, sending_told}
+use Rattle.mega_node_laws.proofs.KeptBySending.{all_sent_told, sending_told}
 use Rattle.mega_node_laws.proofs.laws.what_is_met_stays_told.Goals as goal
 
 pub returns-clause-one : goal.returns-clause-one

@@ -1,5 +1,5 @@
 use Rattle.std.proofs.Common.{◌≡◌, ◌-◌, ◌∙◌, ap, refl, set, Err}
-use Rattle.mega_durable.specs.of_core.of_stepping.Events.{event_of}
+use Rattle.mega_durable.specs.of_core.of_step_parts.Events.{event_of}
 use Rattle.mega_places.specs.declared.place.Place.TheVariants.{Up}
 use Rattle.mega_places.proofs.Joining.{not_down}
 use Rattle.mega_places.proofs.Outcomes.{stands_at}

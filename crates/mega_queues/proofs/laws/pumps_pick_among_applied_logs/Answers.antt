@@ -1,5 +1,5 @@
 use Rattle.std.proofs.Common.{refl}
-use Rattle.mega_queues.proofs.Reached.{all_applied}
+use Rattle.mega_queues.proofs.HaveEntries.{all_applied}
 use Rattle.mega_queues.proofs.laws.pumps_pick_among_applied_logs.Goals as goal
 
 pub returns-clause-logs : goal.returns-clause-logs

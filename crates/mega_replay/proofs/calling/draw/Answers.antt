@@ -1,5 +1,5 @@
 use Rattle.mega_gen.specs.Generated.{generated}
-use Rattle.mega_writing.proofs.Progress.{whole_front}
+use Rattle.mega_replay_output.proofs.Progress.{whole_front}
 use Rattle.mega_replay.proofs.calling.draw.Goals as goal
 
 pub returns-in-Ok-clause-front : goal.returns-in-Ok-clause-front

@@ -1,7 +1,7 @@
 use Rattle.std.proofs.Common.{List, ℕ, ◌≡◌, subst}
 use Rattle.std.specs.Io.KnownBytes.{Appends}
 use Rattle.mega_replay.specs.Usage.{usage_line}
-use Rattle.mega_writing.proofs.Progress.{whole_front}
+use Rattle.mega_replay_output.proofs.Progress.{whole_front}
 use Rattle.mega_replay.proofs.calling.tell_usage.Goals as goal
 
 pub returns-in-Ok-clause-usage : goal.returns-in-Ok-clause-usage

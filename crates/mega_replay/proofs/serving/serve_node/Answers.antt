@@ -1,4 +1,4 @@
-use Rattle.mega_happening.proofs.Plain.{built_formed}
+use Rattle.mega_line_events.proofs.Plain.{built_formed}
 use Rattle.mega_meanings.specs.BuiltIn.{built_in}
 use Rattle.mega_replay.proofs.NodeHandlers.{built_mean}
 use Rattle.mega_replay.proofs.serving.serve_node.Goals as goal

@@ -2,8 +2,8 @@ use Rattle.std.proofs.Common.{◌≡◌, ◌∙◌, ◌+◌, ◌∷◌, ◌||◌
 use Rattle.std.proofs.lemmas.List.{drop_all, drop_more}
 use Rattle.std.specs.BTreeSet.{contains}
 use Rattle.mega_rules.specs.Steps.{onto}
-use Rattle.mega_stepping.specs.declared.note.Note.{Note}
-use Rattle.mega_stepping.specs.Notes.{met_of}
+use Rattle.mega_step_parts.specs.declared.note.Note.{Note}
+use Rattle.mega_step_parts.specs.Notes.{met_of}
 use Rattle.mega_safety.specs.Lapses.{is_lapse, lapse_cmp}
 use Rattle.mega_safety.proofs.Lapsing.{KeptSo, kept_all, kept_first, kept_next}
 use Rattle.mega_safety.proofs.safety.keep_lapses.Goals as goal

@@ -1,7 +1,7 @@
 use Rattle.std.proofs.Common.{ℕ, List, drop, map}
 use Rattle.mega_rules.specs.Met.{Met}
 use Rattle.mega_rules.specs.Steps.{onto}
-use Rattle.mega_stepping.specs.Notes.{met_of}
+use Rattle.mega_step_parts.specs.Notes.{met_of}
 use Rattle.mega_safety.specs.Lapses.{AreLapsesOf}
 use Rattle.mega_safety.proofs.Lapsing.{KeptSo}
 use Rattle.mega_safety.proofs.safety.keep_lapses.Given as goal

@@ -1,4 +1,4 @@
-use Rattle.mega_schema.proofs.Told.{given_by, parse_again, parse_tells}
+use Rattle.mega_schema.proofs.FromExact.{given_by, parse_again, parse_tells}
 use Rattle.mega_schema.proofs.verdict.parse.Goals as goal
 
 pub returns-clause-tells : goal.returns-clause-tells

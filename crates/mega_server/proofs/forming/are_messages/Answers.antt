@@ -1,6 +1,6 @@
 use Rattle.std.specs.List.{All}
 use Rattle.mega_wire.specs.Messages.{IsMessage}
-use Rattle.mega_formed.proofs.Deciding.{all_end, all_step}
+use Rattle.mega_well_formed.proofs.Deciding.{all_end, all_step}
 use Rattle.mega_server.proofs.forming.are_messages.Goals as goal
 
 pub loop-message-preserved : goal.loop-message-preserved

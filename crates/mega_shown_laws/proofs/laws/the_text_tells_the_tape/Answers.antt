@@ -1,4 +1,4 @@
-use Rattle.mega_shown_laws.proofs.Told.{text_tells}
+use Rattle.mega_shown_laws.proofs.OneTape.{text_tells}
 use Rattle.mega_shown_laws.proofs.laws.the_text_tells_the_tape.Goals as goal
 
 pub returns : goal.returns

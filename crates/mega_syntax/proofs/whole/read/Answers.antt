@@ -1,4 +1,4 @@
-use Rattle.mega_syntax.proofs.Told.{yields_by, read_again, text_tells}
+use Rattle.mega_syntax.proofs.FromExact.{yields_by, read_again, text_tells}
 use Rattle.mega_syntax.proofs.whole.read.Goals as goal
 
 pub returns-clause-tells : goal.returns-clause-tells

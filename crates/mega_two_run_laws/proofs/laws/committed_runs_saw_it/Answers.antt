@@ -1,7 +1,7 @@
 use Rattle.std.proofs.Common.{length, sym, ◌∙◌}
 use Rattle.mega_two_driver_laws.proofs.Saw.{begun_seen, recovered_seen}
 use Rattle.mega_two_turns.specs.Turns.{driven, start}
-use Rattle.mega_two_run_laws.specs.Tolds.{tolds}
+use Rattle.mega_two_run_laws.specs.TurnResults.{tolds}
 use Rattle.mega_two_run_laws.proofs.Recovering.{recovered_run}
 use Rattle.mega_two_run_laws.proofs.Turns.{goes, is_over}
 use Rattle.mega_two_run_laws.proofs.laws.committed_runs_saw_it.Goals as goal

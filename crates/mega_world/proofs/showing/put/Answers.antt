@@ -1,6 +1,6 @@
 use Rattle.std.proofs.Common.{[], ◌∷◌, ◌++◌, subst, sym}
 use Rattle.mega_places.specs.of_promises.of_transcript.declared.item.Item.TheVariants.{Unsafe}
-use Rattle.mega_places.specs.of_durable.of_core.of_stepping.Notes.{met_of}
+use Rattle.mega_places.specs.of_durable.of_core.of_step_parts.Notes.{met_of}
 use Rattle.mega_safety.specs.Lapses.{AreLapsesOf}
 use Rattle.mega_world.proofs.Behind.{behind, behind_where}
 use Rattle.mega_places.proofs.Breaking.{put_lines, put_tape, put_told}

@@ -2,10 +2,10 @@ use Rattle.std.proofs.Common.{None, rules, subst, sym}
 use Rattle.mega_meanings.proofs.Lasting.{means_still}
 use Rattle.mega_replica.specs.Used.{StoreUsed}
 use Rattle.mega_replica.proofs.Using.{used_then}
-use Rattle.mega_finishing.specs.of_voter.declared.voter.Voter.{Voter}
-use Rattle.mega_finishing.specs.of_voter.Telling.{Tells}
-use Rattle.mega_finishing.specs.Faults.{failed_by}
-use Rattle.mega_finishing.specs.of_proposing.Settings.{setting}
+use Rattle.mega_answers.specs.of_voter.declared.voter.Voter.{Voter}
+use Rattle.mega_answers.specs.of_voter.Telling.{Tells}
+use Rattle.mega_answers.specs.Faults.{failed_by}
+use Rattle.mega_answers.specs.of_step_work.Settings.{setting}
 use Rattle.mega_actions.proofs.Turned.{once_stands, once_work, twice_stands, twice_work}
 use Rattle.mega_actions.proofs.replica.Replica.acts.Goals as goal
 

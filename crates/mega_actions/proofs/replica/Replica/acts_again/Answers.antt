@@ -1,7 +1,7 @@
 use Rattle.std.proofs.Common.{◌≡◌, ◌∙◌, ◌+◌, suc, length, ap, arith}
 use Rattle.mega_rules.specs.Acting.{acts_within}
 use Rattle.mega_rules.specs.Logs.{groups_of}
-use Rattle.mega_finishing.specs.of_proposing.Settings.{setting}
+use Rattle.mega_answers.specs.of_step_work.Settings.{setting}
 use Rattle.mega_actions.proofs.replica.Replica.acts_again.Goals as goal
 
 pub returns-in_ok-acts_within-in-Ok-clause-acted : goal.returns-in_ok-acts_within-in-Ok-clause-acted

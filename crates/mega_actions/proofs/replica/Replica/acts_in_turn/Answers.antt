@@ -4,9 +4,9 @@ use Rattle.mega_rules.specs.Steps.{Heard, acts_in_turn}
 use Rattle.mega_replica.specs.Following.{progress_at}
 use Rattle.mega_actions.specs.IsAt.{IsAt}
 use Rattle.mega_actions.specs.StandsAt.{StandsAt}
-use Rattle.mega_finishing.specs.of_proposing.Settings.{setting}
+use Rattle.mega_answers.specs.of_step_work.Settings.{setting}
 use Rattle.mega_actions.specs.Turns.{IsHeardAbout}
-use Rattle.mega_finishing.specs.of_proposing.Working.{work_of}
+use Rattle.mega_answers.specs.of_step_work.Working.{work_of}
 use Rattle.mega_actions.proofs.replica.Replica.acts_in_turn.Goals as goal
 
 pub returns-in_ok-acts-in-Ok-clause-state : goal.returns-in_ok-acts-in-Ok-clause-state

@@ -1,17 +1,17 @@
 use Rattle.std.proofs.Common.{◌≡◌, ◌∙◌, ◌++◌, ◌∷◌, [], ap, rules, subst, sym}
-use Rattle.mega_finishing.specs.of_operations.Phases.{phase_of, promised_of}
-use Rattle.mega_finishing.specs.of_operations.Whole.{whole}
+use Rattle.mega_answers.specs.of_operations.Phases.{phase_of, promised_of}
+use Rattle.mega_answers.specs.of_operations.Whole.{whole}
 use Rattle.mega_rules.specs.Logs.{decided}
 use Rattle.mega_rules.specs.Operations.{Operation, Proposes, Reads}
 use Rattle.mega_rules.specs.Acting.{acts, keeps, unless_decided}
 use Rattle.mega_replica.specs.Following.{progress_at}
-use Rattle.mega_finishing.specs.of_node_laws.About.{IsAbout}
+use Rattle.mega_answers.specs.of_node_laws.About.{IsAbout}
 use Rattle.mega_outcome.specs.declared.request.Request.{Request}
-use Rattle.mega_finishing.specs.Asked.{IsNextAsked}
+use Rattle.mega_answers.specs.Asked.{IsNextAsked}
 use Rattle.mega_actions.specs.StandsAt.{StandsAt}
-use Rattle.mega_finishing.specs.of_proposing.declared.work.Work.{Work}
-use Rattle.mega_finishing.specs.of_proposing.Settings.{setting}
-use Rattle.mega_finishing.proofs.of_proposing.Doing.{unless_met, unless_stored}
+use Rattle.mega_answers.specs.of_step_work.declared.work.Work.{Work}
+use Rattle.mega_answers.specs.of_step_work.Settings.{setting}
+use Rattle.mega_answers.proofs.of_step_work.Doing.{unless_met, unless_stored}
 use Rattle.mega_actions.proofs.replica.Replica.acts_once.Goals as goal
 
 pub returns-then-stays-clause-acted : goal.returns-then-stays-clause-acted

@@ -2,7 +2,7 @@ use Rattle.std.proofs.Common.{◌≡◌, ◌∙◌, ◌-◌, ◌+◌, None, ap, 
 use Rattle.mega_meanings.proofs.Lasting.{means_still}
 use Rattle.mega_rules.specs.Acting.{acts_within, keeps}
 use Rattle.mega_replica.proofs.Using.{used_then}
-use Rattle.mega_finishing.specs.of_proposing.Settings.{setting}
+use Rattle.mega_answers.specs.of_step_work.Settings.{setting}
 use Rattle.mega_actions.proofs.Turned.{no_turn, one_turn}
 use Rattle.mega_actions.proofs.replica.Replica.acts_within.Goals as goal
 

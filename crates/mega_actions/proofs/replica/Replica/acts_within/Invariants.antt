@@ -2,7 +2,7 @@ use Rattle.std.proofs.Common.{◌≡◌, ◌-◌, true}
 use Rattle.std.specs.Prelude.{None}
 use Rattle.mega_handler.specs.Named.{Meanings}
 use Rattle.mega_meanings.specs.Means.{Means}
-use Rattle.mega_finishing.specs.of_node_laws.About.{IsAbout}
+use Rattle.mega_answers.specs.of_node_laws.About.{IsAbout}
 use Rattle.mega_rules.specs.Operations.{Now}
 use Rattle.mega_replica.specs.Used.{StoreUsed}
 use Rattle.mega_actions.specs.IsAt.{IsAt, setting_of}

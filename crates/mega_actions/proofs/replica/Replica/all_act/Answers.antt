@@ -6,11 +6,11 @@ use Rattle.mega_rules.specs.Operations.{Now}
 use Rattle.mega_rules.specs.Steps.{acts_in_turn}
 use Rattle.mega_replica.specs.Used.{StoreUsed}
 use Rattle.mega_replica.proofs.Using.{used_then}
-use Rattle.mega_finishing.specs.Faults.{failed_by}
+use Rattle.mega_answers.specs.Faults.{failed_by}
 use Rattle.mega_actions.specs.IsAt.{IsAt}
-use Rattle.mega_finishing.specs.of_proposing.Settings.{setting}
+use Rattle.mega_answers.specs.of_step_work.Settings.{setting}
 use Rattle.mega_actions.specs.Turns.{IsServableHeard, IsHeardAbout}
-use Rattle.mega_finishing.specs.of_proposing.Working.{work_of}
+use Rattle.mega_answers.specs.of_step_work.Working.{work_of}
 use Rattle.mega_actions.proofs.InTurn.{all_before, goes_next, of_last}
 use Rattle.mega_actions.proofs.replica.Replica.all_act.Goals as goal
 

@@ -8,7 +8,7 @@ use Rattle.mega_rules.specs.Steps.{acts_in_turn}
 use Rattle.mega_replica.specs.Used.{StoreUsed}
 use Rattle.mega_actions.specs.IsAt.{IsAt, setting_of}
 use Rattle.mega_actions.specs.Turns.{IsServableHeard, IsHeardAbout}
-use Rattle.mega_finishing.specs.of_proposing.Working.{work_of}
+use Rattle.mega_answers.specs.of_step_work.Working.{work_of}
 use Rattle.mega_actions.proofs.replica.Replica.all_act.Given as goal
 
 abbrev pub invariant-loop-one : goal.invariant-loop-one

@@ -1,17 +1,17 @@
 use Rattle.std.proofs.Common.{◌∙◌, fold, None, ap, subst, rules}
 use Rattle.std.proofs.lemmas.List.Elements.{All-rest}
 use Rattle.std.specs.Vec.Iter.{into_iter_items}
-use Rattle.mega_finishing.specs.of_node_laws.About.{IsAbout}
+use Rattle.mega_answers.specs.of_node_laws.About.{IsAbout}
 use Rattle.mega_meanings.proofs.Lasting.{means_still}
 use Rattle.mega_rules.specs.Operations.{Now, Setting}
 use Rattle.mega_rules.specs.Steps.{ticked}
 use Rattle.mega_replica.specs.Used.{StoreUsed}
 use Rattle.mega_replica.proofs.Using.{used_then}
-use Rattle.mega_finishing.specs.Faults.{failed_by}
+use Rattle.mega_answers.specs.Faults.{failed_by}
 use Rattle.mega_actions.specs.IsAt.{IsAt}
-use Rattle.mega_finishing.specs.of_proposing.Settings.{setting}
+use Rattle.mega_answers.specs.of_step_work.Settings.{setting}
 use Rattle.mega_actions.specs.Turns.{IsServable}
-use Rattle.mega_finishing.specs.of_proposing.Working.{work_of}
+use Rattle.mega_answers.specs.of_step_work.Working.{work_of}
 use Rattle.mega_actions.proofs.InTurn.{all_before, goes_next, of_last}
 use Rattle.mega_actions.proofs.replica.Replica.all_ticked.Goals as goal
 

@@ -3,13 +3,13 @@ use Rattle.std.specs.Prelude.{None}
 use Rattle.std.specs.Vec.Iter.{into_iter_items}
 use Rattle.mega_handler.specs.Named.{Meanings}
 use Rattle.mega_meanings.specs.Means.{Means}
-use Rattle.mega_finishing.specs.of_node_laws.About.{IsAbout}
+use Rattle.mega_answers.specs.of_node_laws.About.{IsAbout}
 use Rattle.mega_rules.specs.Operations.{Now}
 use Rattle.mega_rules.specs.Steps.{ticked}
 use Rattle.mega_replica.specs.Used.{StoreUsed}
 use Rattle.mega_actions.specs.IsAt.{IsAt, setting_of}
 use Rattle.mega_actions.specs.Turns.{IsServable}
-use Rattle.mega_finishing.specs.of_proposing.Working.{work_of}
+use Rattle.mega_answers.specs.of_step_work.Working.{work_of}
 use Rattle.mega_actions.proofs.replica.Replica.all_ticked.Given as goal
 
 abbrev pub invariant-loop-operation : goal.invariant-loop-operation

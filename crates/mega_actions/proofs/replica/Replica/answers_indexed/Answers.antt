@@ -1,8 +1,8 @@
 use Rattle.std.proofs.Common.{◌∙◌, sym, ap}
 use Rattle.mega_rules.specs.Clock.{clock_of}
 use Rattle.mega_actions.specs.StandsAt.{StandsAt}
-use Rattle.mega_finishing.specs.of_proposing.Settings.{setting}
-use Rattle.mega_finishing.specs.of_proposing.Working.{work_of}
+use Rattle.mega_answers.specs.of_step_work.Settings.{setting}
+use Rattle.mega_answers.specs.of_step_work.Working.{work_of}
 use Rattle.mega_replica.specs.Following.{progress_at}
 use Rattle.mega_actions.proofs.Begun.{begins_indexed, met_stays, stored_stays}
 use Rattle.mega_actions.proofs.replica.Replica.answers_indexed.Goals as goal

@@ -1,5 +1,5 @@
 use Rattle.std.proofs.Common.{◌≡◌, ◌∙◌, true, rules, sym}
-use Rattle.mega_finishing.specs.of_proposing.Servable.{is_indexed}
+use Rattle.mega_answers.specs.of_step_work.Servable.{is_indexed}
 use Rattle.mega_actions.proofs.replica.Replica.begins.Goals as goal
 
 pub returns-in-Ok-clause-indexed : goal.returns-in-Ok-clause-indexed

@@ -1,20 +1,20 @@
 use Rattle.std.proofs.Common.{◌∙◌, ap, subst, sym}
-use Rattle.mega_finishing.specs.of_pumps.Owns.{picks_by}
+use Rattle.mega_answers.specs.of_pumps.Owns.{picks_by}
 use Rattle.mega_rules.specs.Acting.{goes_on}
 use Rattle.mega_rules.specs.Clock.{clock_of}
 use Rattle.mega_rules.specs.Operations.{Now}
 use Rattle.mega_rules.specs.Steps.{new_operation}
-use Rattle.mega_finishing.specs.declared.pumping.Pumped.{Pumped}
-use Rattle.mega_finishing.specs.Asked.{IsAsked}
-use Rattle.mega_finishing.specs.of_proposing.Servable.{is_pump}
+use Rattle.mega_answers.specs.declared.pumping.Pumped.{Pumped}
+use Rattle.mega_answers.specs.Asked.{IsAsked}
+use Rattle.mega_answers.specs.of_step_work.Servable.{is_pump}
 use Rattle.mega_replica.specs.Following.{progress_at}
 use Rattle.mega_actions.specs.IsAt.{IsAt}
 use Rattle.mega_actions.specs.StandsAt.{StandsAt}
-use Rattle.mega_finishing.specs.Pumping.{pumped_by}
-use Rattle.mega_finishing.specs.of_proposing.Settings.{setting}
-use Rattle.mega_finishing.specs.of_proposing.Working.{work_of}
-use Rattle.mega_finishing.proofs.of_proposing.Doing.{does_met, does_stored}
-use Rattle.mega_finishing.proofs.Serving.{pump_about, pump_begins}
+use Rattle.mega_answers.specs.Pumping.{pumped_by}
+use Rattle.mega_answers.specs.of_step_work.Settings.{setting}
+use Rattle.mega_answers.specs.of_step_work.Working.{work_of}
+use Rattle.mega_answers.proofs.of_step_work.Doing.{does_met, does_stored}
+use Rattle.mega_answers.proofs.Serving.{pump_about, pump_begins}
 use Rattle.mega_actions.proofs.replica.Replica.begins_pump.Goals as goal
 
 pub returns-in_ok-does-in-Done-clause-state : goal.returns-in_ok-does-in-Done-clause-state

@@ -3,8 +3,8 @@ use Rattle.mega_rules.specs.Clock.{clock_of}
 use Rattle.mega_rules.specs.Operations.{Now}
 use Rattle.mega_rules.specs.Steps.{new_operation}
 use Rattle.mega_actions.specs.IsAt.{IsAt}
-use Rattle.mega_finishing.specs.of_proposing.Settings.{setting}
-use Rattle.mega_finishing.specs.of_proposing.Working.{work_of}
+use Rattle.mega_answers.specs.of_step_work.Settings.{setting}
+use Rattle.mega_answers.specs.of_step_work.Working.{work_of}
 use Rattle.mega_actions.proofs.Begun.{begins_in_turn}
 use Rattle.mega_actions.proofs.replica.Replica.begins_read.Goals as goal
 

@@ -1,10 +1,10 @@
 use Rattle.std.proofs.Common.{None, rules}
 use Rattle.mega_rules.specs.Acting.{completes_read}
-use Rattle.mega_finishing.proofs.of_node_laws.Completed.{completed_applied}
+use Rattle.mega_answers.proofs.of_node_laws.Completed.{completed_applied}
 use Rattle.mega_replica.specs.Used.{StoreUsed}
 use Rattle.mega_replica.proofs.Using.{used_then}
-use Rattle.mega_finishing.specs.Faults.{failed_by}
-use Rattle.mega_finishing.specs.of_proposing.Settings.{setting}
+use Rattle.mega_answers.specs.Faults.{failed_by}
+use Rattle.mega_answers.specs.of_step_work.Settings.{setting}
 use Rattle.mega_actions.proofs.replica.Replica.completes.Goals as goal
 
 pub returns-clause-acted : goal.returns-clause-acted

@@ -1,9 +1,9 @@
 use Rattle.std.proofs.Common.{◌∙◌, sym}
 use Rattle.mega_rules.specs.Acting.{finishes}
 use Rattle.mega_rules.specs.Operations.{Now, Operation}
-use Rattle.mega_finishing.specs.of_proposing.Reaching.{operation_of}
-use Rattle.mega_finishing.specs.of_proposing.Settings.{setting}
-use Rattle.mega_finishing.proofs.Serving.{never_again}
+use Rattle.mega_answers.specs.of_step_work.Reaching.{operation_of}
+use Rattle.mega_answers.specs.of_step_work.Settings.{setting}
+use Rattle.mega_answers.proofs.Serving.{never_again}
 use Rattle.mega_actions.proofs.replica.Replica.goes_by.Goals as goal
 
 pub returns-then-is_pump-clause-acted : goal.returns-then-is_pump-clause-acted

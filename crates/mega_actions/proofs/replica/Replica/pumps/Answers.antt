@@ -1,12 +1,12 @@
 use Rattle.std.proofs.Common.{◌∙◌, Option, ap, subst, sym}
 use Rattle.mega_replica.specs.Following.{progress_at}
 use Rattle.mega_rules.specs.Operations.{Operation}
-use Rattle.mega_finishing.specs.Asked.{IsNextAbout, IsNextAsked}
-use Rattle.mega_finishing.specs.Pumping.{pumped_after, then_again}
-use Rattle.mega_finishing.specs.Stands.{Stands}
-use Rattle.mega_finishing.specs.of_proposing.Settings.{setting}
-use Rattle.mega_finishing.proofs.Serving.{next_about, next_asked, pumped_met, pumped_stored, pumped_then}
-use Rattle.mega_finishing.proofs.Standing.{stands_seen}
+use Rattle.mega_answers.specs.Asked.{IsNextAbout, IsNextAsked}
+use Rattle.mega_answers.specs.Pumping.{pumped_after, then_again}
+use Rattle.mega_answers.specs.RepresentsMet.{RepresentsMet}
+use Rattle.mega_answers.specs.of_step_work.Settings.{setting}
+use Rattle.mega_answers.proofs.Serving.{next_about, next_asked, pumped_met, pumped_stored, pumped_then}
+use Rattle.mega_answers.proofs.Standing.{stands_seen}
 use Rattle.mega_actions.proofs.replica.Replica.pumps.Goals as goal
 
 pub returns-clause-acted : goal.returns-clause-acted
@@ -21,7 +21,7 @@ returns-clause-acted g c h now told means pump le at =
     record {
       after = pumped_after now pumped;
       stands = record {
-        stands = coe 0 1 (i. Stands s before.voter.logs.kept before.leases (version new.rows) (progress_at (sym c.pumps.ensures.progress i)) (sym (pumped_met now pumped) i) (sym (pumped_stored now pumped) i)) seen;
+        stands = coe 0 1 (i. RepresentsMet s before.voter.logs.kept before.leases (version new.rows) (progress_at (sym c.pumps.ensures.progress i)) (sym (pumped_met now pumped) i) (sym (pumped_stored now pumped) i)) seen;
         noted = c.in_ok-pumped.ensures.noted now.met now.stored at.stands.tells le at.stands.follows at.noted;
       };
       work = λ was. c.in_ok-next.ensures.work now was;

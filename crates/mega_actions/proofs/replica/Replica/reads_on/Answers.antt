@@ -1,13 +1,13 @@
 use Rattle.std.proofs.Common.{◌∙◌, ◌≤◌, ◌+◌, ap, subst, sym}
 use Rattle.std.specs.Prelude.{nat_le}
-use Rattle.mega_finishing.specs.of_operations.Whole.{whole}
+use Rattle.mega_answers.specs.of_operations.Whole.{whole}
 use Rattle.mega_read.specs.Catching.{seeks}
 use Rattle.mega_rules.specs.Clock.{clock_of}
 use Rattle.mega_rules.specs.Logs.{prefix_of}
 use Rattle.mega_rules.specs.Operations.{Operation, Reads}
 use Rattle.mega_rules.specs.Acting.{keeps, reader_of, seeks_on}
-use Rattle.mega_finishing.specs.of_proposing.Settings.{setting}
-use Rattle.mega_finishing.specs.of_proposing.Working.{work_of}
+use Rattle.mega_answers.specs.of_step_work.Settings.{setting}
+use Rattle.mega_answers.specs.of_step_work.Working.{work_of}
 use Rattle.mega_actions.proofs.Onward.{polls, reaches, seeks_least}
 use Rattle.mega_actions.proofs.replica.Replica.reads_on.Goals as goal
 

@@ -2,14 +2,14 @@ use Rattle.std.proofs.Common.{◌≡◌, ◌∙◌, [], false, sym, ap, refl, ru
 use Rattle.mega_rules.specs.Operations.{Now}
 use Rattle.mega_rules.specs.Acting.{ends}
 use Rattle.mega_rules.specs.Steps.{Heard, acts_in_turn}
-use Rattle.mega_finishing.proofs.of_node_laws.Lasting.{does_due_about}
+use Rattle.mega_answers.proofs.of_node_laws.Lasting.{does_due_about}
 use Rattle.mega_replica.specs.Following.{progress_at}
-use Rattle.mega_finishing.specs.of_proposing.Servable.{is_open}
+use Rattle.mega_answers.specs.of_step_work.Servable.{is_open}
 use Rattle.mega_actions.specs.IsAt.{IsAt}
 use Rattle.mega_actions.specs.StandsAt.{StandsAt}
-use Rattle.mega_finishing.specs.of_proposing.Settings.{setting}
+use Rattle.mega_answers.specs.of_step_work.Settings.{setting}
 use Rattle.mega_actions.specs.Turns.{IsHeardAbout}
-use Rattle.mega_finishing.specs.of_proposing.Working.{work_of}
+use Rattle.mega_answers.specs.of_step_work.Working.{work_of}
 use Rattle.mega_actions.proofs.InTurn.{due_request, ticked_due, ticked_out}
 use Rattle.mega_actions.proofs.replica.Replica.ticked.Goals as goal
 

@@ -5,17 +5,17 @@ use Rattle.mega_rules.specs.Members.{has_rows}
 use Rattle.mega_rules.specs.Met.{Begins}
 use Rattle.mega_rules.specs.Steps.{Step as RuleStep, op_of}
 use Rattle.mega_replica.specs.Following.{progress_at}
-use Rattle.mega_actions.specs.of_proposing.Settings.{setting}
-use Rattle.mega_stepping.specs.declared.note.Note.{Note}
-use Rattle.mega_taking.specs.Beginning.{has_begun}
-use Rattle.mega_stepping.specs.Notes.{met_of}
-use Rattle.mega_stepping.specs.Positions.{before_at}
-use Rattle.mega_lagging.specs.Lagging.{KnowsLagging}
-use Rattle.mega_taking.specs.Represents.{Represents}
-use Rattle.mega_stepping.specs.Staging.{Stages}
-use Rattle.mega_stepping.specs.Touching.{begun_groups}
+use Rattle.mega_actions.specs.of_step_work.Settings.{setting}
+use Rattle.mega_step_parts.specs.declared.note.Note.{Note}
+use Rattle.mega_node_events.specs.Beginning.{has_begun}
+use Rattle.mega_step_parts.specs.Notes.{met_of}
+use Rattle.mega_step_parts.specs.Positions.{before_at}
+use Rattle.mega_lag.specs.Lagging.{KnowsLagging}
+use Rattle.mega_node_events.specs.Represents.{Represents}
+use Rattle.mega_step_parts.specs.Staging.{Stages}
+use Rattle.mega_step_parts.specs.Touching.{begun_groups}
 use Rattle.mega_core.proofs.Begun.{begin_is, begin_may, represents_keeps}
-use Rattle.mega_stepping.proofs.Staged.{silent_staged}
+use Rattle.mega_step_parts.proofs.Staged.{silent_staged}
 use Rattle.mega_core.proofs.Lags.{begin_kept, others_kept}
 use Rattle.mega_core.proofs.Untouched.{begin_noted}
 use Rattle.mega_core.proofs.Watched.{watched_noted}

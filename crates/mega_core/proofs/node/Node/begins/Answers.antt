@@ -4,8 +4,8 @@ use Rattle.mega_rules.specs.Members.{kind_of}
 use Rattle.mega_rules.specs.Operations.{Operation}
 use Rattle.mega_rules.specs.Steps.{at_first, at_open, missing_kind}
 use Rattle.mega_replica.specs.Following.{progress_at}
-use Rattle.mega_actions.specs.of_proposing.Settings.{setting}
-use Rattle.mega_actions.specs.of_proposing.Working.{work_of}
+use Rattle.mega_actions.specs.of_step_work.Settings.{setting}
+use Rattle.mega_actions.specs.of_step_work.Working.{work_of}
 use Rattle.mega_core.proofs.Begun.{begun_acts}
 use Rattle.mega_core.proofs.node.Node.begins.Goals as goal
 

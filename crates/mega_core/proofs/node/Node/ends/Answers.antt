@@ -4,11 +4,11 @@ use Rattle.mega_rules.specs.Met.{Met, Sends}
 use Rattle.mega_rules.specs.Steps.{onto}
 use Rattle.mega_actions.specs.of_node_laws.Sending.{MaySend}
 use Rattle.mega_replica.specs.Following.{progress_at}
-use Rattle.mega_stepping.specs.of_voter.Telling.{Tells}
-use Rattle.mega_actions.specs.of_proposing.Settings.{setting}
-use Rattle.mega_stepping.specs.Staging.{Stages}
-use Rattle.mega_stepping.specs.Behind.{is_behind}
-use Rattle.mega_lagging.specs.Lagging.{is_watched, lags}
+use Rattle.mega_step_parts.specs.of_voter.Telling.{Tells}
+use Rattle.mega_actions.specs.of_step_work.Settings.{setting}
+use Rattle.mega_step_parts.specs.Staging.{Stages}
+use Rattle.mega_step_parts.specs.Behind.{is_behind}
+use Rattle.mega_lag.specs.Lagging.{is_watched, lags}
 use Rattle.mega_core.proofs.Ended.{acted_tells, step_behind, step_made, step_staged}
 use Rattle.mega_core.proofs.Lags.{lags_then}
 use Rattle.mega_core.proofs.node.Node.ends.Goals as goal

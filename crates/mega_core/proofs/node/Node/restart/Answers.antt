@@ -3,12 +3,12 @@ use Rattle.mega_cluster.specs.declared.cluster.Cluster.{Cluster}
 use Rattle.mega_rules.specs.Logs.{log_of}
 use Rattle.mega_rules.specs.Met.{Starts}
 use Rattle.mega_rules.specs.Steps.{onto, start, start_notes}
-use Rattle.mega_stepping.specs.of_leases.Tells.{Tells as TellsLeases}
+use Rattle.mega_step_parts.specs.of_leases.Tells.{Tells as TellsLeases}
 use Rattle.mega_replica.specs.Following.{Follows, progress_at}
-use Rattle.mega_stepping.specs.of_voter.Telling.{Tells}
-use Rattle.mega_actions.specs.of_proposing.Settings.{setting}
-use Rattle.mega_lagging.specs.Lagging.{KnowsLagging}
-use Rattle.mega_taking.specs.Represents.{Represents}
+use Rattle.mega_step_parts.specs.of_voter.Telling.{Tells}
+use Rattle.mega_actions.specs.of_step_work.Settings.{setting}
+use Rattle.mega_lag.specs.Lagging.{KnowsLagging}
+use Rattle.mega_node_events.specs.Represents.{Represents}
 use Rattle.mega_core.specs.Restarting.{HaveFollowed, applied_at_start}
 use Rattle.mega_actions.proofs.of_pumps.Lasting.{anew_noted}
 use Rattle.mega_core.proofs.Anew.{followed_on, restarted}

@@ -7,14 +7,14 @@ use Rattle.mega_rules.specs.Met.{Takes}
 use Rattle.mega_rules.specs.Steps.{Step as RuleStep, Take, decision_note, hears_message, stored_after, told_notes}
 use Rattle.mega_replica.specs.Following.{progress_at}
 use Rattle.mega_actions.specs.of_node_laws.Acted.{acted_on, decision_in}
-use Rattle.mega_actions.specs.of_proposing.Settings.{setting}
+use Rattle.mega_actions.specs.of_step_work.Settings.{setting}
 use Rattle.mega_actions.specs.Turns.{IsServable}
-use Rattle.mega_stepping.specs.Positions.{before_at}
-use Rattle.mega_lagging.specs.Lagging.{KnowsLagging}
-use Rattle.mega_taking.specs.Represents.{Represents}
-use Rattle.mega_stepping.specs.Staging.{Stages}
-use Rattle.mega_taking.specs.Taking.{has_taken}
-use Rattle.mega_stepping.specs.Touching.{touched}
+use Rattle.mega_step_parts.specs.Positions.{before_at}
+use Rattle.mega_lag.specs.Lagging.{KnowsLagging}
+use Rattle.mega_node_events.specs.Represents.{Represents}
+use Rattle.mega_step_parts.specs.Staging.{Stages}
+use Rattle.mega_node_events.specs.Taking.{has_taken}
+use Rattle.mega_step_parts.specs.Touching.{touched}
 use Rattle.mega_core.proofs.Begun.{represents_keeps}
 use Rattle.mega_core.proofs.Messages.{heard_are_about, heard_are_built, take_acts, take_is, take_may}
 use Rattle.mega_core.proofs.Refused.{unserved_is}

@@ -8,18 +8,18 @@ use Rattle.mega_replica.specs.Following.{progress_at}
 use Rattle.mega_replica.proofs.Using.{used_then}
 use Rattle.mega_actions.specs.of_node_laws.About.{IsAbout}
 use Rattle.mega_actions.specs.of_node_laws.Acted.{acted_on}
-use Rattle.mega_actions.specs.of_proposing.Settings.{setting}
+use Rattle.mega_actions.specs.of_step_work.Settings.{setting}
 use Rattle.mega_actions.specs.Turns.{IsServable}
-use Rattle.mega_taking.specs.Faults.{failed_by}
-use Rattle.mega_stepping.specs.Positions.{before_at}
-use Rattle.mega_lagging.specs.Lagging.{KnowsLagging}
-use Rattle.mega_taking.specs.Represents.{Represents}
-use Rattle.mega_stepping.specs.Staging.{Stages}
-use Rattle.mega_taking.specs.Ticking.{has_ticked}
-use Rattle.mega_stepping.specs.Touching.{behind}
+use Rattle.mega_node_events.specs.Faults.{failed_by}
+use Rattle.mega_step_parts.specs.Positions.{before_at}
+use Rattle.mega_lag.specs.Lagging.{KnowsLagging}
+use Rattle.mega_node_events.specs.Represents.{Represents}
+use Rattle.mega_step_parts.specs.Staging.{Stages}
+use Rattle.mega_node_events.specs.Ticking.{has_ticked}
+use Rattle.mega_step_parts.specs.Touching.{behind}
 use Rattle.mega_core.proofs.Begun.{represents_keeps}
 use Rattle.mega_core.proofs.Clocks.{tick_acts, tick_is, tick_may}
-use Rattle.mega_taking.proofs.Failing.{acted_store}
+use Rattle.mega_node_events.proofs.Failing.{acted_store}
 use Rattle.mega_core.proofs.Refused.{unserved_is}
 use Rattle.mega_core.proofs.Anew.{few_stored}
 use Rattle.mega_core.proofs.Lags.{others_kept, tick_kept}

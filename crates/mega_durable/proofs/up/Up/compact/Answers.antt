@@ -1,7 +1,7 @@
 use Rattle.std.proofs.Common.{◌∙◌, subst, sym}
 use Rattle.mega_wal.specs.declared.kept.Kept.{Kept}
 use Rattle.mega_replica.specs.Following.{progress_at}
-use Rattle.mega_core.specs.of_actions.of_proposing.Settings.{setting}
+use Rattle.mega_core.specs.of_actions.of_step_work.Settings.{setting}
 use Rattle.mega_core.specs.Represents.{Represents}
 use Rattle.mega_durable.proofs.up.Up.compact.Goals as goal
 

@@ -1,6 +1,6 @@
 use Rattle.std.proofs.Common.{Err, ap, ◌∙◌, sym, subst}
 use Rattle.mega_core.specs.Faults.{of_store}
-use Rattle.mega_core.specs.of_taking.declared.fault.StepFault.{StepFault}
+use Rattle.mega_core.specs.of_node_events.declared.fault.StepFault.{StepFault}
 use Rattle.mega_durable.specs.declared.fault.UpFault.TheVariants.{Step as Failed}
 use Rattle.mega_durable.specs.Spilling.{SpillUsed}
 use Rattle.mega_durable.proofs.AfterSpill.{bad_of, failed_same, used_told, full_of, keeps_up, still_up}

@@ -6,9 +6,9 @@ use Rattle.mega_rules.specs.Met.{Starts}
 use Rattle.mega_rules.specs.Steps.{onto, start, start_notes}
 use Rattle.mega_voter.specs.Holding.{HoldsMet}
 use Rattle.mega_voter.proofs.Begun.{start_goes_on}
-use Rattle.mega_core.specs.of_actions.of_proposing.Settings.{setting}
-use Rattle.mega_core.specs.of_stepping.declared.note.Note.{Note}
-use Rattle.mega_core.specs.of_stepping.Notes.{met_of}
+use Rattle.mega_core.specs.of_actions.of_step_work.Settings.{setting}
+use Rattle.mega_core.specs.of_step_parts.declared.note.Note.{Note}
+use Rattle.mega_core.specs.of_step_parts.Notes.{met_of}
 use Rattle.mega_core.proofs.Anew.{owed_no_start}
 use Rattle.mega_durable.specs.Cut.{IsCutStart, IsWhole, LogProceeds, MayLeaveStart}
 use Rattle.mega_durable.specs.Starting.{IsCutOff, IsRefused, LeavesStart}

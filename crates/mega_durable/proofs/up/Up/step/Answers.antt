@@ -2,10 +2,10 @@ use Rattle.std.proofs.Common.{Err, length, ◌≡◌, ◌∙◌, ◌+◌, List, 
 use Rattle.mega_cluster.specs.declared.cluster.Cluster.{Cluster}
 use Rattle.mega_disk.specs.Images.{LeavesOnly}
 use Rattle.mega_rules.specs.Steps.{step}
-use Rattle.mega_core.specs.of_stepping.Events.{event_of}
+use Rattle.mega_core.specs.of_step_parts.Events.{event_of}
 use Rattle.mega_replica.specs.Used.{StoreUsed}
-use Rattle.mega_core.specs.of_stepping.declared.step.Step.{Step}
-use Rattle.mega_core.specs.of_stepping.Notes.{met_of}
+use Rattle.mega_core.specs.of_step_parts.declared.step.Step.{Step}
+use Rattle.mega_core.specs.of_step_parts.Notes.{met_of}
 use Rattle.mega_promises.specs.Runs.{replies_in}
 use Rattle.mega_durable.specs.Cut.{LogProceeds, MayLeave, log_fault_in}
 use Rattle.mega_durable.specs.Standing.{records_in, setting_of}

@@ -1,5 +1,5 @@
 use Rattle.std.proofs.Common.{◌&&◌, ◌∷◌, [], ap, if◌then◌else◌, ◌∙◌}
-use Rattle.mega_coordinator.specs.History.{Ticks as Told, epoch_after}
+use Rattle.mega_coordinator.specs.History.{Ticks as CoordinatorTicks, epoch_after}
 use Rattle.mega_rules.specs.Clock.{start_of}
 use Rattle.mega_rules.specs.Members.{is_full}
 use Rattle.mega_rules.specs.Coordinators.{acquires, coordinator_calls}
@@ -27,7 +27,7 @@ returns-clause-lapse_notes c s met tells =
 pub returns-clause-acquires : goal.returns-clause-acquires
 returns-clause-acquires c cluster me met tells =
     c.in_ok-sends.ensures cluster me _ _ _ _ (c.advance-due.ensures.state cluster me _ _ _ _ tells)
-    ∙ ap (λ due. if is_full cluster me && due then acquires cluster me (Told c.args.now ∷ coordinator_calls cluster met) (start_of met) c.args.now (epoch_after (start_of met) cluster.cells (Told c.args.now ∷ coordinator_calls cluster met)) else [])
+    ∙ ap (λ due. if is_full cluster me && due then acquires cluster me (CoordinatorTicks c.args.now ∷ coordinator_calls cluster met) (start_of met) c.args.now (epoch_after (start_of met) cluster.cells (CoordinatorTicks c.args.now ∷ coordinator_calls cluster met)) else [])
     (c.advance-due.ensures.again cluster me _ _ _ _ tells)
 
 pub returns-clause-state : goal.returns-clause-state

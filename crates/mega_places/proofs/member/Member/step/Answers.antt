@@ -1,7 +1,7 @@
 use Rattle.std.proofs.Common.{◌+◌, ◌∙◌, ap, Err, refl, subst, sym}
 use Rattle.mega_durable.specs.declared.fault.UpFault.TheVariants.{Step as Failed}
 use Rattle.mega_rules.specs.Operations.{Setting}
-use Rattle.mega_durable.specs.of_core.of_stepping.Events.{event_of}
+use Rattle.mega_durable.specs.of_core.of_step_parts.Events.{event_of}
 use Rattle.mega_durable.specs.Standing.{MayHappen}
 use Rattle.mega_places.specs.declared.member.Member.{Member}
 use Rattle.mega_places.specs.Members.{node_in, records_of}

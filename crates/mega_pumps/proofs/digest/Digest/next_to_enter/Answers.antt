@@ -2,7 +2,7 @@ use Rattle.std.proofs.Common.{◌≡◌, ◌∙◌, List, ap, subst, sym}
 use Rattle.mega_base.specs.declared.names.GroupId.{GroupId}
 use Rattle.mega_queues.specs.Applied.{applied_of}
 use Rattle.mega_queues.specs.Boxes.{AreAll, logs_of}
-use Rattle.mega_queues.proofs.Reached.{all_applied}
+use Rattle.mega_queues.proofs.HaveEntries.{all_applied}
 use Rattle.mega_rules.specs.Queues.{next_to_enter}
 use Rattle.mega_pumps.specs.Picks.{picked_message}
 use Rattle.mega_pumps.proofs.digest.Digest.next_to_enter.Goals as goal

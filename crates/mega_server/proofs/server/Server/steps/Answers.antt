@@ -1,6 +1,6 @@
 use Rattle.std.proofs.Common.{◌≡◌, ◌+◌, ◌≤◌, if◌then◌else◌, map}
 use Rattle.mega_rules.specs.Steps.{step}
-use Rattle.mega_durable.specs.of_core.of_stepping.Notes.{met_of}
+use Rattle.mega_durable.specs.of_core.of_step_parts.Notes.{met_of}
 use Rattle.mega_promises.specs.Runs.{appends}
 use Rattle.mega_durable.specs.Standing.{IsUp, records_in}
 use Rattle.mega_serve.specs.Stepping.{event_of}

@@ -1,5 +1,5 @@
 use Rattle.std.specs.Prelude.{option_copied}
-use Rattle.mega_voter.proofs.Told.{best_told}
+use Rattle.mega_voter.proofs.KeptTells.{best_told}
 use Rattle.mega_voter.proofs.voter.Voter.best.Goals as goal
 
 pub returns : goal.returns

@@ -1,5 +1,5 @@
 use Rattle.std.specs.Prelude.{option_copied}
-use Rattle.mega_voter.proofs.Told.{decided_told}
+use Rattle.mega_voter.proofs.KeptTells.{decided_told}
 use Rattle.mega_voter.proofs.voter.Voter.decided.Goals as goal
 
 pub returns : goal.returns

@@ -1,4 +1,4 @@
-use Rattle.mega_voter.proofs.Told.{deciding_told, first_told}
+use Rattle.mega_voter.proofs.KeptTells.{deciding_told, first_told}
 use Rattle.mega_voter.proofs.voter.Voter.decides.Goals as goal
 
 pub returns-clause-exact : goal.returns-clause-exact

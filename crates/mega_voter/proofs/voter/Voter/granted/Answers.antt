@@ -1,4 +1,4 @@
-use Rattle.mega_voter.proofs.Told.{granted_told}
+use Rattle.mega_voter.proofs.KeptTells.{granted_told}
 use Rattle.mega_voter.proofs.voter.Voter.granted.Goals as goal
 
 pub returns : goal.returns

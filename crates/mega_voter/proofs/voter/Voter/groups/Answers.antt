@@ -1,4 +1,4 @@
-use Rattle.mega_voter.proofs.Told.{groups_told}
+use Rattle.mega_voter.proofs.KeptTells.{groups_told}
 use Rattle.mega_voter.proofs.voter.Voter.groups.Goals as goal
 
 pub returns : goal.returns

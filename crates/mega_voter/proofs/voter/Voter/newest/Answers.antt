@@ -1,4 +1,4 @@
-use Rattle.mega_voter.proofs.Told.{newest_told}
+use Rattle.mega_voter.proofs.KeptTells.{newest_told}
 use Rattle.mega_voter.proofs.voter.Voter.newest.Goals as goal
 
 pub returns : goal.returns

@@ -1,4 +1,4 @@
-use Rattle.mega_voter.proofs.Told.{prefix_told}
+use Rattle.mega_voter.proofs.KeptTells.{prefix_told}
 use Rattle.mega_voter.proofs.voter.Voter.prefix.Goals as goal
 
 pub returns : goal.returns

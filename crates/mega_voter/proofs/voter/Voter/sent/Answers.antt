@@ -1,6 +1,6 @@
 use Rattle.std.proofs.Common.{sym, ap, ◌∙◌}
 use Rattle.mega_wire.specs.declared.message.Body.TheVariants.{Accepted}
-use Rattle.mega_voter.proofs.Told.{accept_staged, accept_told, promise_staged, promise_told}
+use Rattle.mega_voter.proofs.KeptTells.{accept_staged, accept_told, promise_staged, promise_told}
 use Rattle.mega_voter.proofs.voter.Voter.sent.Goals as goal
 
 pub returns-in_ok-_answer-in-Promise-clause-state : goal.returns-in_ok-_answer-in-Promise-clause-state

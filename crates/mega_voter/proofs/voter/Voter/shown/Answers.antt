@@ -1,4 +1,4 @@
-use Rattle.mega_voter.proofs.Told.{shown_told}
+use Rattle.mega_voter.proofs.KeptTells.{shown_told}
 use Rattle.mega_voter.proofs.voter.Voter.shown.Goals as goal
 
 pub returns : goal.returns

@@ -1,4 +1,4 @@
-use Rattle.mega_voter.proofs.Told.{top_told}
+use Rattle.mega_voter.proofs.KeptTells.{top_told}
 use Rattle.mega_voter.proofs.voter.Voter.top.Goals as goal
 
 pub returns : goal.returns

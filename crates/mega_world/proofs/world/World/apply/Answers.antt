@@ -5,7 +5,7 @@ use Rattle.mega_places.specs.of_promises.of_transcript.declared.item.Item.{Item}
 use Rattle.mega_places.specs.of_promises.of_transcript.Lines.{HasLine}
 use Rattle.mega_places.specs.of_promises.of_transcript.Tape.{newest}
 use Rattle.mega_places.specs.of_promises.Runs.{after_event, by_fuse}
-use Rattle.mega_world.specs.Stands.{StandsWith}
+use Rattle.mega_world.specs.AtRun.{StandsWith}
 use Rattle.mega_world.proofs.Behind.{added_is, at_is, none_in_hand}
 use Rattle.mega_world.proofs.world.World.apply.Goals as goal
 

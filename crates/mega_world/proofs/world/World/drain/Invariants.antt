@@ -5,7 +5,7 @@ use Rattle.mega_places.specs.of_promises.of_schedule.declared.world_event.WorldE
 use Rattle.mega_places.specs.of_promises.of_transcript.declared.item.Item.{Item}
 use Rattle.mega_places.specs.of_promises.Runs.{Standing}
 use Rattle.mega_world.specs.Formed.{IsSound}
-use Rattle.mega_world.specs.Stands.{StandsWith}
+use Rattle.mega_world.specs.AtRun.{StandsWith}
 use Rattle.mega_world.proofs.Emptying.{Reaches}
 use Rattle.mega_world.proofs.world.World.drain.Given as goal
 

@@ -3,7 +3,7 @@ use Rattle.mega_disk.specs.declared.pair.Device.{Device}
 use Rattle.mega_disk.specs.declared.pair.Device.TheVariants.{Data, Log}
 use Rattle.mega_places.specs.of_promises.Runs.{fused}
 use Rattle.mega_world.specs.declared.world.World.{World}
-use Rattle.mega_world.specs.Stands.{StandsWith}
+use Rattle.mega_world.specs.AtRun.{StandsWith}
 use Rattle.mega_world.proofs.Fused.{data_nodes, fused_at, log_nodes}
 use Rattle.mega_world.proofs.world.World.fuses.Goals as goal
 

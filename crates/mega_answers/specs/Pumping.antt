@@ -1,0 +1,36 @@
+-- What a pump does whose read is complete: it is done, or acts again in the same step with the read of another group.
+use Rattle.std.specs.Prelude.{Bool, true, false, Option, Some, None}
+use Rattle.mega_outcome.specs.declared.request.Request.{Request}
+use Rattle.mega_outcome.specs.declared.request.Request.TheVariants.{Txn, Batch, Read, Find, PumpEnter, PumpHandle, Refresh}
+use Rattle.mega_rules.specs.Operations.{Now, Operation}
+use Rattle.mega_rules.specs.Acting.{sends_more}
+use Rattle.mega_answers.specs.declared.pumping.Pumped.{Pumped}
+use Rattle.mega_answers.specs.declared.pumping.Pumped.TheVariants.{Again, Done}
+use Rattle.mega_step_work.specs.Actions.{does}
+
+-- whether it enters messages
+abbrev pub is_entering : Request → Bool
+is_entering (Txn transaction) = false
+is_entering (Batch group transactions) = false
+is_entering (Read request) = false
+is_entering (Find request) = false
+is_entering PumpEnter = true
+is_entering PumpHandle = false
+is_entering Refresh = false
+
+abbrev pub pumped_by : (Now → Operation → Now) → Now → Pumped → Now
+pumped_by again now (Done action) = does now action
+pumped_by again now (Again heard) = again (sends_more now heard.sends) heard.operation
+
+-- the moment after it, and the operation that acts again there
+abbrev pub pumped_after : Now → Pumped → Now
+pumped_after now (Done action) = does now action
+pumped_after now (Again heard) = sends_more now heard.sends
+
+abbrev pub next_of : Pumped → Option Operation
+next_of (Done action) = None
+next_of (Again heard) = Some heard.operation
+
+abbrev pub then_again : (Now → Operation → Now) → Now → Option Operation → Now
+then_again again now None = now
+then_again again now (Some o) = again now o

@@ -1,8 +1,0 @@
-use Rattle.std.proofs.Common.{◌≡◌, drop}
-use Rattle.std.specs.Prelude.{sum_by}
-use Rattle.mega_entry.specs.declared.content.Cut.{Cut}
-use Rattle.mega_formed.proofs.Deciding.{Decides}
-use Rattle.mega_formed.proofs.cuts.have_sends.Given as goal
-
-abbrev pub invariant-loop-cut : goal.invariant-loop-cut
-invariant-loop-cut l = Decides (sum_by (λ (cut : Cut). cut.sends) (drop l.cut-index l.cuts) ≡ l.left) (sum_by (λ (cut : Cut). cut.sends) l.cuts ≡ l.sends)

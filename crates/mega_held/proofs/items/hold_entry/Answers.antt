@@ -1,5 +1,0 @@
-use Rattle.mega_held.proofs.EntryTexts.{entry_bytes}
-use Rattle.mega_held.proofs.items.hold_entry.Goals as goal
-
-pub returns : goal.returns
-returns c = (entry_bytes c.args.entry.now c.requires c.hold.ensures).all

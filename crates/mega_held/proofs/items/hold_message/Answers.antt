@@ -1,5 +1,0 @@
-use Rattle.mega_held.proofs.MessageTexts.{message_bytes}
-use Rattle.mega_held.proofs.items.hold_message.Goals as goal
-
-pub returns : goal.returns
-returns c = (message_bytes c.args.message.now c.requires c.hold.ensures).all

@@ -1,9 +1,0 @@
-pub mod Left
-pub mod Sent
-pub mod Portions
-pub mod Groups
-mod Unheard
-pub use Rattle.mega_keeping.proofs.Staged
-pub use Rattle.mega_proposing.proofs.of_voter as of_voter
-pub use Rattle.mega_proposing.proofs.of_leases as of_leases
-pub use Rattle.mega_proposing.proofs.of_operations as of_operations

@@ -1,7 +1,0 @@
-use Rattle.std.proofs.Common.{◌≡◌, ◌++◌, map}
-use Rattle.std.specs.Vec.Iter.{into_iter_items}
-use Rattle.mega_stepping.specs.Notes.{met_of}
-use Rattle.mega_stepping.proofs.joining.add_notes.Given as goal
-
-abbrev pub invariant-loop-note : goal.invariant-loop-note
-invariant-loop-note l = map met_of l.notes ++ map met_of (into_iter_items l.note-iterator) ≡ map met_of l.initial.notes ++ map met_of (into_iter_items l.initial.note-iterator)

@@ -1,5 +1,0 @@
-use Rattle.mega_transcript_reading.proofs.LineEnds.{same_tape}
-use Rattle.mega_transcript_reading.proofs.laws.text_tells_tape.Goals as goal
-
-pub returns : goal.returns
-returns c = same_tape

@@ -1,5 +1,0 @@
-use Rattle.mega_two.proofs.Whole.{changes_atomic}
-use Rattle.mega_two.proofs.laws.changes_are_atomic.Goals as goal
-
-pub returns : goal.returns
-returns c = changes_atomic

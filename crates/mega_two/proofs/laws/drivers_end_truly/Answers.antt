@@ -1,5 +1,0 @@
-use Rattle.mega_two.proofs.Whole.{endings_true}
-use Rattle.mega_two.proofs.laws.drivers_end_truly.Goals as goal
-
-pub returns : goal.returns
-returns c = endings_true
