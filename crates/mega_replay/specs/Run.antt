@@ -1,5 +1,5 @@
 -- What a call of the program came to: the page that the contract of `run` rests on, one record for each form of its words. What the words are is in
--- `mega_words` (`Commands`), what a replayed input and its tape are in `mega_replay_loop` (`Known`) and `mega_line_events` (`Running`), what a node made of its
+-- `mega_words` (`Commands`), what a replayed input and its tape are in `mega_replay_loop` (`Replaying`) and `mega_line_events` (`Running`), what a node made of its
 -- turns in `mega_node` (`Calls`), what a backup is in `mega_backup_words`, and how a change is driven in `mega_two_words`.
 use Rattle.std.specs.Prelude.{◌≡◌, ◌≢◌, ◌⊎◌, ◌≤◌, ◌++◌, ℕ, true, false, List, Option, Some, None}
 use Rattle.std.specs.Io.KnownBytes.{Appends, IsAtEnd}
@@ -9,7 +9,7 @@ use Rattle.mega_cluster.specs.declared.cluster.Cluster.{Cluster}
 use Rattle.mega_disk.specs.declared.disk.Disk.{Ghosts as DiskGhosts}
 use Rattle.mega_disk.specs.declared.pair.Pair.{Pair}
 use Rattle.mega_io.specs.Pieces.{AppendsFront}
-use Rattle.mega_header.specs.Known.{HeaderFails, IfKnown}
+use Rattle.mega_header.specs.Known.{HeaderFails, IfKnown, Passes}
 use Rattle.mega_words.specs.declared.command.Report.{Report}
 use Rattle.mega_handler.specs.Named.{Meanings}
 use Rattle.mega_checkpoint.specs.Format.{list_of}
@@ -17,7 +17,7 @@ use Rattle.mega_wal.specs.Records.{first_bad}
 use Rattle.mega_gen.specs.Generated.{generated}
 use Rattle.mega_replay_output.specs.LastLines.{header_line, limit_line, refused_line, schedule_line}
 use Rattle.mega_replay_output.specs.Statuses.{IsCutStatus}
-use Rattle.mega_replay_loop.specs.Known.{InputBroken, InputCut, InputDone, InputFailed, InputNoEvent, InputPastLast, InputRefused}
+use Rattle.mega_replay_loop.specs.Replaying.{InputIsBroken, InputIsCut, InputIsDone, InputIsFailed, InputIsNoEvent, InputIsPastLast, InputIsRefused}
 use Rattle.mega_node.specs.Calls.{HasRun, IsCut}
 use Rattle.mega_node.specs.Headers.{IsBroken, IsHeaded, header_line as node_header_line}
 use Rattle.mega_node.specs.Outside.{OnlyWrites, Outside}
@@ -46,15 +46,15 @@ pub record HasDrawn (seed count nodes : ℕ) (before after : Option (List ℕ)) 
 -- `replay`: the text of what its lines made of the cluster was written, or its eight counts. With 0 every line happened; with 3, 4 and 10 the lines before the
 -- one that is told, and that line; with 5 those that the bytes before the fault spell; and a front of such a text where it was cut
 pub record HasReplayed (report : Report) (input rest before after : Option (List ℕ)) (SinkFailed : Type 0) (status : ℕ) : Type 0 where
-  pub done : status ≡ 0 → InputDone report input (Appends before after)
+  pub done : status ≡ 0 → IfKnown input (λ input. InputIsDone report input (Appends before after))
   pub end : status ≡ 0 → IsAtEnd rest
-  pub header : status ≡ 3 → (rule : ℕ) × InputBroken input rule (λ text. Appends before after (text ++ header_line rule))
+  pub header : status ≡ 3 → (rule : ℕ) × IfKnown input (λ input. InputIsBroken input rule (λ text. Appends before after (text ++ header_line rule)))
   pub refused : status ≡ 4
-      → ((line : ℕ) × (reason : ℕ) × InputNoEvent report input line reason (λ text. Appends before after (text ++ schedule_line line reason)))
-      ⊎ ((line : ℕ) × (why : ℕ) × InputRefused report input line why (λ text. Appends before after (text ++ refused_line line why)))
-  pub limit : status ≡ 10 → (line : ℕ) × InputPastLast report input line (λ text. Appends before after (text ++ limit_line line))
-  pub broken : status ≡ 5 → InputFailed report input rest (Appends before after) ⊎ SinkFailed
-  pub cut : IsCutStatus status → InputCut report input (AppendsFront before after)
+      → ((line : ℕ) × (reason : ℕ) × IfKnown input (λ input. InputIsNoEvent report input line reason (λ text. Appends before after (text ++ schedule_line line reason))))
+      ⊎ ((line : ℕ) × (why : ℕ) × IfKnown input (λ input. InputIsRefused report input line why (λ text. Appends before after (text ++ refused_line line why))))
+  pub limit : status ≡ 10 → (line : ℕ) × IfKnown input (λ input. InputIsPastLast report input line (λ text. Appends before after (text ++ limit_line line)))
+  pub broken : status ≡ 5 → Passes input rest (λ input rest. InputIsFailed report input rest (Appends before after)) ⊎ SinkFailed
+  pub cut : IsCutStatus status → IfKnown input (λ input. InputIsCut report input (AppendsFront before after))
 
 -- `node`: the node of this number was to make so many turns, with these handlers, and ended with this status. With all turns made its record is held, what stands there was
 -- sent, and its log holds what it met; a header that breaks a rule is told of, and nothing else is done; at every other end a front of what there
