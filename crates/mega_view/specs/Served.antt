@@ -1,7 +1,7 @@
 -- Which clusters are served: what the header of a cluster says that was read.
 use Rattle.std.specs.Prelude.{◌≡◌, ◌⊎◌, ◌≤◌, ◌<◌, ◌+◌, ◌^◌, length}
 use Rattle.mega_cluster.specs.declared.cluster.Cluster.{Cluster}
-use Rattle.mega_actions.specs.of_view.Small.{IsSmall}
+use Rattle.mega_view.specs.Small.{IsSmall}
 
 -- at most 9 nodes; 1, 3 or 5 cells, and no more than nodes; a lease of at most a billion milliseconds, which ends with its margin within
 -- the numbers of clocks; a log of at most a million entries; and a schema that a text can declare
