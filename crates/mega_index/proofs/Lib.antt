@@ -1,6 +1,7 @@
 pub mod SameLemmas
 pub use Rattle.mega_row_writes.proofs.Turning
 pub mod Ordered
+pub mod KeyLists
 pub mod Ascending
 pub mod Slots
 pub mod Hinting
