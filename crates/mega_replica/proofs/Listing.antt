@@ -1,5 +1,5 @@
 -- A scan of the range of a group's keys is the list of its rows.
-use Rattle.std.proofs.Common.{◌≡◌, ◌⊎◌, inl, inr, ⊎_elim, ◌∙◌, ap, sym, ℕ, ◌≤◌, List, [], take, Option, Some, None}
+use Rattle.std.proofs.Common.{◌≡◌, ◌⊎◌, inl, inr, ⊎_elim, ◌∙◌, ap, sym, ℕ, ◌≤◌, List, [], take, Some, None}
 use Rattle.mega_base.specs.declared.values.Row.{Row}
 use Rattle.mega_base.specs.declared.names.GroupId.{GroupId}
 use Rattle.mega_disk.specs.VersionMaps.{IsScan, IsWithin, Versions, row_at}

@@ -1,5 +1,5 @@
 -- What stands under a key among entries with one value under several keys, and in lists one behind the other.
-use Rattle.std.proofs.Common.{◌≡◌, ◌⊎◌, inl, inr, ◌∙◌, ap, sym, refl, ℕ, Bool, true, false, cond, List, [], ◌∷◌, ◌++◌, Option, Some, None}
+use Rattle.std.proofs.Common.{◌≡◌, ◌⊎◌, inl, inr, ◌∙◌, ap, sym, refl, ℕ, Bool, true, false, cond, List, [], ◌∷◌, ◌++◌, Some, None}
 use Rattle.std.specs.BTreeMap.{insert_entry}
 use Rattle.mega_index.specs.Rows.{key_cmp, same_key}
 use Rattle.mega_index.specs.Entries.{placed}
