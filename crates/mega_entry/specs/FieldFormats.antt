@@ -1,5 +1,5 @@
 -- Formats of the fields of items and messages, each with a value that fits.
-use Rattle.std.proofs.Common.{◌≡◌, ℕ, ◌≤◌, List, [], ◌++◌, refl, arith}
+use Rattle.std.proofs.Common.{ℕ, List, [], ◌++◌, refl, arith}
 use Rattle.mega_base.specs.Codec.{number_text, nested_text, IsNested, OpensNested}
 use Rattle.mega_base.specs.Names.{node_at, node_text, IsNode, position_text, IsPositionIn, epoch_at, epoch_text, IsEpoch, group_at, group_text, IsGroup}
 use Rattle.mega_base.specs.NameLaws.{node_codec, position_codec, epoch_codec, group_codec}

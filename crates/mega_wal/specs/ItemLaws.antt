@@ -1,15 +1,14 @@
 -- The laws of this format.
-use Rattle.std.proofs.Common.{◌≡◌, ℕ, ◌+◌, ◌≤◌, Bool, true, false, List, [], ◌∷◌, ◌++◌, length, refl, ◌∙◌, ap, subst, Ok, Result, arith}
-use Rattle.std.specs.Prelude.{◌==◌, if◌then◌else◌, ◌≢◌}
+use Rattle.std.proofs.Common.{◌≡◌, ℕ, ◌+◌, ◌≤◌, true, false, List, [], ◌∷◌, ◌++◌, length, refl, ◌∙◌, ap, subst, Ok, Result, arith}
+use Rattle.std.specs.Prelude.{◌==◌, ◌≢◌}
 use Rattle.std.proofs.lemmas.Bool.{eqb-false}
 use Rattle.std.proofs.lemmas.Bool.Decides.{nat_tests}
 use Rattle.mega_base.specs.Reading.{Place, place, Read, ◌>>=◌, byte_in}
 use Rattle.mega_base.specs.Pairs.{IsPair}
-use Rattle.mega_base.specs.Codec.{number_text, Codec, BytesBetween, IsText, IsBetween, one_byte, nested_text, IsNested, OpensNested}
-use Rattle.mega_base.specs.Names.{u32_at, u32_text, IsU32, node_at, node_text, IsNode, position_text, IsPositionIn, epoch_at, epoch_text, IsEpoch, group_at, group_text, IsGroup}
-use Rattle.mega_base.specs.NameLaws.{u32_codec, node_codec, position_codec, epoch_codec, group_codec}
-use Rattle.mega_base.specs.Codecs.{byte_codec, bind_codec, embed_codec, ok_parts}
-use Rattle.mega_base.specs.Whole.{nested_codec}
+use Rattle.mega_base.specs.Codec.{Codec, BytesBetween, IsBetween, one_byte, IsNested}
+use Rattle.mega_base.specs.Names.{u32_at, u32_text, IsU32, IsNode, position_text, IsPositionIn, IsEpoch, group_text, IsGroup}
+use Rattle.mega_base.specs.NameLaws.{u32_codec}
+use Rattle.mega_base.specs.Codecs.{byte_codec, bind_codec, ok_parts}
 use Rattle.mega_base.specs.declared.names.NodeId.{NodeId}
 use Rattle.mega_base.specs.declared.names.Position.{Position}
 use Rattle.mega_base.specs.declared.names.Epoch.{Epoch}
@@ -17,14 +16,13 @@ use Rattle.mega_base.specs.declared.names.GroupId.{GroupId}
 use Rattle.mega_acceptor.specs.of_ballot.Ballots.{ballot_at, ballot_text, zero_op, IsBallot}
 use Rattle.mega_acceptor.specs.of_ballot.BallotLaws.{ballot_codec}
 use Rattle.mega_acceptor.specs.of_ballot.declared.ballot.Ballot.{Ballot}
-use Rattle.mega_acceptor.specs.of_entry.Entries.{entry_at, entry_text, IsEntry}
+use Rattle.mega_acceptor.specs.of_entry.Entries.{entry_text, IsEntry}
 use Rattle.mega_acceptor.specs.of_entry.Formats.{Format, Open, both, before, embed_open, if_open, open_of}
 use Rattle.mega_acceptor.specs.of_entry.FieldFormats.{entry_open, epoch_format, group_format, node_format, position_format, shown_entry}
-use Rattle.mega_acceptor.specs.of_entry.EntryLaws.{entry_codec, some_entry}
 use Rattle.mega_acceptor.specs.of_entry.declared.content.Content.{Content}
 use Rattle.mega_wal.specs.declared.item.JournalItem.{JournalItem}
 use Rattle.mega_wal.specs.declared.item.JournalItem.TheVariants.{Start, Promise, Accept, Decide, Grant, Lapse, Starts}
-use Rattle.mega_wal.specs.Items.{item_position_at, entry_field_at, promise_fields, accept_fields, decide_fields, lock_fields, item_of, item_at, kind_of, fields_with, IsItemWith, fields_text, item_text, IsItem, OpensItem}
+use Rattle.mega_wal.specs.Items.{promise_fields, accept_fields, decide_fields, lock_fields, item_of, item_at, kind_of, fields_with, IsItemWith, fields_text, item_text, IsItem, OpensItem}
 
 -- the formats of the fields
 ballot_format : Format ballot_at ballot_text IsBallot

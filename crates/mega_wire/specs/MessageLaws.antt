@@ -1,17 +1,16 @@
 -- The laws of this format.
-use Rattle.std.proofs.Common.{◌≡◌, ℕ, zero, suc, ◌+◌, ◌<◌, ◌≤◌, ◌^◌, Bool, true, false, List, [], ◌∷◌, ◌++◌, length, refl, sym, ◌∙◌, ap, subst, Ok, Option, Some, None, arith}
+use Rattle.std.proofs.Common.{◌≡◌, ℕ, zero, ◌+◌, ◌≤◌, Bool, true, false, List, [], ◌∷◌, ◌++◌, length, refl, sym, ◌∙◌, ap, subst, Ok, Option, Some, None, arith}
 use Rattle.std.specs.Prelude.{◌==◌, if◌then◌else◌, ◌≢◌}
 use Rattle.std.proofs.lemmas.Bool.{eqb-false}
 use Rattle.std.proofs.lemmas.Bool.Decides.{nat_tests}
-use Rattle.mega_base.specs.Reading.{Place, Read, ◌>>=◌, byte_in, number_in, option_at, nested_at}
+use Rattle.mega_base.specs.Reading.{Place, Read, ◌>>=◌, byte_in, option_at}
 use Rattle.mega_base.specs.Pairs.{pair_at, pair_text, IsPair, OpensPair}
-use Rattle.mega_base.specs.Codec.{number_text, Codec, IsText, IsBetween, one_byte, option_text, IsOption, bytes_text, nested_text, IsNested, OpensNested}
-use Rattle.mega_base.specs.Names.{u64_at, u64_text, IsU64, node_at, node_text, IsNode, position_in, position_text, IsPositionIn, epoch_at, epoch_text, IsEpoch, op_at, op_text, IsOp, string_at, IsString, group_at, group_text, IsGroup}
-use Rattle.mega_base.specs.NameLaws.{u64_codec, node_codec, position_codec, epoch_codec, op_codec, string_codec, group_codec}
-use Rattle.mega_base.specs.Codecs.{byte_codec, bind_codec, embed_codec, refit_codec, if_codec}
+use Rattle.mega_base.specs.Codec.{Codec, IsBetween, one_byte, option_text, IsOption, bytes_text, nested_text, IsNested, OpensNested}
+use Rattle.mega_base.specs.Names.{u64_at, u64_text, IsU64, IsNode, position_text, IsPositionIn, IsEpoch, op_at, op_text, IsOp, string_at, IsString, group_text, IsGroup}
+use Rattle.mega_base.specs.NameLaws.{u64_codec, position_codec, op_codec, string_codec}
+use Rattle.mega_base.specs.Codecs.{byte_codec, bind_codec, refit_codec}
 use Rattle.mega_base.specs.Digits.{number_codec}
 use Rattle.mega_base.specs.Lists.{option_codec}
-use Rattle.mega_base.specs.Whole.{nested_codec}
 use Rattle.mega_base.specs.declared.names.NodeId.{NodeId}
 use Rattle.mega_base.specs.declared.names.Position.{Position}
 use Rattle.mega_base.specs.declared.names.Epoch.{Epoch}
@@ -20,15 +19,14 @@ use Rattle.mega_base.specs.declared.names.GroupId.{GroupId}
 use Rattle.mega_ballot.specs.Ballots.{ballot_at, ballot_text, zero_op, IsBallot}
 use Rattle.mega_ballot.specs.BallotLaws.{ballot_codec}
 use Rattle.mega_ballot.specs.declared.ballot.Ballot.{Ballot}
-use Rattle.mega_entry.specs.Entries.{entry_at, entry_text, IsEntry}
+use Rattle.mega_entry.specs.Entries.{entry_text, IsEntry}
 use Rattle.mega_entry.specs.Formats.{Format, Open, both, before, embed_open, if_open, open_of}
 use Rattle.mega_entry.specs.FieldFormats.{entry_open, epoch_format, group_format, node_format, position_format, shown_entry}
-use Rattle.mega_entry.specs.EntryLaws.{entry_codec, some_entry}
 use Rattle.mega_entry.specs.declared.content.Content.{Content}
 use Rattle.mega_wire.specs.declared.message.Message.{Message}
 use Rattle.mega_wire.specs.declared.message.Body.{Body}
 use Rattle.mega_wire.specs.declared.message.Body.TheVariants.{Where, Top, Accept, Accepted, Refused, Prepare, Promise, Invalidate, Invalidated, Dead, Held, Unheld, Decide, Fetch, Have, HaveNot, Acquire, Granted, Past, Request, Reply}
-use Rattle.mega_wire.specs.Messages.{message_position_at, top_position_at, cell_at, clock_at, entry_field_at, accept_fields, acquire_fields, dead_fields, decide_fields, have_fields, invalidate_fields, past_fields, prepare_fields, promise_fields, refused_fields, request_fields, top_fields, where_fields, body_of, kind_of, body_with, IsBodyWith, body_text, IsBody, least_from, greatest_from, least_to, greatest_to, addressed_at, kinded_at, mark_at, message_at, message_with, message_text, IsMessageWith, IsMessage, OpensMessage}
+use Rattle.mega_wire.specs.Messages.{top_position_at, cell_at, clock_at, entry_field_at, accept_fields, acquire_fields, dead_fields, decide_fields, have_fields, invalidate_fields, past_fields, prepare_fields, promise_fields, refused_fields, request_fields, top_fields, where_fields, body_of, kind_of, body_with, IsBodyWith, body_text, IsBody, least_from, greatest_from, least_to, greatest_to, addressed_at, kinded_at, mark_at, message_at, message_text, IsMessageWith, IsMessage, OpensMessage}
 
 -- the formats of the fields
 op_format : Format op_at op_text IsOp
