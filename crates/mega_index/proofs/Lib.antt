@@ -5,7 +5,6 @@ pub mod KeyLists
 pub mod Ascending
 pub mod Slots
 pub mod Hinting
-pub mod Places
 pub mod Fronts
 pub mod Wanting
 pub mod Joined
