@@ -81,7 +81,7 @@ module _ (record_of : List ℕ → List ℕ) (first : List ℕ → Option (List 
   records_chain (body ∷ bodies) rest short behind =
       let long : 0 < length (flat_map record_of bodies ++ rest) = omega (arith, length-append (flat_map record_of bodies) rest) in
       ap records_of (append_assoc (record_of body) (flat_map record_of bodies) rest)
-      ∙ records_more (record_of body ++ flat_map record_of bodies ++ rest) body (flat_map record_of bodies ++ rest) (is.whole body (flat_map record_of bodies ++ rest) short.0 long)
+      ∙ records_more (record_of body ++ (flat_map record_of bodies ++ rest)) body (flat_map record_of bodies ++ rest) (is.whole body (flat_map record_of bodies ++ rest) short.0 long)
       ∙ ap (λ (l : List (List ℕ)). body ∷ l) (records_chain bodies rest short.1 behind)
 
   -- up to a closed gate the records are these, whatever stands behind it
