@@ -7,11 +7,12 @@ use Rattle.std.specs.Map.{lookup}
 use Rattle.std.specs.BTreeMap.{get}
 use Rattle.std.specs.BTreeSet.{BTreeSet, contains}
 use Rattle.std.proofs.lemmas.Map.Entries.{lookup-filter-keys}
+use Rattle.std.proofs.lemmas.Bool.{and_parts}
 use Rattle.mega_index.specs.declared.hints.Place.{Place}
 use Rattle.mega_row_writes.specs.Rows.{key_cmp, same_key}
 use Rattle.mega_index.specs.Hints.{is_place, is_among}
 use Rattle.mega_index.specs.Wanted.{Wanted, is_in, is_wanted, begins, KeepsWanted, PlacesWanted}
-use Rattle.mega_index.proofs.Ordered.{Below, Ascends, by_test, both_true}
+use Rattle.mega_index.proofs.Ordered.{Below, Ascends, by_test}
 use Rattle.mega_index.proofs.Fronts.{at_or_after, between}
 use Rattle.mega_row_writes.proofs.Turning.{same_key-Decides}
 
@@ -53,7 +54,7 @@ set_kept old new key updated k h = updated k ∙ by (same_key key k)
 pub place_wanted : (wanted : Wanted) (place : Place) → is_wanted wanted place.group place.key ≡ true
     → (group key : List ℕ) → is_place group key place ≡ true → is_wanted wanted group key ≡ true
 place_wanted wanted place h group key is =
-    let parts : (same_key group place.group ≡ true) × (same_key key place.key ≡ true) = both_true (same_key group place.group) (same_key key place.key) is in
+    let parts : (same_key group place.group ≡ true) × (same_key key place.key ≡ true) = and_parts (same_key group place.group) (same_key key place.key) is in
     ap (λ g. is_wanted wanted g key) ((same_key-Decides group place.group).0 parts.0)
     ∙ ap (is_wanted wanted place.group) ((same_key-Decides key place.key).0 parts.1) ∙ h
 

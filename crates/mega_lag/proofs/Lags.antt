@@ -15,7 +15,7 @@ use Rattle.mega_replica.specs.Applying.{applied}
 use Rattle.mega_rules.specs.Logs.{groups_of}
 use Rattle.mega_rules.specs.Met.{Met}
 use Rattle.mega_step_parts.specs.Behind.{is_behind}
-use Rattle.mega_step_parts.proofs.Groups.{has, no_log}
+use Rattle.mega_rules.proofs.Groups.{has, no_log}
 use Rattle.mega_step_parts.proofs.of_voter.Grouped.{groups_sorted, sorted_same}
 use Rattle.mega_lag.specs.Lagging.{lags}
 

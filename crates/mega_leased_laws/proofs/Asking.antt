@@ -1,12 +1,13 @@
 -- The operations of a node act one after another: each that noted an epoch began its poll while that epoch served, and asked no group before that it
 -- did not read.
-use Rattle.std.proofs.Common.{ℕ, ◌≡◌, ◌⊎◌, inl, inr, zero, suc, ◌+◌, ◌==◌, ◌||◌, ◌≤◌, ◌<◌, nat_le, nat_lt, Bool, true, false, cond, List, [], ◌∷◌, ◌++◌, length, map, fold, Option, Some, None, refl, sym, ap, ◌∙◌, subst, arith}
+use Rattle.std.proofs.Common.{ℕ, ◌≡◌, ◌⊎◌, inl, inr, zero, suc, ◌+◌, ◌||◌, ◌≤◌, ◌<◌, nat_le, nat_lt, Bool, true, false, cond, List, [], ◌∷◌, ◌++◌, length, map, fold, Option, Some, None, refl, sym, ap, ◌∙◌, subst, arith}
 use Rattle.std.proofs.lemmas.Bool.Decides.{nat_tests}
 use Rattle.std.specs.List.{list_any}
-use Rattle.std.proofs.lemmas.Bool.{or_parts, and_parts, or_from, and_left, and_right}
+use Rattle.std.proofs.lemmas.Bool.{or_parts, or_from, and_left, and_right}
 use Rattle.mega_base.specs.declared.names.Epoch.{Epoch}
 use Rattle.mega_base.specs.declared.names.GroupId.{GroupId}
 use Rattle.mega_base.specs.declared.names.OpId.{OpId}
+use Rattle.mega_locks.proofs.Marks.{same_is}
 use Rattle.mega_cluster.specs.declared.cluster.Cluster.{Cluster}
 use Rattle.mega_coordinator.specs.Groups.{is_same, refusal as not_valid}
 use Rattle.mega_coordinator.specs.History.{beaten, serving}
@@ -255,12 +256,6 @@ validate_same c base met group p h = record { serves = serves_by (serves_at c me
 record Lawful (now : Option Epoch) (least p : ℕ) (noted : Epoch) : Type 0 where
   serves : now ≡ Some noted
   above : least ≤ p
-
-pub same_is : (a b : Epoch) → is_same a b ≡ true → a ≡ b
-same_is a b h = let parts = and_parts (a.start == b.start) (a.count == b.count) h in λ i. record { start = is_number a.start b.start parts.0 i; count = is_number a.count b.count parts.1 i }
-  where
-    is_number : (x y : ℕ) → (x == y) ≡ true → x ≡ y
-    is_number x y k = grind (arith, nat_tests)
 
 not_less : (p least : ℕ) → nat_lt p least ≡ false → least ≤ p
 not_less p least h = grind (arith, nat_tests)

@@ -1,7 +1,6 @@
 //! Rows by their keys, and the writes that turn some of them into others.
 #![tactic(auto)]
 
-mod same;
 mod writes;
 
 pub use mega_entry;

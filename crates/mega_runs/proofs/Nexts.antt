@@ -6,7 +6,8 @@ use Rattle.std.proofs.lemmas.Bool.Decides.{nat_tests}
 use Rattle.std.proofs.lemmas.List.{drop-drop, take-take}
 use Rattle.mega_chain.specs.Chain.{record_of, first_record}
 use Rattle.mega_runs.specs.Opening.{size_in, IsNextBody, IsNext}
-use Rattle.mega_chain.proofs.Records.{IsBytes, SpelledIn, spelled_in}
+use Rattle.mega_disk.proofs.Chains.{IsBytes}
+use Rattle.mega_chain.proofs.Records.{SpelledIn, spelled_in}
 
 short_tail : (l : List ℕ) → length l < 10 → first_record l ≡ None
 short_tail [] few = refl

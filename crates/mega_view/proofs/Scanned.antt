@@ -9,7 +9,7 @@ use Rattle.mega_index.specs.Rows.{Listed, Rows, same_key}
 use Rattle.mega_index.specs.Fitted.{is_key_of, table_of}
 use Rattle.mega_outcome.specs.declared.answer.Shown.{Shown}
 use Rattle.mega_outcome.specs.Answers.{rows_at}
-use Rattle.mega_view.proofs.Lists.{key_is, same_self}
+use Rattle.mega_index.proofs.KeyLists.{key_is, same_self}
 use Rattle.mega_view.specs.Keys.{AreBytes, IsNamed}
 use Rattle.mega_view.specs.TableRows.{AreTableRows}
 use Rattle.mega_view.specs.Scanning.{AreThrough, Found, HaveByteKeys, with_row, with_rows}
