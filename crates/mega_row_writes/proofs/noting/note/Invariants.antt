@@ -1,7 +1,7 @@
 use Rattle.std.proofs.Common.{◌≡◌, drop}
-use Rattle.mega_index.specs.Rows.{Rows, written}
-use Rattle.mega_outcome.specs.Answers.{seen}
-use Rattle.mega_outcome.proofs.changing.note.Given as goal
+use Rattle.mega_row_writes.specs.Rows.{Rows, written}
+use Rattle.mega_row_writes.specs.Pending.{seen}
+use Rattle.mega_row_writes.proofs.noting.note.Given as goal
 
 abbrev pub invariant-loop-write : goal.invariant-loop-write
 invariant-loop-write l =

@@ -1,9 +1,9 @@
 use Rattle.std.proofs.Common.{◌∙◌, ap, sym, ◌+◌, ◌∷◌, List, drop}
 use Rattle.std.proofs.lemmas.List.{at_drop_more}
-use Rattle.mega_index.specs.of_entry.declared.content.Write.{Write}
-use Rattle.mega_index.specs.Rows.{written}
-use Rattle.mega_outcome.specs.Answers.{seen}
-use Rattle.mega_outcome.proofs.changing.note.Goals as goal
+use Rattle.mega_entry.specs.declared.content.Write.{Write}
+use Rattle.mega_row_writes.specs.Rows.{written}
+use Rattle.mega_row_writes.specs.Pending.{seen}
+use Rattle.mega_row_writes.proofs.noting.note.Goals as goal
 
 pub loop-write-preserved : goal.loop-write-preserved
 loop-write-preserved c = λ rows.
