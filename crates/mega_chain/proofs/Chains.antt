@@ -1,9 +1,9 @@
 -- Reading a file record by record.
-use Rattle.std.proofs.Common.{◌≡◌, ℕ, ◌+◌, ◌-◌, ◌<◌, ◌≤◌, ◌^◌, List, [], ◌∷◌, ◌++◌, length, drop, refl, sym, ◌∙◌, ap, subst, arith, append_assoc, length-append}
-use Rattle.std.specs.Prelude.{Some, None}
+use Rattle.std.proofs.Common.{◌≡◌, ℕ, ◌+◌, ◌-◌, ◌<◌, ◌^◌, List, [], ◌∷◌, ◌++◌, length, drop, refl, sym, ◌∙◌, ap, subst, arith, length-append}
+use Rattle.std.specs.Prelude.{None}
 use Rattle.std.proofs.lemmas.List.{append-nil, flat_map_more, drop_at}
 use Rattle.mega_chain.specs.Chain.{record_of, chain_of, first_record, records_of, AreShort}
-use Rattle.mega_chain.proofs.Records.{IsBytes, bytes_drop, spelled_by, records_more, records_none}
+use Rattle.mega_chain.proofs.Records.{records_none}
 
 -- the records so far and those of the rest are those of the bytes
 pub record Reading (bytes : List ℕ) (records : List (List ℕ)) (rest : List ℕ) : Type 0 where
@@ -21,16 +21,6 @@ chain_push records body = sym (flat_map_more record_of [] records body)
 pub short_push : (records : List (List ℕ)) (body : List ℕ) → AreShort records → length body < 2 ^ 64 → AreShort (records ++ body ∷ [])
 short_push [] body short last = (last, tt)
 short_push (first ∷ records) body short last = (short.0, short_push records body short.1 last)
-
-pub reads_on : (bytes : List ℕ) (records others : List (List ℕ)) (rest body after : List ℕ) → Reading bytes records rest → IsBytes rest → Some (body, after) ≡ first_record rest → others ≡ records ++ body ∷ [] → Reading bytes others after
-reads_on bytes records others rest body after so_far fits is pushed =
-    let one = spelled_by rest body after fits (sym is) in
-    subst (λ (l : List (List ℕ)). Reading bytes l after) (sym pushed) (record {
-      read = append_assoc records (body ∷ []) (records_of after) ∙ ap (λ (l : List (List ℕ)). records ++ l) (sym (records_more rest body after (sym is))) ∙ so_far.read;
-      spelled = so_far.spelled ∙ ap (λ (l : List ℕ). chain_of records ++ l) one.spelled ∙ sym (append_assoc (chain_of records) (record_of body) after) ∙ ap (λ (l : List ℕ). l ++ after) (sym (chain_push records body));
-      short = short_push records body so_far.short one.short;
-      behind = λ some. one.behind;
-    })
 
 -- where the rest begins with no record, all have been read
 pub record Ends (bytes : List ℕ) (records : List (List ℕ)) (end : ℕ) : Type 0 where
@@ -53,15 +43,3 @@ ends bytes records rest so_far none =
       closed = ap first_record back ∙ sym none;
       short = subst AreShort all so_far.short;
     }
-
-pub rest_bytes : (bytes : List ℕ) (records : List (List ℕ)) (rest : List ℕ) → Reading bytes records rest → IsBytes bytes → IsBytes rest
-rest_bytes bytes records rest so_far fits =
-    subst IsBytes (ap (drop (length (chain_of records))) so_far.spelled ∙ drop_at (chain_of records) rest (length (chain_of records)) refl) (bytes_drop (length (chain_of records)) bytes fits)
-
--- each record takes bytes
-chain_long : (records : List (List ℕ)) → length records ≤ length (chain_of records)
-chain_long [] = omega arith
-chain_long (body ∷ records) = let rest = chain_long records in omega (arith, length-append (record_of body) (chain_of records))
-
-pub few_records : (bytes : List ℕ) (records : List (List ℕ)) (rest : List ℕ) → Reading bytes records rest → length records ≤ length bytes - length rest
-few_records bytes records rest so_far = let size = ap length so_far.spelled ∙ length-append (chain_of records) rest in omega (arith, chain_long records, size)

@@ -1,5 +1,5 @@
 -- A name that is added to those that are known.
-use Rattle.std.proofs.Common.{◌≡◌, ◌∙◌, ap, sym, refl, ℕ, ◌==◌, ◌&&◌, ◌||◌, Bool, true, false, cond, List, [], ◌∷◌, ◌++◌, arith, Ordering, Less, Equal, Greater, nat_cmp, ◌↔◌}
+use Rattle.std.proofs.Common.{◌≡◌, ◌∙◌, ap, sym, refl, ℕ, ◌==◌, ◌&&◌, ◌||◌, Bool, true, false, cond, [], arith, Ordering, Less, Equal, Greater, nat_cmp, ◌↔◌}
 use Rattle.std.specs.Prelude.{Some, IsTrue}
 use Rattle.std.specs.List.{list_any}
 use Rattle.std.specs.Ordering.{is_eq, ordering_then}
@@ -13,8 +13,7 @@ use Rattle.mega_wal.specs.History.{group_cmp}
 use Rattle.mega_wal.specs.Kept.{is_group}
 use Rattle.mega_wal.proofs.Sames.{same_group_equal, same_group_self}
 use Rattle.mega_wal.proofs.Orders.{is_group_equal, is_group_is}
-use Rattle.mega_rules.specs.Queues.{is_named}
-use Rattle.mega_queues.specs.Named.{Adds, AddsAll, Names, Place, is_in, is_known, place_cmp}
+use Rattle.mega_queues.specs.Named.{Adds, Names, Place, is_in, is_known, place_cmp}
 
 then_is : (o p : Ordering) → is_eq (ordering_then o p) ≡ (is_eq o && is_eq p)
 then_is Less p = refl
@@ -74,24 +73,6 @@ added old new name was now before updated put other = go (is_group name.group ot
         ap (is_in place) (updated other.group ∙ ap (λ t. cond t (Some now) (get group_cmp old other.group)) e)
         ∙ (or_false (is_known old other)
         ∙ ap (λ t. is_known old other || (t && other.position.0 == name.position.0 && other.place == name.place)) (sym first))
-
--- ---- several names
-or_moved : (a b c : Bool) → ((a || b) || c) ≡ (a || (b || c))
-or_moved true b c = refl
-or_moved false b c = refl
-
-pub added_more : (old mid new : Names) (one : Name) (more : List Name) → Adds old mid one → AddsAll mid new more → AddsAll old new (one ∷ more)
-added_more old mid new one more first rest name = rest name ∙ (ap (λ t. t || is_named name more) (first name) ∙ or_moved (is_known old name) (same_name name one) (is_named name more))
-
-pub added_last : (old mid new : Names) (more : List Name) (one : Name) → AddsAll old mid more → Adds mid new one → AddsAll old new (more ++ one ∷ [])
-added_last old mid new more one first last name = last name ∙ (ap (λ t. t || same_name name one) (first name) ∙ (or_moved (is_known old name) (is_named name more) (same_name name one) ∙ ap (λ t. is_known old name || t) (joined more)))
-  where
-    joined : (more : List Name) → (is_named name more || same_name name one) ≡ is_named name (more ++ one ∷ [])
-    joined [] = or_false (same_name name one)
-    joined (m ∷ more) = or_moved (same_name name m) (is_named name more) (same_name name one) ∙ ap (λ t. same_name name m || t) (joined more)
-
-pub added_none : (old new : Names) → old ≡ new → AddsAll old new []
-added_none old new same name = ap (λ (names : Names). is_known names name) (sym same) ∙ or_false (is_known old name)
 
 -- ---- equal names
 both : (x y : Bool) → (x && y) ≡ true → (x ≡ true) × (y ≡ true)
