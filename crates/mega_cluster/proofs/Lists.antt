@@ -1,6 +1,5 @@
 -- Lists that are there where each of their items is.
 use Rattle.std.proofs.Common.{List, ◌++◌, Option, Some, None}
-use Rattle.mega_cluster.specs.Header.{before}
 
 -- the items of front, before the others
 abbrev pub with_front : {A : Type 0} → List A → Option (List A) → Option (List A)

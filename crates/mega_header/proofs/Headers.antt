@@ -24,9 +24,6 @@ breaks_six least input lines (Some schedule) whole front = read_long least (text
 long_breaks : (least : ℕ) (input : List ℕ) → 262144 < length input → 262144 < length (text_before (lines_of input)) → cluster_in least input ≡ Err 6
 long_breaks least input whole front = breaks_six least input (lines_of input) (lines_behind (lines_of input)) whole front
 
-longer : (text rest : List ℕ) → 262144 < length text → 262144 < length (text ++ rest)
-longer text rest long = omega (arith, long, length-append text rest)
-
 longer_rest : (text rest : List ℕ) → 262144 < length rest → 262144 < length (text ++ rest)
 longer_rest text rest long = omega (arith, long, length-append text rest)
 

@@ -87,20 +87,6 @@ mapped below faults before stop (Some records) back = record {
     raised : (now : _) × (Some records ≡ Some now) × Rose before (faults (below now)) → Rose before (faults (below records))
     raised is = let one : is.0 ≡ records = (let same = is.1 in cc) in subst (λ (r : _). Rose before (faults (below r))) one is.2
 
--- it started too often
-pub often : {R : Type 0} (store : Ghosts R) (voter : Voter R) (one : NotStarted R) → IsRefused store voter one → start_stop one ≡ StartsFull → voter.logs.kept.starts ≡ 4294967295
-often store voter (refused.StartsFull records) is same = is.0
-often store voter (refused.Cut records) is same = absurd (cc)
-often store voter (refused.Log fault records) is same = absurd (of fault same)
-  where
-    of : (fault : LogFault) → fault_stop fault ≡ StartsFull → ⊥
-    of log.DiskFault same = cc
-    of (log.Full n) same = cc
-    of log.Spent same = cc
-    of (log.BadRecord n) same = cc
-    of log.NoMemory same = cc
-often store voter refused.NoMemory is same = absurd (cc)
-
 -- ---- a node that is served no longer
 
 node_due : (fault : NodeFault) (before now : Devices) (sink more : ℕ) → IsCaused (serve.Node fault) before now sink more → IsDue (serve_stop (serve.Node fault)) before now sink more

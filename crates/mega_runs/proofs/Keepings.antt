@@ -10,7 +10,7 @@ use Rattle.std.specs.declared.cmp.Ordering.TheVariants.{Less, Equal, Greater}
 use Rattle.mega_base.specs.declared.values.Row.{Row}
 use Rattle.mega_base.specs.declared.names.Position.{Position}
 use Rattle.mega_disk.specs.Images.{Within}
-use Rattle.mega_disk.specs.VersionMaps.{Versions, Marks, Cleaned, Puts, IsLatest, or_else, version_at, row_of, row_at}
+use Rattle.mega_disk.specs.VersionMaps.{Marks, Cleaned, Puts, IsLatest, or_else, version_at, row_of, row_at}
 use Rattle.mega_runs.specs.declared.body.Version.{Version}
 use Rattle.mega_runs.specs.declared.body.Run.{Run}
 use Rattle.mega_runs.specs.Bodies.{spot_of, spot_cmp, IsVersion}

@@ -1,21 +1,17 @@
--- A step behind a compaction of the node's log is the step, and its devices only went on.
+-- A step behind a compaction of the node's log, and behind a spill of its rows, is the step.
 use Rattle.std.proofs.Common.{◌≡◌, ◌⊎◌, ℕ, ◌+◌, ◌-◌, ◌^◌, ◌≤◌, min, Bool, true, false, cond, List, Option, sym, subst, arith}
 use Rattle.mega_cluster.specs.declared.cluster.Cluster.{Cluster}
 use Rattle.mega_disk.specs.declared.records.Records.{Ghosts}
 use Rattle.mega_disk.specs.VersionMaps.{Versions}
 use Rattle.mega_handler.specs.Named.{Meaning, Meanings}
-use Rattle.mega_wal.specs.declared.answers.LogFault.TheVariants as log
 use Rattle.mega_rules.specs.Operations.{Node as RuleNode, Setting}
 use Rattle.mega_rules.specs.Steps.{Event}
 use Rattle.mega_durable.specs.of_actions.of_step_work.Settings.{setting}
 use Rattle.mega_durable.specs.of_core.of_node_events.declared.fault.StepFault.{StepFault}
-use Rattle.mega_durable.specs.of_core.of_node_events.declared.fault.StepFault.TheVariants as step
 use Rattle.mega_durable.specs.of_core.declared.node.Node.{Node}
-use Rattle.mega_durable.specs.declared.fault.UpFault.TheVariants as up
 use Rattle.mega_durable.specs.Compacting.{AtEachUp}
 use Rattle.mega_durable.specs.Standing.{IsUp, MayHappen}
 use Rattle.mega_durable.specs.Stepped.{AtEach}
-use Rattle.mega_serve.specs.of_page.declared.fault.NodeFault.TheVariants as node
 
 -- what is said of each node of the rules under which the compacted node is up, is said of each under which it was up before
 pub at_compacted : {R V : Type 0} (store : Ghosts R) (version : V → Versions) (makes : List ℕ → Option Meaning) (old mid : Node R V) (event : Event) (Is : Meanings → Setting → RuleNode → Type 0)
@@ -28,10 +24,6 @@ at_compacted store version makes old mid event Is stays members me each = λ h r
 pub at_most_two : (mid new : ℕ) (appends : Bool) → mid ≡ 1 → new ≡ mid + cond {A = ℕ} appends 1 0 → new ≤ 2
 at_most_two mid new true one is = omega arith
 at_most_two mid new false one is = omega arith
-
--- ---- the devices
-longer : (a b : ℕ) → a ≡ b → b ≤ a
-longer a b same = omega arith
 
 -- ---- behind the compaction the rows are spilled
 pub at_spilled : {R V : Type 0} (store : Ghosts R) (version : V → Versions) (old mid new : Node R V) → AtEachUp store version old (λ h ruled. IsUp store version h mid ruled)
