@@ -82,9 +82,6 @@ int_self : (a : ℤ) → same_int a a ≡ true
 int_self (pos a) = grind (arith, nat_tests)
 int_self (negsuc a) = grind (arith, nat_tests)
 
-ints : Tells same_int
-ints = record { equal = int_equal; self = int_self }
-
 truth_equal : (a b : Bool) → same_truth a b ≡ true → a ≡ b
 truth_equal true true h = refl
 truth_equal true false h = cc
@@ -213,9 +210,6 @@ entries = record { equal = same_entry_equal; self = same_entry_self }
 
 pub same_entry_iff : (a b : Content) → (same_entry a b ≡ true) ↔ (a ≡ b)
 same_entry_iff a b = (same_entry_equal a b, along same_entry entries a b)
-
-pub same_op_iff : (a b : OpId) → (same_op a b ≡ true) ↔ (a ≡ b)
-same_op_iff a b = (same_op_equal a b, along same_op ops a b)
 
 pub same_group_iff : (a b : GroupId) → (same_group a b ≡ true) ↔ (a ≡ b)
 same_group_iff a b = (same_group_equal a b, along same_group groups a b)

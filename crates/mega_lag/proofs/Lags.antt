@@ -35,13 +35,6 @@ took_out test group other old new is made = by (is_group group other) refl made
     by true e made = made ∙ (sym is ∙ ap test (is_group_equal group other e))
     by false e made = made
 
--- one of those that are watched, and then the rest
-pub one_watched : (one rest test old mid new : Bool) → mid ≡ cond one test old → new ≡ cond rest test mid → new ≡ cond (one || rest) test old
-one_watched true true test old mid new first then' = then'
-one_watched true false test old mid new first then' = then' ∙ first
-one_watched false true test old mid new first then' = then'
-one_watched false false test old mid new first then' = then' ∙ first
-
 -- ---- those that are behind are among the set's
 
 has_lags : (groups : List GroupId) (group : GroupId) → list_any (λ other. is_group group other) groups ≡ has group groups

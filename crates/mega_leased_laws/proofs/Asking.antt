@@ -46,7 +46,7 @@ use Rattle.mega_lease_laws.proofs.of_run_laws.Events.{each_append as each_both}
 use Rattle.mega_valid_laws.proofs.of_settled_laws.Tapes.{earlier_stood, then_later}
 use Rattle.mega_valid_laws.proofs.of_settled_laws.Turns.{numbers_apart}
 use Rattle.mega_valid_laws.specs.Leases.{asks_end, has_polled, serving_on}
-use Rattle.mega_leased_laws.proofs.Polls.{ReadPolls, StagePolls, due_polls, hears_polls, no_tops, polled_on, seeks_polls, tops_on}
+use Rattle.mega_leased_laws.proofs.Polls.{StagePolls, due_polls, hears_polls, no_tops, polled_on, seeks_polls, tops_on}
 use Rattle.mega_valid_laws.proofs.of_settled_laws.Walk.{Walks, begun_it, caught, goes_on_it}
 use Rattle.mega_leased_laws.proofs.Wheres.{EndsBody, EndsOf, falls_due_ends, hears_ends, polled_ends, seeks_ends, takes_ends, asks_ends, due_ends}
 
@@ -188,9 +188,6 @@ pub polled_through : (c : Cluster) (tape : List Item) (me : ℕ) (op : OpId) (vi
     → NotedAt tape me op visited group noted → IsPolled c tape op group (record { 0 = p }) → Through c tape me op visited group noted p
 polled_through c tape me op visited group None p n h = (n, tt)
 polled_through c tape me op visited group (Some epoch) p n h = (n, h)
-
-abbrev pub ReadKnows : Cluster → List Item → ℕ → OpId → List GroupId → GroupId → ReadMove → Type 0
-ReadKnows c tape me op visited group t = ReadPolls c tape op group (NotedAt tape me op visited group) (Through c tape me op visited group) (polled_through c tape me op visited group) t
 
 abbrev pub PhaseKnows : Cluster → List Item → ℕ → OpId → List GroupId → Phase → Type 0
 PhaseKnows c tape me op visited (Reads group r) = StagePolls c tape op group (NotedAt tape me op visited group) (Through c tape me op visited group) (polled_through c tape me op visited group) r.noted r.stage

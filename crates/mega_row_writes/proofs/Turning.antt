@@ -14,10 +14,6 @@ use Rattle.mega_row_writes.specs.RowWrites.{is_row, gone_one, gone, fresh_one, f
 pub same_key-Decides : (a b : List ℕ) → Decides (same_key a b) (a ≡ b)
 same_key-Decides a b = subst (λ (r : Bool). Decides r (a ≡ b)) (sym (is_eq-slice_cmp a b)) (bytes_eq-Decides a b)
 
-true-or-false : (b : Bool) → (b ≡ false → b ≡ true) → b ≡ true
-true-or-false true h = refl
-true-or-false false h = h refl
-
 same_key-sym : (a b : List ℕ) → same_key a b ≡ false → same_key b a ≡ false
 same_key-sym a b h = by (same_key b a) refl
   where

@@ -59,15 +59,6 @@ by_head (gate ∷ rest) head left found is long e = go (gate == 1) (nat_lt size 
         ∙ either ((gate == 1) && nat_lt size left)
         ∙ ap (front_of (gate ∷ rest)) (sym found_is)
 
-front_none : (l : List ℕ) → front_of l None ≡ None
-front_none [] = refl
-front_none (gate ∷ rest) = refl
-
-pub next_none : (file head : List ℕ) (at left : ℕ) → head ≡ slice_range file at (at + 9) → length file ≡ at + 9 + left → size_in head left ≡ None → IsNext file at None
-next_none file head at left is long e =
-    let nine : at + 9 - at ≡ 9 = omega arith in
-    by_head (drop at file) head left None (is ∙ ap (λ (n : ℕ). take n (drop at file)) nine) (omega (arith, length-drop at file, long)) e ∙ front_none (drop at file)
-
 next_in : (l head : List ℕ) (left n : ℕ) → head ≡ take 9 l → length l ≡ left + 9 → IsBytes head → size_in head left ≡ Some n → (first_record l ≡ Some (take n (drop 9 l), drop (9 + n) l)) × SpelledIn l (take n (drop 9 l)) (drop (9 + n) l)
 next_in [] head left n is long fits e = absurd (omega arith)
 next_in (gate ∷ rest) head left n is long fits e =
