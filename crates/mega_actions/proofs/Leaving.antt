@@ -1,5 +1,5 @@
 -- What calls leave of a replica one after another.
-use Rattle.std.proofs.Common.{◌≡◌, ◌∙◌, ℕ, List, Option, None, refl}
+use Rattle.std.proofs.Common.{◌∙◌, ℕ, List, Option, None, refl}
 use Rattle.mega_disk.specs.declared.versions.StoreError.{StoreError}
 use Rattle.mega_disk.specs.declared.versions.Versions.{Ghosts}
 use Rattle.mega_handler.specs.Named.{Meaning}
