@@ -1,6 +1,6 @@
 use Rattle.std.proofs.Common.{◌≡◌, ℕ, ◌∙◌, length, min, arith}
 use Rattle.mega_base.proofs.Ordered.{ended}
-use Rattle.mega_base.proofs.bytes.order.Goals as goal
+use Rattle.mega_base.proofs.bytes.by_bytes.Goals as goal
 
 pub returns : goal.returns
 returns c =
