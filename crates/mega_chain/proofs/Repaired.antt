@@ -70,12 +70,6 @@ module _ (file : List ℕ) (end : ℕ) (is : IsRead file end) where
   short_end few = ap (λ (l : List ℕ). first_record (1 ∷ l)) (drop_all (end + 1) file (omega arith))
 
   -- by the test of the gate
-  pub when_shut : is_shut file end ≡ true → IsAtRest file end
-  when_shut test =
-      let tests = and_parts (nat_lt 1 (length file)) (not (get_or file end 1 == 1)) test in
-      let many : 1 < length file = (let e : nat_lt 1 (length file) ≡ true = tests.0 in grind (arith, nat_tests)) in
-      shut_end (is.behind (omega arith)) (let e : not (get_or file end 1 == 1) ≡ true = tests.1 in λ one. grind (arith, nat_tests))
-
   pub when_open : is_shut file end ≡ false → first_record (1 ∷ drop (end + 1) file) ≡ None
   when_open test = ⊎_elim many short_end (cases_lt 1 (length file))
     where

@@ -64,12 +64,6 @@ spared entry group key keys old new gone drops e g k among spare =
         let parts : (same_key entry e ≡ true) × (is_row_of group key g k ≡ true) = and_parts (same_key entry e) (is_row_of group key g k) h in
         true-false (list_any (same_key entry) keys) (ap (λ q. list_any (same_key q) keys) ((same_key-Decides entry e).0 parts.0) ∙ spare parts.1) gone
 
-pub spares_on : (group key : List ℕ) (keys : List (List ℕ)) (a b d : Hints) → Spares group key keys a b → Spares group key keys b d → Spares group key keys a d
-spares_on group key keys a b d first second e g k among spare = second e g k (first e g k among spare) spare
-
-pub spares_same : (group key : List ℕ) (keys : List (List ℕ)) (a : Hints) → Spares group key keys a a
-spares_same group key keys a e g k among spare = among
-
 turn : (a b : List ℕ) → same_key a b ≡ true → same_key b a ≡ true
 turn a b h = (same_key-Decides b a).1 (sym ((same_key-Decides a b).0 h))
 

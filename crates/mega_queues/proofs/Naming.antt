@@ -76,22 +76,6 @@ added old new name was now before updated put other = go (is_group name.group ot
         ∙ ap (λ t. is_known old other || (t && other.position.0 == name.position.0 && other.place == name.place)) (sym first))
 
 -- ---- several names
-or_moved : (a b c : Bool) → ((a || b) || c) ≡ (a || (b || c))
-or_moved true b c = refl
-or_moved false b c = refl
-
-pub added_more : (old mid new : Names) (one : Name) (more : List Name) → Adds old mid one → AddsAll mid new more → AddsAll old new (one ∷ more)
-added_more old mid new one more first rest name = rest name ∙ (ap (λ t. t || is_named name more) (first name) ∙ or_moved (is_known old name) (same_name name one) (is_named name more))
-
-pub added_last : (old mid new : Names) (more : List Name) (one : Name) → AddsAll old mid more → Adds mid new one → AddsAll old new (more ++ one ∷ [])
-added_last old mid new more one first last name = last name ∙ (ap (λ t. t || same_name name one) (first name) ∙ (or_moved (is_known old name) (is_named name more) (same_name name one) ∙ ap (λ t. is_known old name || t) (joined more)))
-  where
-    joined : (more : List Name) → (is_named name more || same_name name one) ≡ is_named name (more ++ one ∷ [])
-    joined [] = or_false (same_name name one)
-    joined (m ∷ more) = or_moved (same_name name m) (is_named name more) (same_name name one) ∙ ap (λ t. same_name name m || t) (joined more)
-
-pub added_none : (old new : Names) → old ≡ new → AddsAll old new []
-added_none old new same name = ap (λ (names : Names). is_known names name) (sym same) ∙ or_false (is_known old name)
 
 -- ---- a set's first place
 pub put_first : (old new : BTreeSet Place) (one : Place) → old.keys ≡ [] → ((k : Place) → contains place_cmp new k ≡ cond (is_eq (place_cmp one k)) true (contains place_cmp old k)) → (k : Place) → contains place_cmp new k ≡ cond (is_eq (place_cmp one k)) true false
