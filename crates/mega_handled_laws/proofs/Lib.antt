@@ -1,0 +1,9 @@
+pub mod Made
+pub mod Quiet
+pub mod Walk
+pub mod Heard
+pub mod Steps
+pub mod Since
+pub mod Runs
+pub mod Meant
+pub mod Handled

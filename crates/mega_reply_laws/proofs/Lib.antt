@@ -1,0 +1,7 @@
+pub mod Walk
+pub mod Plain
+pub mod Steps
+pub mod Ending
+pub mod Told
+pub mod Serving
+pub mod Twice
