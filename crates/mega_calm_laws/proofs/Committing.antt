@@ -161,8 +161,8 @@ module _ (c : Cluster) (h : Meanings) (cuts : Cuts) (now : Standing) (me : ℕ) 
     (calm : IsCalm c now g) (in_order : IsNumbered now.tape) (stocked : IsStocked c now g) (full : is_full c me ≡ true) (is : IsReady c now me g log)
     (begins_reading : acted (setting c h me) (now.node me) request text (calm.none_open me (full_node c me full)) g entering own promised is.leader
     ≡ reads_so (setting c h me) (now.node me) request text (calm.none_open me (full_node c me full)) g entering own promised is.leader (valid_at c (now.node me).met g))
-    (finishes_so : (noted : Option Epoch) (met : List Met) → take (length log) (log_of met g) ≡ log → (again : Now → Operation → Now) (hand : Now) (search : Option Search) → hand.met ≡ met
-    → FinishesSo c me (start_of (now.node me).met) (next_number (now.node me).met) g log request entering (clock_of (now.node me).met) noted own promised is.leader h again hand search) where
+    (finishes_so : (noted : Option Epoch) (met : List Met) → take (length log) (log_of met g) ≡ log → (hand : Now) (search : Option Search) → hand.met ≡ met
+    → FinishesSo c me (start_of (now.node me).met) (next_number (now.node me).met) g log request entering (clock_of (now.node me).met) noted own promised is.leader h hand search) where
   abbrev s : Setting
   s = setting c h me
 
