@@ -1,5 +1,5 @@
 -- What a request does that begins: it is answered at once, or acts in turn with the read of its group.
-use Rattle.std.proofs.Common.{◌≡◌, ◌∙◌, ℕ, ◌∷◌, [], true, false, List, Option, None, Some, refl, sym, ap}
+use Rattle.std.proofs.Common.{◌≡◌, ◌∙◌, ℕ, ◌∷◌, [], true, false, List, Option, None, Some, refl, sym, ap, length, ◌+◌}
 use Rattle.std.specs.Prelude.{◌&&◌, is_none, is_some, not}
 use Rattle.mega_base.specs.declared.names.GroupId.{GroupId}
 use Rattle.mega_base.specs.declared.names.OpId.{OpId}
@@ -13,8 +13,9 @@ use Rattle.mega_outcome.specs.declared.request.Request.TheVariants.{Txn, Batch, 
 use Rattle.mega_read.specs.declared.reading.Move.{Move}
 use Rattle.mega_rules.specs.Clock.{clock_of}
 use Rattle.mega_rules.specs.Finding.{refreshed_marks}
+use Rattle.mega_rules.specs.Logs.{groups_of}
 use Rattle.mega_rules.specs.Operations.{Now, Reads, Setting}
-use Rattle.mega_rules.specs.Acting.{Next, Rests, begins_read, ends, most_turns, read_begun, rests_within}
+use Rattle.mega_rules.specs.Acting.{Next, Rests, begins_read, ends, read_begun, rests_within}
 use Rattle.mega_rules.specs.Steps.{Heard, acts_first, acts_in_turn, begins, find_begins, is_current, local_find_begins, new_operation, read_begins}
 use Rattle.mega_answers.specs.of_node_laws.About.{IsOf}
 use Rattle.mega_answers.specs.of_step_work.Servable.{is_at_once, is_indexed, is_plain}
@@ -54,8 +55,8 @@ module _ (s : Setting) (now : Now) (op : OpId) where
   pub begins_answered : (request : Request) (clock : ℕ) (answer : Answer) → at_once s now request ≡ Some answer → begins s now (new_operation op request clock) ≡ ends now op answer
   begins_answered (Txn transaction) clock answer is = cc
   begins_answered (Batch own transactions) clock answer is = cc
-  begins_answered (Read request) clock answer is = ap (rests_within (most_turns now) s) (read_answered request clock request.mode answer is)
-  begins_answered (Find request) clock answer is = ap (rests_within (most_turns now) s) (find_answered request request.group clock answer is)
+  begins_answered (Read request) clock answer is = ap (rests_within (length (groups_of now.met) + 2) s) (read_answered request clock request.mode answer is)
+  begins_answered (Find request) clock answer is = ap (rests_within (length (groups_of now.met) + 2) s) (find_answered request request.group clock answer is)
   begins_answered PumpEnter clock answer is = cc
   begins_answered PumpHandle clock answer is = cc
   begins_answered Refresh clock answer is = cc
@@ -70,10 +71,10 @@ module _ (s : Setting) (now : Now) (op : OpId) where
   begins_indexed (Txn transaction) clock answer is = cc
   begins_indexed (Batch own transactions) clock answer is = cc
   begins_indexed (Read request) clock answer is = cc
-  begins_indexed (Find request) clock answer is = ap (rests_within (most_turns now) s) (found_indexed request request.group clock answer is)
+  begins_indexed (Find request) clock answer is = ap (rests_within (length (groups_of now.met) + 2) s) (found_indexed request request.group clock answer is)
   begins_indexed PumpEnter clock answer is = cc
   begins_indexed PumpHandle clock answer is = cc
-  begins_indexed Refresh clock answer is = ap (λ found. rests_within (most_turns now) s (ends_by found)) is
+  begins_indexed Refresh clock answer is = ap (λ found. rests_within (length (groups_of now.met) + 2) s (ends_by found)) is
 
   -- a find in a group that asks for current rows reads it
   find_current : (request : FindRequest) (group : GroupId) (clock : ℕ) (mode : Mode) → not (is_current mode) ≡ false
@@ -99,8 +100,8 @@ module _ (s : Setting) (now : Now) (op : OpId) where
   first_by Refresh group clock built current of = cc
 
   pub begins_by : (request : Request) (group : GroupId) (clock : ℕ) → is_plain request ≡ true → is_at_once request ≡ false → IsOf request group
-      → begins s now (new_operation op request clock) ≡ rests_within (most_turns now) s (begins_read s now (new_operation op request clock) group None [])
-  begins_by request group clock built current of = ap (rests_within (most_turns now) s) (first_by request group clock built current of)
+      → begins s now (new_operation op request clock) ≡ rests_within (length (groups_of now.met) + 2) s (begins_read s now (new_operation op request clock) group None [])
+  begins_by request group clock built current of = ap (rests_within (length (groups_of now.met) + 2) s) (first_by request group clock built current of)
 
   -- what is heard of an operation that begins with a read
   abbrev pub begun : Request → ℕ → List GroupId → GroupId → Move → Heard
@@ -115,11 +116,11 @@ module _ (s : Setting) (now : Now) (op : OpId) where
   begins_in_turn request began visited group made clock first is built current of =
       (λ i. acts_in_turn s now (begun request (clock i) (first i) group (is i))) ∙ sym (begins_by request group (clock_of now.met) built current of)
 
-  indexed_met : (request : FindRequest) (group : Option GroupId) (clock : ℕ) → is_none group ≡ true → (rests_within (most_turns now) s (find_begins s now (new_operation op (Find request) clock) request group)).met ≡ now.met
+  indexed_met : (request : FindRequest) (group : Option GroupId) (clock : ℕ) → is_none group ≡ true → (rests_within (length (groups_of now.met) + 2) s (find_begins s now (new_operation op (Find request) clock) request group)).met ≡ now.met
   indexed_met request None clock is = refl
   indexed_met request (Some group) clock is = cc
 
-  indexed_stored : (request : FindRequest) (group : Option GroupId) (clock : ℕ) → is_none group ≡ true → (rests_within (most_turns now) s (find_begins s now (new_operation op (Find request) clock) request group)).stored ≡ now.stored
+  indexed_stored : (request : FindRequest) (group : Option GroupId) (clock : ℕ) → is_none group ≡ true → (rests_within (length (groups_of now.met) + 2) s (find_begins s now (new_operation op (Find request) clock) request group)).stored ≡ now.stored
   indexed_stored request None clock is = refl
   indexed_stored request (Some group) clock is = cc
 

@@ -39,7 +39,7 @@ use Rattle.mega_cause_laws.specs.of_run_laws.of_tape_laws.of_promises.of_rules.L
 use Rattle.mega_cause_laws.specs.of_run_laws.of_tape_laws.of_promises.of_rules.Met.{Met, Answers, Validates}
 use Rattle.mega_cause_laws.specs.of_run_laws.of_tape_laws.of_promises.of_rules.Queues.{Posted, enter_entry, is_named, names_entered, next_to_enter, next_to_handle, oldest_unhandled}
 use Rattle.mega_cause_laws.specs.of_run_laws.of_tape_laws.of_promises.of_rules.Operations.{Now, Operation, Phase, Promised, Proposes, Reads, Replies, Results, Setting}
-use Rattle.mega_cause_laws.specs.of_run_laws.of_tape_laws.of_promises.of_rules.Acting.{ActsAgain, Next, Rests, acts, applied_logs, applied_marks, begins_read, committed, completes_read, ends, enters, finishes, goes_on, handles, handling, in_phase, is_taken, keeps, leader_after, listed_at, most_turns, picks_group, picks_message, picks_to_enter, picks_to_handle, proposes, proposes_by, read_answer, read_begun, reader_of, reads_on, rests_within, rows_answer, rows_at, sealed, sends_more, stored_with, table_rows, unless_decided, unless_full, validated_by, validates, verdict, visiting}
+use Rattle.mega_cause_laws.specs.of_run_laws.of_tape_laws.of_promises.of_rules.Acting.{ActsAgain, Next, Rests, acts, applied_logs, applied_marks, begins_read, committed, completes_read, ends, enters, finishes, goes_on, handles, handling, in_phase, is_taken, keeps, leader_after, listed_at, picks_group, picks_message, picks_to_enter, picks_to_handle, proposes, proposes_by, read_answer, read_begun, reader_of, reads_on, rests_within, rows_answer, rows_at, sealed, sends_more, stored_with, table_rows, unless_decided, unless_full, validated_by, validates, verdict, visiting}
 use Rattle.mega_cause_laws.specs.of_run_laws.of_tape_laws.of_promises.of_rules.of_replica.Applying.{after_read, writes_of}
 use Rattle.mega_wal.specs.Same.{same_group, same_op, same_option}
 use Rattle.mega_wal.proofs.Sames.{same_group_equal, same_op_equal}
@@ -308,18 +308,14 @@ module _ (s : Setting) (base : List Met) (first : GroupId → ℕ) (Of : OpId �
   either id true one other h k = h
   either id false one other h k = k
 
-  either_so : (id : OpId) (t : Bool) (one other : Now) → (t ≡ true → P id one) → (t ≡ false → P id other) → P id (cond t one other)
-  either_so id true one other h k = h refl
-  either_so id false one other h k = k refl
-
   -- what it comes to: it has acted, or it is its turn again, under the same id
   abbrev pub Leads : OpId → Next → Type 0
   Leads id (Rests now) = P id now
   Leads id (ActsAgain now o) = (o.id ≡ id) × Turn now o
 
-  leads_so : (id : OpId) (t : Bool) (one other : Next) → (t ≡ true → Leads id one) → (t ≡ false → Leads id other) → Leads id (cond t one other)
-  leads_so id true one other h k = h refl
-  leads_so id false one other h k = k refl
+  either_so : (id : OpId) (t : Bool) (one other : Next) → (t ≡ true → Leads id one) → (t ≡ false → Leads id other) → Leads id (cond t one other)
+  either_so id true one other h k = h refl
+  either_so id false one other h k = k refl
 
   -- ---- a read that is complete
 
@@ -417,7 +413,7 @@ module _ (s : Setting) (base : List Met) (first : GroupId → ℕ) (Of : OpId �
 
     unless_full_it : (now : Now) (request : Request) (group : GroupId) (r : Reading) (p : ℕ) (next : Next) → Turn now (one request (Reads group r)) → (nat_le (s.cluster.limit).0 p ≡ true → IsMet s base id request (LogFull (record { 0 = p })))
         → Leads id next → Leads id (unless_full s now (one request (Reads group r)) p next)
-    unless_full_it now request group r p next t h k = leads_so id (nat_le (s.cluster.limit).0 p) _ next (λ full. ends_it now (one request (Reads group r)) (LogFull (record { 0 = p })) t (h full)) (λ room. k)
+    unless_full_it now request group r p next t h k = either_so id (nat_le (s.cluster.limit).0 p) _ next (λ full. ends_it now (one request (Reads group r)) (LogFull (record { 0 = p })) t (h full)) (λ room. k)
 
     sealed_it : (now : Now) (request : Request) (group : GroupId) (r : Reading) (p : ℕ) (result : Result Done Turned) → Turn now (one request (Reads group r)) → ((turn : Turned) → IsMet s base id request (TurnedAnswer turn))
         → ((done : Done) → SoundPromise request (Replies done.replies)) → P id (sealed s now (one request (Reads group r)) group r p result)
@@ -426,7 +422,7 @@ module _ (s : Setting) (base : List Met) (first : GroupId → ℕ) (Of : OpId �
 
     enters_it : (now : Now) (group : GroupId) (r : Reading) (p : ℕ) (what : Option Enter) → Turn now (one PumpEnter (Reads group r)) → Leads id (enters s now (one PumpEnter (Reads group r)) group r p what)
     enters_it now group r p None t = picks_message_it now (one PumpEnter (Reads group r)) (asked_by r) (ready now _ t) refl
-    enters_it now group r p (Some what) t = leads_so id (is_named what.name (names_entered (take p (log_of now.met group)))) _ _
+    enters_it now group r p (Some what) t = either_so id (is_named what.name (names_entered (take p (log_of now.met group)))) _ _
         (λ there. picks_message_it now (one PumpEnter (Reads group r)) (asked_by r) (ready now _ t) refl) (λ new. proposes_it now (one PumpEnter (Reads group r)) group r p (enter_entry id what) (Replies []) t refl refl)
 
     handles_it : (now : Now) (group : GroupId) (r : Reading) (p : ℕ) (what : Option Enter) → Turn now (one PumpHandle (Reads group r)) → Leads id (handles s now (one PumpHandle (Reads group r)) group r p what)
@@ -460,7 +456,7 @@ module _ (s : Setting) (base : List Met) (first : GroupId → ℕ) (Of : OpId �
     reads_on_by : (now : Now) (request : Request) (group : GroupId) (noted : Option Epoch) (asked : List ℕ) (stage : Stage) → Turn now (one request (Reads group (record { noted = noted; asked = asked; stage = stage })))
         → Leads id (reads_on s now (one request (Reads group (record { noted = noted; asked = asked; stage = stage }))) group (record { noted = noted; asked = asked; stage = stage }))
     reads_on_by now request group noted asked (Polling heard best at) t = keeps_it now (one request (Reads group (record { noted = noted; asked = asked; stage = Polling heard best at }))) t
-    reads_on_by now request group noted asked (Catching p search) t = leads_so id (nat_le p (prefix_of now.met group)) _ _
+    reads_on_by now request group noted asked (Catching p search) t = either_so id (nat_le p (prefix_of now.met group)) _ _
         (λ enough. finishes_by (completes_read s now group r p) request group r p (subst (λ n. p ≤ n) (sym (completed.acting.same.prefixes group ∙ sym ((t.acting).same.prefixes group))) (le_is p (prefix_of now.met group) enough)) completed)
         (λ short. keeps_it (sends_more now (seeks (reader_of s id group) r (prefix_of now.met group + 1) (clock_of now.met)).sends)
         (one request (Reads group (seeks (reader_of s id group) r (prefix_of now.met group + 1) (clock_of now.met)).reading))
@@ -486,4 +482,4 @@ module _ (s : Setting) (base : List Met) (first : GroupId → ℕ) (Of : OpId �
   rests_within_it (suc most) id (ActsAgain now o) h = subst (λ (op : OpId). P op (rests_within most s (acts s now o))) h.0 (rests_within_it most o.id (acts s now o) (acts_it now o h.1))
 
   pub goes_on_it : (now : Now) (o : Operation) → Turn now o → P o.id (goes_on s now o)
-  goes_on_it now o t = rests_within_it (most_turns now) o.id (ActsAgain now o) (refl, t)
+  goes_on_it now o t = rests_within_it (length (groups_of now.met) + 2) o.id (ActsAgain now o) (refl, t)

@@ -1,5 +1,5 @@
 -- What a pump does, by its request, by what it picked and by what it came to.
-use Rattle.std.proofs.Common.{◌≡◌, ◌∙◌, ℕ, Bool, true, false, if◌then◌else◌, List, [], Option, Some, None, refl, ap, sym}
+use Rattle.std.proofs.Common.{◌≡◌, ◌∙◌, ℕ, Bool, true, false, if◌then◌else◌, List, [], Option, Some, None, refl, ap, sym, length, ◌+◌}
 use Rattle.std.specs.Prelude.{nat_le, take}
 use Rattle.mega_base.specs.declared.names.GroupId.{GroupId}
 use Rattle.mega_base.specs.declared.names.OpId.{OpId}
@@ -12,8 +12,8 @@ use Rattle.mega_read.specs.declared.reading.Reading.{Reading}
 use Rattle.mega_pumps.specs.declared.picking.Picked.{Picked}
 use Rattle.mega_pumps.specs.Owns.{picks_by}
 use Rattle.mega_pumps.specs.Picks.{picked_group, picked_message, serves}
-use Rattle.mega_rules.specs.Acting.{Rests, applied_logs, batch_sealed, ends, enters, finishes, handles, most_turns, picks_group, picks_message, rests_within, rows_at, sealed}
-use Rattle.mega_rules.specs.Logs.{log_of}
+use Rattle.mega_rules.specs.Acting.{Rests, applied_logs, batch_sealed, ends, enters, finishes, handles, picks_group, picks_message, rests_within, rows_at, sealed}
+use Rattle.mega_rules.specs.Logs.{log_of, groups_of}
 use Rattle.mega_rules.specs.Operations.{Now, Operation, Phase, Proposes, Reads, Setting}
 use Rattle.mega_rules.specs.Queues.{Posted, next_to_enter, next_to_handle, oldest_unhandled}
 use Rattle.mega_rules.specs.Steps.{begins, new_operation}
@@ -132,7 +132,7 @@ module _ (s : Setting) (now : Now) (group : GroupId) (r : Reading) (p : ℕ) (id
 -- ---- where it begins
 
 pub pump_begins : (s : Setting) (now : Now) (op : OpId) (request : Request) (clock : ℕ) → is_pump request ≡ true
-    → begins s now (new_operation op request clock) ≡ rests_within (most_turns now) s (picks_by (is_entering request) s now (new_operation op request clock) [])
+    → begins s now (new_operation op request clock) ≡ rests_within (length (groups_of now.met) + 2) s (picks_by (is_entering request) s now (new_operation op request clock) [])
 pump_begins s now op (Txn transaction) clock pump = absurd (cc)
 pump_begins s now op (Batch own transactions) clock pump = absurd (cc)
 pump_begins s now op (Read request) clock pump = absurd (cc)

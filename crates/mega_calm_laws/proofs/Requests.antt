@@ -1,5 +1,5 @@
 -- Transactions and pumps that begin at any full node of a calm cluster: whether they poll or not, and whatever their node lacks of the log, each is committed.
-use Rattle.std.proofs.Common.{◌≡◌, ℕ, ◌≤◌, nat_le, true, false, cond, List, [], ◌∷◌, length, map, take, Option, Some, None, Ok, refl, sym, ap, ◌∙◌, subst}
+use Rattle.std.proofs.Common.{◌≡◌, ℕ, ◌≤◌, nat_le, true, false, cond, List, [], ◌∷◌, length, map, take, Option, Some, None, Ok, refl, sym, ap, ◌∙◌, subst, ◌+◌}
 use Rattle.mega_base.specs.declared.names.Epoch.{Epoch}
 use Rattle.mega_base.specs.declared.names.GroupId.{GroupId}
 use Rattle.mega_base.specs.declared.names.OpId.{OpId}
@@ -19,7 +19,7 @@ use Rattle.mega_leased_laws.specs.of_run_laws.of_tape_laws.of_promises.of_rules.
 use Rattle.mega_leased_laws.specs.of_run_laws.of_tape_laws.of_promises.of_rules.of_read.Catching.{asked_by}
 use Rattle.mega_leased_laws.specs.of_run_laws.of_tape_laws.of_promises.of_rules.of_replica.Applying.{applied_log}
 use Rattle.mega_leased_laws.specs.of_run_laws.of_tape_laws.of_promises.of_transcript.declared.item.Item.TheVariants.{Answer as AnswerItem, Decide as DecideItem}
-use Rattle.mega_leased_laws.specs.of_run_laws.of_tape_laws.of_promises.of_rules.Acting.{Rests, applied_logs, ends, enters, handles, handling, listed_at, most_turns, picks_group, picks_message, picks_to_enter, proposes, rests_within, rows_at, sealed, table_rows}
+use Rattle.mega_leased_laws.specs.of_run_laws.of_tape_laws.of_promises.of_rules.Acting.{Rests, applied_logs, ends, enters, handles, handling, listed_at, picks_group, picks_message, picks_to_enter, proposes, rests_within, rows_at, sealed, table_rows}
 use Rattle.mega_leased_laws.specs.of_run_laws.of_tape_laws.of_promises.of_rules.Clock.{clock_of, next_number, start_of}
 use Rattle.mega_leased_laws.specs.of_run_laws.of_tape_laws.of_promises.of_rules.Coordinators.{valid_at}
 use Rattle.mega_leased_laws.specs.of_run_laws.of_tape_laws.of_promises.of_rules.Logs.{groups_of, log_of}
@@ -117,8 +117,8 @@ module _ (c : Cluster) (h : Meanings) (cuts : Cuts) (now : Standing) (me : ℕ) 
     enter_begins : acted s node PumpEnter text enter_none one.to (Some one.message) enter_own (Replies []) ready.leader
         ≡ reads_so s node PumpEnter text enter_none one.to (Some one.message) enter_own (Replies []) ready.leader (valid_at c met one.to)
     enter_begins = ap (unless_refused s enter_begin (new_operation its_id PumpEnter (clock_of met))) (not_refused s node PumpEnter full ((calm.calm).not_worn me (full_node c me full)) enter_none)
-        ∙ (ap (λ logs. rests_within (most_turns enter_begin) s (picks_message s enter_begin (new_operation its_id PumpEnter (clock_of met)) [] (next_to_enter its_id logs))) (logs_same me node its_id text (groups_of met))
-        ∙ ap (λ found. rests_within (most_turns enter_begin) s (picks_message s enter_begin (new_operation its_id PumpEnter (clock_of met)) [] found)) picks)
+        ∙ (ap (λ logs. rests_within (length (groups_of enter_begin.met) + 2) s (picks_message s enter_begin (new_operation its_id PumpEnter (clock_of met)) [] (next_to_enter its_id logs))) (logs_same me node its_id text (groups_of met))
+        ∙ ap (λ found. rests_within (length (groups_of enter_begin.met) + 2) s (picks_message s enter_begin (new_operation its_id PumpEnter (clock_of met)) [] found)) picks)
 
     enter_finishes : (noted : Option Epoch) (found : List Met) → take (length log) (log_of found one.to) ≡ log → (hand : Now) (search : Option Search) → hand.met ≡ found
         → FinishesSo c me (start_of met) (next_number met) one.to log PumpEnter (Some one.message) (clock_of met) noted enter_own (Replies []) ready.leader h hand search
@@ -159,8 +159,8 @@ module _ (c : Cluster) (h : Meanings) (cuts : Cuts) (now : Standing) (me : ℕ) 
     handle_begins : acted s node PumpHandle text handle_none group None handle_own (Replies []) ready.leader
         ≡ reads_so s node PumpHandle text handle_none group None handle_own (Replies []) ready.leader (valid_at c met group)
     handle_begins = ap (unless_refused s handle_begin (new_operation its_id PumpHandle (clock_of met))) (not_refused s node PumpHandle full ((calm.calm).not_worn me (full_node c me full)) handle_none)
-        ∙ (ap (λ logs. rests_within (most_turns handle_begin) s (picks_group s handle_begin (new_operation its_id PumpHandle (clock_of met)) [] (next_to_handle logs))) (logs_same me node its_id text (groups_of met))
-        ∙ ap (λ found. rests_within (most_turns handle_begin) s (picks_group s handle_begin (new_operation its_id PumpHandle (clock_of met)) [] found)) picks)
+        ∙ (ap (λ logs. rests_within (length (groups_of handle_begin.met) + 2) s (picks_group s handle_begin (new_operation its_id PumpHandle (clock_of met)) [] (next_to_handle logs))) (logs_same me node its_id text (groups_of met))
+        ∙ ap (λ found. rests_within (length (groups_of handle_begin.met) + 2) s (picks_group s handle_begin (new_operation its_id PumpHandle (clock_of met)) [] found)) picks)
 
     handle_finishes : (noted : Option Epoch) (found : List Met) → take (length log) (log_of found group) ≡ log → (hand : Now) (search : Option Search) → hand.met ≡ found
         → FinishesSo c me (start_of met) (next_number met) group log PumpHandle None (clock_of met) noted handle_own (Replies []) ready.leader h hand search
@@ -168,7 +168,7 @@ module _ (c : Cluster) (h : Meanings) (cuts : Cuts) (now : Standing) (me : ℕ) 
         ap (λ t. cond t (Rests (ends hand its_id (LogFull (record { 0 = length log })))) (handles s hand o group r (length log) (oldest_unhandled (take (length log) (log_of hand.met group))))) (room_is group log n ready calm)
         ∙ (ap (λ l. handles s hand o group r (length log) (oldest_unhandled l)) whole
         ∙ (ap (handles s hand o group r (length log)) oldest
-        ∙ (ap (λ t. Rests (cond t (proposes s hand o group r (length log) (handling s its_id group message (table_rows c.schema group (listed_at hand group (length log)))) (Replies [])) (ends hand its_id (NoHandler message.queue)))) there
+        ∙ (ap (λ t. cond t (Rests (proposes s hand o group r (length log) (handling s its_id group message (table_rows c.schema group (listed_at hand group (length log)))) (Replies []))) (Rests (ends hand its_id (NoHandler message.queue)))) there
         ∙ ap (λ l. Rests (proposes s hand o group r (length log) (handling s its_id group message (table_rows c.schema group (list_after l []))) (Replies []))) whole)))
       where
         o : Operation

@@ -1,5 +1,5 @@
 -- Transactions and pumps that begin where their group is valid and their node's log reaches as far as it can.
-use Rattle.std.proofs.Common.{◌≡◌, ℕ, ◌≤◌, nat_le, true, false, cond, List, [], ◌∷◌, map, take, Some, None, Ok, refl, ap, ◌∙◌, subst}
+use Rattle.std.proofs.Common.{◌≡◌, ℕ, ◌≤◌, nat_le, true, false, cond, List, [], ◌∷◌, map, take, Some, None, Ok, refl, ap, ◌∙◌, subst, length, ◌+◌}
 use Rattle.mega_base.specs.declared.names.GroupId.{GroupId}
 use Rattle.mega_base.specs.declared.names.OpId.{OpId}
 use Rattle.mega_cluster.specs.declared.cluster.Cluster.{Cluster}
@@ -16,7 +16,7 @@ use Rattle.mega_leased_laws.specs.of_run_laws.of_tape_laws.of_promises.of_rules.
 use Rattle.mega_leased_laws.specs.of_run_laws.of_tape_laws.of_promises.of_rules.of_read.declared.reading.Stage.TheVariants.{Catching}
 use Rattle.mega_leased_laws.specs.of_run_laws.of_tape_laws.of_promises.of_rules.of_replica.Applying.{applied_log}
 use Rattle.mega_leased_laws.specs.of_run_laws.of_tape_laws.of_promises.of_transcript.declared.item.Item.TheVariants.{Answer as AnswerItem, Decide as DecideItem}
-use Rattle.mega_leased_laws.specs.of_run_laws.of_tape_laws.of_promises.of_rules.Acting.{Rests, applied_logs, ends, enters, handles, handling, listed_at, most_turns, picks_group, picks_message, picks_to_enter, proposes, rests_within, rows_at, sealed, table_rows}
+use Rattle.mega_leased_laws.specs.of_run_laws.of_tape_laws.of_promises.of_rules.Acting.{Rests, applied_logs, ends, enters, handles, handling, listed_at, picks_group, picks_message, picks_to_enter, proposes, rests_within, rows_at, sealed, table_rows}
 use Rattle.mega_leased_laws.specs.of_run_laws.of_tape_laws.of_promises.of_rules.Clock.{clock_of}
 use Rattle.mega_leased_laws.specs.of_run_laws.of_tape_laws.of_promises.of_rules.Coordinators.{valid_at}
 use Rattle.mega_leased_laws.specs.of_run_laws.of_tape_laws.of_promises.of_rules.Logs.{groups_of, log_of, prefix_of}
@@ -112,8 +112,8 @@ module _ (c : Cluster) (h : Meanings) (cuts : Cuts) (now : Standing) (me : ℕ) 
     enter_begins : acted s node PumpEnter text (calm.none_open me (full_node c me full)) one.to (Some one.message) enter_own (Replies []) leader
         ≡ reads_so s node PumpEnter text (calm.none_open me (full_node c me full)) one.to (Some one.message) enter_own (Replies []) leader true
     enter_begins = ap (unless_refused s enter_begin (new_operation its_id PumpEnter (clock_of met))) (not_refused s node PumpEnter full (calm.not_worn me (full_node c me full)) (calm.none_open me (full_node c me full)))
-        ∙ (ap (λ logs. rests_within (most_turns enter_begin) s (picks_message s enter_begin (new_operation its_id PumpEnter (clock_of met)) [] (next_to_enter its_id logs))) (logs_same me node its_id text node.open_operations (groups_of met))
-        ∙ (ap (λ found. rests_within (most_turns enter_begin) s (picks_message s enter_begin (new_operation its_id PumpEnter (clock_of met)) [] found)) picks
+        ∙ (ap (λ logs. rests_within (length (groups_of enter_begin.met) + 2) s (picks_message s enter_begin (new_operation its_id PumpEnter (clock_of met)) [] (next_to_enter its_id logs))) (logs_same me node its_id text node.open_operations (groups_of met))
+        ∙ (ap (λ found. rests_within (length (groups_of enter_begin.met) + 2) s (picks_message s enter_begin (new_operation its_id PumpEnter (clock_of met)) [] found)) picks
         ∙ ap (reads_so s node PumpEnter text (calm.none_open me (full_node c me full)) one.to (Some one.message) enter_own (Replies []) leader) valid))
 
     pub pump_enters : (most : ℕ) → is_cut (drained c h cuts (begun c h cuts now me PumpEnter text) most).tape ≡ false
@@ -144,8 +144,8 @@ module _ (c : Cluster) (h : Meanings) (cuts : Cuts) (now : Standing) (me : ℕ) 
     handle_begins : acted s node PumpHandle text (calm.none_open me (full_node c me full)) group None handle_own (Replies []) leader
         ≡ reads_so s node PumpHandle text (calm.none_open me (full_node c me full)) group None handle_own (Replies []) leader true
     handle_begins = ap (unless_refused s handle_begin (new_operation its_id PumpHandle (clock_of met))) (not_refused s node PumpHandle full (calm.not_worn me (full_node c me full)) (calm.none_open me (full_node c me full)))
-        ∙ (ap (λ logs. rests_within (most_turns handle_begin) s (picks_group s handle_begin (new_operation its_id PumpHandle (clock_of met)) [] (next_to_handle logs))) (logs_same me node its_id text node.open_operations (groups_of met))
-        ∙ (ap (λ found. rests_within (most_turns handle_begin) s (picks_group s handle_begin (new_operation its_id PumpHandle (clock_of met)) [] found)) picks
+        ∙ (ap (λ logs. rests_within (length (groups_of handle_begin.met) + 2) s (picks_group s handle_begin (new_operation its_id PumpHandle (clock_of met)) [] (next_to_handle logs))) (logs_same me node its_id text node.open_operations (groups_of met))
+        ∙ (ap (λ found. rests_within (length (groups_of handle_begin.met) + 2) s (picks_group s handle_begin (new_operation its_id PumpHandle (clock_of met)) [] found)) picks
         ∙ ap (reads_so s node PumpHandle text (calm.none_open me (full_node c me full)) group None handle_own (Replies []) leader) valid))
 
     pub pump_handles : (most : ℕ) → is_cut (drained c h cuts (begun c h cuts now me PumpHandle text) most).tape ≡ false
@@ -154,6 +154,6 @@ module _ (c : Cluster) (h : Meanings) (cuts : Cuts) (now : Standing) (me : ℕ) 
         (ap (λ t. cond t (Rests (ends handle_hand its_id (LogFull (record { 0 = prefix_of met group })))) (handles s handle_hand handle_reads group handle_reading (prefix_of met group) (oldest_unhandled (take (prefix_of met group) (log_of (Begins its_id text ∷ met) group))))) (room_is group is)
         ∙ (ap (λ log. handles s handle_hand handle_reads group handle_reading (prefix_of met group) (oldest_unhandled log)) (whole_log group)
         ∙ (ap (handles s handle_hand handle_reads group handle_reading (prefix_of met group)) oldest
-        ∙ (ap (λ t. Rests (cond t (proposes s handle_hand handle_reads group handle_reading (prefix_of met group) (handling s its_id group message (table_rows c.schema group (listed_at handle_hand group (prefix_of met group)))) (Replies [])) (ends handle_hand its_id (NoHandler message.queue)))) there
+        ∙ (ap (λ t. cond t (Rests (proposes s handle_hand handle_reads group handle_reading (prefix_of met group) (handling s its_id group message (table_rows c.schema group (listed_at handle_hand group (prefix_of met group)))) (Replies []))) (Rests (ends handle_hand its_id (NoHandler message.queue)))) there
         ∙ ap (λ log. Rests (proposes s handle_hand handle_reads group handle_reading (prefix_of met group) (handling s its_id group message (table_rows c.schema group (list_after log []))) (Replies []))) (whole_log group)))))
         most

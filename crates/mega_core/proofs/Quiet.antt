@@ -45,7 +45,7 @@ use Rattle.mega_rules.specs.Met.{Met, Answers}
 use Rattle.mega_rules.specs.Queues.{Posted, enter_entry, is_named, names_entered, next_to_enter, next_to_handle, oldest_unhandled}
 use Rattle.mega_rules.specs.Members.{kind_of}
 use Rattle.mega_rules.specs.Operations.{Node, Now, Operation, Phase, Promised, Proposes, Reads, Replies, Results, Setting}
-use Rattle.mega_rules.specs.Acting.{ActsAgain, Next, Rests, acts, applied_logs, applied_marks, batch_sealed, begins_read, committed, completes_read, ends, enters, finishes, goes_on, handles, handling, in_phase, is_taken, leader_after, listed_at, most_turns, picks_group, picks_message, proposes, proposes_by, read_answer, read_begun, reader_of, reads_on, rests_within, rows_answer, rows_at, sealed, sends_more, table_rows, unless_decided, unless_full, validated_by, validates, verdict, visiting}
+use Rattle.mega_rules.specs.Acting.{ActsAgain, Next, Rests, acts, applied_logs, applied_marks, batch_sealed, begins_read, committed, completes_read, ends, enters, finishes, goes_on, handles, handling, in_phase, is_taken, leader_after, listed_at, picks_group, picks_message, proposes, proposes_by, read_answer, read_begun, reader_of, reads_on, rests_within, rows_answer, rows_at, sealed, sends_more, table_rows, unless_decided, unless_full, validated_by, validates, verdict, visiting}
 use Rattle.mega_rules.specs.Steps.{Heard, acts_first, acts_in_turn, all_act, applied_position, begins, does_due, find_begins, is_out, is_worn, last_answer, local_find_begins, missing_kind, onto, read_begins, refusal, snapshot_listed, stored_listed, ticked, unless_missing, unless_refused}
 use Rattle.mega_actions.specs.of_answers.Indexing.{marks_then}
 use Rattle.mega_node_events.specs.Beginning.{marks_unless}
@@ -171,7 +171,7 @@ module _ (s : Setting) where
 
   handles_it : (now : Now) (o : Operation) (group : GroupId) (r : Reading) (p : ℕ) (message : Option Enter) → Quiet now → Leads (handles s now o group r p message)
   handles_it now o group r p None h = picks_group_it now o (asked_by r) (next_to_handle (applied_logs now)) h
-  handles_it now o group r p (Some message) h = either (has s.handlers message.queue) _ _
+  handles_it now o group r p (Some message) h = either_next (has s.handlers message.queue) _ _
       (proposes_it now o group r p (handling s o.id group message (table_rows s.cluster.schema group (listed_at now group p))) (Replies []) h) (ends_it now o.id _ refl h)
 
   unless_full_it : (now : Now) (o : Operation) (p : ℕ) (next : Next) → Quiet now → Leads next → Leads (unless_full s now o p next)
@@ -217,7 +217,7 @@ module _ (s : Setting) where
   rests_within_it (suc most) (ActsAgain now o) h = rests_within_it most (acts s now o) (acts_by now o.id o.request o.began o.visited o.message o.phase h)
 
   goes_on_it : (now : Now) (o : Operation) → Quiet now → Quiet (goes_on s now o)
-  goes_on_it now o h = rests_within_it (most_turns now) (ActsAgain now o) h
+  goes_on_it now o h = rests_within_it (length (groups_of now.met) + 2) (ActsAgain now o) h
 
   -- one after another, and at a tick
   pub all_act_it : (ts : List Heard) (now : Now) → Quiet now → Quiet (all_act s now ts)
@@ -258,7 +258,7 @@ module _ (s : Setting) where
   -- ---- the marks that an operation leaves as it begins: a refresh those that are applied, and any other those that were
   module _ (id : OpId) (began : ℕ) (visited : List GroupId) (message : Option Enter) (phase : Phase) where
     quiet_marks : (now : Now) (request : Request) → now.answers ≡ [] → is_refresh request ≡ false → refreshed_marks (onto (begins s now (one id began visited message request phase)).answers now.met) ≡ refreshed_marks now.met
-    quiet_marks now request none other = marks_after (begins s now (one id began visited message request phase)).answers now.met (rests_within_it (most_turns now) (acts_first s now (one id began visited message request phase)) (first_by id began visited message phase now request other (ap (list_all is_unshown) none)))
+    quiet_marks now request none other = marks_after (begins s now (one id began visited message request phase)).answers now.met (rests_within_it (length (groups_of now.met) + 2) (acts_first s now (one id began visited message request phase)) (first_by id began visited message phase now request other (ap (list_all is_unshown) none)))
 
     marks_by : (now : Now) (request : Request) → now.answers ≡ [] → refreshed_marks (onto (begins s now (one id began visited message request phase)).answers now.met) ≡ marks_then now request
     marks_by now (Txn transaction) none = quiet_marks now (Txn transaction) none refl

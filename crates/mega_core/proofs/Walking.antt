@@ -33,7 +33,7 @@ use Rattle.mega_rules.specs.Coordinators.{refused_at}
 use Rattle.mega_handler.specs.Named.{has as has_handler}
 use Rattle.mega_rules.specs.Queues.{Posted, enter_entry, is_named, names_entered, next_to_enter, next_to_handle, oldest_unhandled}
 use Rattle.mega_rules.specs.Operations.{Now, Operation, Phase, Promised, Proposes, Reads, Replies, Results, Setting}
-use Rattle.mega_rules.specs.Acting.{ActsAgain, Next, Rests, acts, applied_logs, batch_sealed, begins_read, completes_read, ends, enters, finishes, goes_on, handles, handling, in_phase, is_taken, keeps, leader_after, listed_at, most_turns, picks_group, picks_message, proposes, proposes_by, read_begun, reader_of, reads_on, rests_within, rows_at, sealed, sends_more, stored_with, table_rows, unless_decided, unless_full, validated_by, validates, visiting}
+use Rattle.mega_rules.specs.Acting.{ActsAgain, Next, Rests, acts, applied_logs, batch_sealed, begins_read, completes_read, ends, enters, finishes, goes_on, handles, handling, in_phase, is_taken, keeps, leader_after, listed_at, picks_group, picks_message, proposes, proposes_by, read_begun, reader_of, reads_on, rests_within, rows_at, sealed, sends_more, stored_with, table_rows, unless_decided, unless_full, validated_by, validates, visiting}
 use Rattle.mega_rules.specs.Steps.{Heard, acts_first, acts_in_turn, all_act, does_due, find_begins, is_out, local_find_begins, read_begins, ticked, unless_refused}
 use Rattle.mega_actions.specs.of_node_laws.About.{group_in}
 use Rattle.mega_actions.specs.of_step_work.Servable.{is_served, is_open, is_pump}
@@ -135,7 +135,7 @@ module _ (P : Now → Type 0) (Mine : GroupId → Type 0) (w : Walks P Mine) (s 
 
   handles_walked : (now : Now) (o : Operation) (group : GroupId) (r : Reading) (p : ℕ) (message : Option Enter) → IsServable o → is_pump o.request ≡ true → Roams Mine o.request → P now → Leads (handles s now o group r p message)
   handles_walked now o group r p None is pump roams h = group_walked now o (asked_by r) (next_to_handle (applied_logs now)) is pump roams h
-  handles_walked now o group r p (Some message) is pump roams h = either (has_handler s.handlers message.queue) _ _
+  handles_walked now o group r p (Some message) is pump roams h = either_next (has_handler s.handlers message.queue) _ _
       (proposes_walked now o group r p (handling s o.id group message (table_rows s.cluster.schema group (listed_at now group p))) (Replies []) is h) (w.ends_it now o.id _ h)
 
   module _ (id : OpId) (began : ℕ) (visited : List GroupId) (message : Option Enter) where
@@ -178,7 +178,7 @@ module _ (P : Now → Type 0) (Mine : GroupId → Type 0) (w : Walks P Mine) (s 
   rests_walked (suc most) (ActsAgain now o) h = rests_walked most (acts s now o) (acts_by now o.id o.request o.began o.visited o.message o.phase h.0 h.1 h.2)
 
   goes_on_walked : (now : Now) (o : Operation) → IsServable o → IsIn Mine o → P now → P (goes_on s now o)
-  goes_on_walked now o is mine h = rests_walked (most_turns now) (ActsAgain now o) (is, mine, h)
+  goes_on_walked now o is mine h = rests_walked (length (groups_of now.met) + 2) (ActsAgain now o) (is, mine, h)
 
   pub all_walked : (ts : List Heard) (now : Now) → All IsServableHeard ts → All (IsHeardIn Mine) ts → P now → P (all_act s now ts)
   all_walked [] now each mine h = h
@@ -231,5 +231,5 @@ module _ (P : Now → Type 0) (Mine : GroupId → Type 0) (w : Walks P Mine) (s 
     first_by now Refresh is mine roams h = w.ends_it now id _ h
 
   pub begun_walked : (now : Now) (o : Operation) (refusal : Option Answer) → (refusal ≡ None → is_served o.request ≡ true) → All Mine (asked_groups o.request) → Roams Mine o.request → P now → P (unless_refused s now o refusal)
-  begun_walked now o None is mine roams h = rests_walked (most_turns now) (acts_first s now o) (first_by o.id o.began o.visited o.message o.phase now o.request (is refl) mine roams h)
+  begun_walked now o None is mine roams h = rests_walked (length (groups_of now.met) + 2) (acts_first s now o) (first_by o.id o.began o.visited o.message o.phase now o.request (is refl) mine roams h)
   begun_walked now o (Some answer) is mine roams h = w.ends_it now o.id answer h

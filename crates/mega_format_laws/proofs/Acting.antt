@@ -37,7 +37,7 @@ use Rattle.mega_voter.specs.of_rules.Logs.{decided, groups_of, log_of, prefix_of
 use Rattle.mega_voter.specs.of_rules.Coordinators.{refused_at, serves_at, valid_at}
 use Rattle.mega_voter.specs.of_rules.Queues.{Posted, enter_entry, is_named, names_entered, next_to_enter, next_to_handle, oldest_unhandled}
 use Rattle.mega_voter.specs.of_rules.Operations.{Now, Operation, Phase, Promised, Proposes, Reads, Replies, Results, Setting}
-use Rattle.mega_voter.specs.of_rules.Acting.{ActsAgain, Next, Rests, acts, applied_logs, batch_sealed, begins_read, completes_read, ends, enters, finishes, goes_on, handles, handling, has_nothing, in_phase, is_taken, is_visited, keeps, leader_after, listed_at, most_turns, named_leader, picks_group, picks_message, picks_to_enter, picks_to_handle, proposes, proposes_by, proposes_there, read_begun, reader_of, reads_group, reads_on, rests_within, rows_at, sealed, seeks_on, sends_more, table_rows, unless_decided, unless_full, validated_by, validates, verdict, visiting}
+use Rattle.mega_voter.specs.of_rules.Acting.{ActsAgain, Next, Rests, acts, applied_logs, batch_sealed, begins_read, completes_read, ends, enters, finishes, goes_on, handles, handling, has_nothing, in_phase, is_taken, is_visited, keeps, leader_after, listed_at, named_leader, picks_group, picks_message, picks_to_enter, picks_to_handle, proposes, proposes_by, proposes_there, read_begun, reader_of, reads_on, rests_within, rows_at, sealed, seeks_on, sends_more, table_rows, unless_decided, unless_full, validated_by, validates, verdict, visiting}
 use Rattle.mega_handler.specs.Named.{has}
 use Rattle.mega_format_laws.specs.Rounds.{AreMessages, Each, IsMember, IsMove, IsPlace, IsSender, IsShort}
 use Rattle.mega_format_laws.specs.Reads.{IsReadMove, IsReader, IsReading}
@@ -139,13 +139,11 @@ begun_formed s now o group asked h k i g =
     (local_formed asked (top_of now.met group) (top_formed now.met group k.met))
     (polled_formed (reader_of s o.id group) (serves_at s.cluster now.met) asked (clock_of now.met) who))
 
-group_formed : (now : Now) (o : Operation) (group : GroupId) (message : Option Enter) (t : ReadMove) → IsNow now → IsOperation o → IsGroup group → IsAwaited o.id message → IsReadMove t
-    → Leads (reads_group now o group message t)
-group_formed now o group message t k i g m r = (sends_formed now t.sends k r.sends, record { id = i.id; request = i.request; message = m; phase = (g, r.reading) })
-
 pub begins_formed : (s : Setting) (now : Now) (o : Operation) (group : GroupId) (message : Option Enter) (asked : List ℕ) → IsSetting s → IsNow now → IsOperation o → IsGroup group → IsAwaited o.id message
     → Leads (begins_read s now o group message asked)
-begins_formed s now o group message asked h k i g m = group_formed now o group message (read_begun s now o group asked) k i g m (begun_formed s now o group asked h k i g)
+begins_formed s now o group message asked h k i g m =
+    let t = begun_formed s now o group asked h k i g in
+    (sends_formed now (read_begun s now o group asked).sends k t.sends, record { id = i.id; request = i.request; message = m; phase = (g, t.reading) })
 
 nothing_formed : (now : Now) (o : Operation) → IsNow now → Leads (has_nothing now o)
 nothing_formed now o h = ends_formed now o.id _ h
@@ -192,7 +190,7 @@ enters_formed s now o group r p (Some message) h k i g le m = either Leads (is_n
 handles_formed : (s : Setting) (now : Now) (o : Operation) (group : GroupId) (r : Reading) (p : ℕ) (message : Option Enter) → AreOutcomes s → IsSetting s → IsNow now → IsOperation o → IsGroup group → p + 1 ≤ 1000000 → IsOption IsEntered message
     → Leads (handles s now o group r p message)
 handles_formed s now o group r p None a h k i g le m = picks_handle s now o (asked_by r) h k i
-handles_formed s now o group r p (Some message) a h k i g le m = either IsNow (has s.handlers message.queue) _ _
+handles_formed s now o group r p (Some message) a h k i g le m = either Leads (has s.handlers message.queue) _ _
     (proposes_formed s now o group r p (handling s o.id group message (table_rows s.cluster.schema group (listed_at now group p))) (Replies []) h k i g le
     (a.handling o.id group message (take p (log_of now.met group)) i.id m (front_formed now group p k)))
     (ends_formed now o.id (NoHandler message.queue) k)
@@ -266,4 +264,4 @@ rests_formed zero s (ActsAgain now o) a h k = keeps_formed now o k.0 k.1
 rests_formed (suc most) s (ActsAgain now o) a h k = rests_formed most s (acts s now o) a h (acts_formed s now o a h k.0 k.1)
 
 pub goes_formed : (s : Setting) → AreOutcomes s → IsSetting s → (now : Now) (o : Operation) → IsNow now → IsOperation o → IsNow (goes_on s now o)
-goes_formed s a h now o k i = rests_formed (most_turns now) s (ActsAgain now o) a h (k, i)
+goes_formed s a h now o k i = rests_formed (length (groups_of now.met) + 2) s (ActsAgain now o) a h (k, i)

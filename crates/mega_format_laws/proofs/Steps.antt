@@ -1,5 +1,5 @@
 -- The step of a node notes, sends and leaves only what is of the format.
-use Rattle.std.proofs.Common.{◌≡◌, ℕ, ◌+◌, ◌==◌, ◌&&◌, ◌≤◌, Bool, cond, List, [], ◌∷◌, ◌++◌, map, flat_map, fold, Option, Some, None, refl, min, arith}
+use Rattle.std.proofs.Common.{◌≡◌, ℕ, ◌+◌, ◌==◌, ◌&&◌, ◌≤◌, Bool, cond, List, [], ◌∷◌, ◌++◌, map, flat_map, fold, Option, Some, None, refl, min, arith, length}
 use Rattle.std.specs.Prelude.{filter, nat_le, nat_lt, is_none}
 use Rattle.mega_base.specs.declared.names.Epoch.{Epoch}
 use Rattle.mega_base.specs.declared.names.GroupId.{GroupId}
@@ -33,7 +33,7 @@ use Rattle.mega_voter.specs.of_rules.Locks.{asked_for, grant_note, lapses_at}
 use Rattle.mega_voter.specs.of_rules.Coordinators.{acquires_at, coordinator_calls, counts_notes, forget_notes, grant_notes, is_cell_in, lost_note, tick_notes, tick_told}
 use Rattle.mega_voter.specs.of_rules.Replies.{reply_to}
 use Rattle.mega_voter.specs.of_rules.Operations.{Node, Now, Operation, Phase, Proposes, Reads, Setting}
-use Rattle.mega_voter.specs.of_rules.Acting.{ends, goes_on, most_turns, reader_of, sends_more}
+use Rattle.mega_voter.specs.of_rules.Acting.{ends, goes_on, reader_of, sends_more}
 use Rattle.mega_voter.specs.of_rules.Steps.{Begin, Decision, Event, Heard, Step, Take, Tick, acts_first, acts_in_turn, all_act, applied_at, apply_note, apply_notes, at_first, at_open, background, begin_step, crashed, decision_at, decision_note, does_due, find_begins, first_settled, hears_message, if_new, is_out, lapse_notes, last_answer, lease_notes, local_find_begins, new_operation, news, onto, op_of, portion_of, read_begins, read_decision, refusal, settled_by, start, start_items, start_note, start_notes, step, step_of, stored_after, take_step, taken, tick_step, ticked, told_decision, told_notes, unless_refused}
 use Rattle.mega_format_laws.specs.Rounds.{AreMessages, Each, IsPlace, IsSender, IsShort}
 use Rattle.mega_format_laws.specs.Histories.{IsClock, IsItem, IsMet}
@@ -305,7 +305,7 @@ first_by s now id PumpHandle began visited message phase a h k i = picks_handle 
 first_by s now id Refresh began visited message phase a h k i = ends_formed now id _ k
 
 refused_or : (s : Setting) (now : Now) (o : Operation) (answer : Option Answer) → AreOutcomes s → IsSetting s → IsNow now → IsOperation o → IsNow (unless_refused s now o answer)
-refused_or s now o None a h k i = rests_formed (most_turns now) s (acts_first s now o) a h (first_by s now o.id o.request o.began o.visited o.message o.phase a h k (record { id = i.id; request = i.request; message = i.message; phase = i.phase }))
+refused_or s now o None a h k i = rests_formed (length (groups_of now.met) + 2) s (acts_first s now o) a h (first_by s now o.id o.request o.began o.visited o.message o.phase a h k (record { id = i.id; request = i.request; message = i.message; phase = i.phase }))
 refused_or s now o (Some answer) a h k i = ends_formed now o.id answer k
 
 begin_formed : (s : Setting) (node : Node) (request : Request) (text : List ℕ) → AreOutcomes s → IsSetting s → IsNode node → IsRequest request → IsStep (begin_step s node request text)

@@ -53,7 +53,7 @@ use Rattle.mega_leased_laws.specs.of_settled_laws.of_run_laws.of_tape_laws.of_pr
 use Rattle.mega_leased_laws.specs.of_settled_laws.of_run_laws.of_tape_laws.of_promises.of_rules.Met.{Met, Answers, Validates}
 use Rattle.mega_leased_laws.specs.of_settled_laws.of_run_laws.of_tape_laws.of_promises.of_rules.Queues.{Posted, enter_entry, is_named, names_entered, next_to_enter, next_to_handle, oldest_unhandled}
 use Rattle.mega_leased_laws.specs.of_settled_laws.of_run_laws.of_tape_laws.of_promises.of_rules.Operations.{Now, Operation, Phase, Promised, Proposes, Reads, Replies, Results, Setting}
-use Rattle.mega_leased_laws.specs.of_settled_laws.of_run_laws.of_tape_laws.of_promises.of_rules.Acting.{ActsAgain, Next, Rests, acts, applied_logs, batch_sealed, begins_read, committed, completes_read, ends, enters, finishes, goes_on, handles, handling, in_phase, is_taken, is_visited, keeps, leader_after, listed_at, most_turns, picks_group, picks_message, proposes, proposes_by, read_answer, read_begun, reader_of, reads_on, rests_within, rows_answer, rows_at, sealed, sends_more, table_rows, unless_decided, unless_full, validated_by, verdict, visiting}
+use Rattle.mega_leased_laws.specs.of_settled_laws.of_run_laws.of_tape_laws.of_promises.of_rules.Acting.{ActsAgain, Next, Rests, acts, applied_logs, batch_sealed, begins_read, committed, completes_read, ends, enters, finishes, goes_on, handles, handling, in_phase, is_taken, is_visited, keeps, leader_after, listed_at, picks_group, picks_message, proposes, proposes_by, read_answer, read_begun, reader_of, reads_on, rests_within, rows_answer, rows_at, sealed, sends_more, table_rows, unless_decided, unless_full, validated_by, verdict, visiting}
 use Rattle.mega_leased_laws.specs.of_settled_laws.of_run_laws.of_tape_laws.of_promises.of_rules.Steps.{onto}
 use Rattle.mega_leased_laws.specs.of_settled_laws.of_run_laws.of_tape_laws.Lawful.{Lawful, message}
 use Rattle.mega_leased_laws.specs.of_settled_laws.of_run_laws.of_tape_laws.Places.{In}
@@ -422,8 +422,8 @@ module _ (Far : List Item → OpId → GroupId → ℕ → Type 0) (enough : Suf
 
         handles_it : (oldest : Option Enter) → W now (one PumpHandle) → Leads (handles s now (one PumpHandle) group r p oldest)
         handles_it None w = picks_group_it now (one PumpHandle) (asked_by r) (next_to_handle (applied_logs now)) (again_reads PumpHandle (λ other. tt) w) (nothing_left PumpHandle w)
-        handles_it (Some oldest) w = either (has s.handlers oldest.queue) _ _
-            (proposed PumpHandle (handling s id group oldest (table_rows (s.cluster).schema group (listed_at now group p))) (Replies []) w) (ends_it now (one PumpHandle) (NoHandler oldest.queue) w (λ guard t. tt))
+        handles_it (Some oldest) w = either_so (has s.handlers oldest.queue) _ _
+            (λ there. proposed PumpHandle (handling s id group oldest (table_rows (s.cluster).schema group (listed_at now group p))) (Replies []) w) (ends_it now (one PumpHandle) (NoHandler oldest.queue) w (λ guard t. tt))
 
         finishes_by : (request : Request) → W now (one request) → Leads (finishes s now (one request) group r p)
         finishes_by (Txn transaction) w = full_it (Txn transaction) _ w (λ of is. ap Some of) (sealed_it transaction (outcome (s.cluster).schema transaction (rows_at now group p)) refl w)
@@ -469,4 +469,4 @@ module _ (Far : List Item → OpId → GroupId → ℕ → Type 0) (enough : Suf
     rests_within_it (suc most) (ActsAgain now o) w = rests_within_it most (acts s now o) (acts_by o.id o.began o.visited o.message now o.request o.phase w)
 
     pub goes_on_it : (now : Now) (o : Operation) → W now o → P (goes_on s now o)
-    goes_on_it now o w = rests_within_it (most_turns now) (ActsAgain now o) w
+    goes_on_it now o w = rests_within_it (length (groups_of now.met) + 2) (ActsAgain now o) w

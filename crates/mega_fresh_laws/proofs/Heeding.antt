@@ -1,5 +1,5 @@
 -- All that the operations of a node do in a step, one after another: what they hear, what is due, and one that begins.
-use Rattle.std.proofs.Common.{◌≡◌, ℕ, ◌-◌, nat_le, Bool, true, false, cond, List, [], ◌∷◌, length, map, flat_map, fold, Option, Some, None, refl, sym, ap, ◌∙◌, subst}
+use Rattle.std.proofs.Common.{◌≡◌, ℕ, ◌-◌, nat_le, Bool, true, false, cond, List, [], ◌∷◌, length, map, flat_map, fold, Option, Some, None, refl, sym, ap, ◌∙◌, subst, ◌+◌}
 use Rattle.std.proofs.lemmas.Option.{same_Some}
 use Rattle.mega_base.specs.declared.names.GroupId.{GroupId}
 use Rattle.mega_base.specs.declared.names.OpId.{OpId}
@@ -26,8 +26,9 @@ use Rattle.mega_leased_laws.specs.of_settled_laws.of_run_laws.of_tape_laws.of_pr
 use Rattle.mega_leased_laws.specs.of_settled_laws.of_run_laws.of_tape_laws.of_promises.of_rules.Members.{is_full}
 use Rattle.mega_leased_laws.specs.of_settled_laws.of_run_laws.of_tape_laws.of_promises.of_rules.Met.{Met}
 use Rattle.mega_leased_laws.specs.of_settled_laws.of_run_laws.of_tape_laws.of_promises.of_rules.Queues.{next_to_enter, next_to_handle}
+use Rattle.mega_leased_laws.specs.of_settled_laws.of_run_laws.of_tape_laws.of_promises.of_rules.Logs.{groups_of}
 use Rattle.mega_leased_laws.specs.of_settled_laws.of_run_laws.of_tape_laws.of_promises.of_rules.Operations.{Now, Operation, Phase, Proposes, Reads, Setting}
-use Rattle.mega_leased_laws.specs.of_settled_laws.of_run_laws.of_tape_laws.of_promises.of_rules.Acting.{Next, applied_logs, begins_read, ends, most_turns, read_answer, reader_of, rows_answer, sends_more}
+use Rattle.mega_leased_laws.specs.of_settled_laws.of_run_laws.of_tape_laws.of_promises.of_rules.Acting.{Next, applied_logs, begins_read, ends, read_answer, reader_of, rows_answer, sends_more}
 use Rattle.mega_leased_laws.specs.of_settled_laws.of_run_laws.of_tape_laws.of_promises.of_rules.Steps.{Heard, acts_first, acts_in_turn, all_act, does_due, find_begins, hears_message, is_current, is_out, last_answer, local_find_begins, new_operation, read_begins, ticked, unless_refused}
 use Rattle.mega_leased_laws.specs.of_settled_laws.of_run_laws.of_tape_laws.Lawful.{Lawful, message}
 use Rattle.mega_leased_laws.specs.of_settled_laws.of_run_laws.of_tape_laws.Places.{Took}
@@ -222,5 +223,5 @@ module _ (Far : List Item → OpId → GroupId → ℕ → Type 0) (enough : Suf
 
       pub begun_it : (request : Request) → asked_for usage.meaning tape id ≡ Some request → (refusal : Option Answer) → (refusal ≡ None → needs_full request ≡ true → is_full s.cluster s.me ≡ true) → ((answer : Answer) → refusal ≡ Some answer → IsFarAnswer Far s.cluster tape id request answer)
           → Ended (unless_refused s now (new_operation id request clock) refusal)
-      begun_it request asked None full far = rests_within_it Far enough s usage tape l q base last known locals (most_turns now) (acts_first s now (new_operation id request clock)) (first_by request asked (full refl))
+      begun_it request asked None full far = rests_within_it Far enough s usage tape l q base last known locals (length (groups_of now.met) + 2) (acts_first s now (new_operation id request clock)) (first_by request asked (full refl))
       begun_it request asked (Some answer) full far = given request asked answer (far answer refl)

@@ -38,7 +38,7 @@ use Rattle.mega_format_laws.specs.of_rules.Logs.{decided, groups_of, log_of, pre
 use Rattle.mega_format_laws.specs.of_rules.Coordinators.{refused_at, serves_at, valid_at}
 use Rattle.mega_format_laws.specs.of_rules.Queues.{Posted, enter_entry, is_named, names_entered, next_to_enter, next_to_handle, oldest_unhandled}
 use Rattle.mega_format_laws.specs.of_rules.Operations.{Now, Operation, Phase, Promised, Proposes, Reads, Replies, Results, Setting}
-use Rattle.mega_format_laws.specs.of_rules.Acting.{ActsAgain, Next, Rests, acts, applied_logs, batch_sealed, begins_read, completes_read, ends, enters, finishes, goes_on, handles, handling, has_nothing, in_phase, is_taken, is_visited, keeps, leader_after, listed_at, most_turns, named_leader, picks_group, picks_message, picks_to_enter, picks_to_handle, proposes, proposes_by, proposes_there, read_begun, reader_of, reads_group, reads_on, rests_within, rows_at, sealed, seeks_on, sends_more, table_rows, unless_decided, unless_full, validated_by, validates, verdict, visiting}
+use Rattle.mega_format_laws.specs.of_rules.Acting.{ActsAgain, Next, Rests, acts, applied_logs, batch_sealed, begins_read, completes_read, ends, enters, finishes, goes_on, handles, handling, has_nothing, in_phase, is_taken, is_visited, keeps, leader_after, listed_at, named_leader, picks_group, picks_message, picks_to_enter, picks_to_handle, proposes, proposes_by, proposes_there, read_begun, reader_of, reads_on, rests_within, rows_at, sealed, seeks_on, sends_more, table_rows, unless_decided, unless_full, validated_by, validates, verdict, visiting}
 use Rattle.mega_format_laws.specs.Rounds.{Each}
 use Rattle.mega_format_laws.proofs.Each.{each_both, either}
 use Rattle.mega_member_laws.specs.Messages.{AreWithin, IsHere, IsWithin, NamesHere}
@@ -130,13 +130,11 @@ begun_within s now o group asked h i =
     (local_within s.cluster asked (top_of now.met group))
     (polled_within s.cluster (reader_of s o.id group) (serves_at s.cluster now.met) asked (clock_of now.met) who))
 
-group_within : (s : Setting) (now : Now) (o : Operation) (group : GroupId) (message : Option Enter) (t : ReadMove) → NowWithin s.cluster now → OperationWithin s.cluster o → ReadMoveWithin s.cluster t
-    → Leads s.cluster (reads_group now o group message t)
-group_within s now o group message t k i r = (sends_within s.cluster now t.sends k r.sends, record { id = i.id; phase = r.reading })
-
 pub begins_within : (s : Setting) (now : Now) (o : Operation) (group : GroupId) (message : Option Enter) (asked : List ℕ) → HasCells s → NowWithin s.cluster now → OperationWithin s.cluster o
     → Leads s.cluster (begins_read s now o group message asked)
-begins_within s now o group message asked h k i = group_within s now o group message (read_begun s now o group asked) k i (begun_within s now o group asked h i)
+begins_within s now o group message asked h k i =
+    let t = begun_within s now o group asked h i in
+    (sends_within s.cluster now (read_begun s now o group asked).sends k t.sends, record { id = i.id; phase = t.reading })
 
 nothing_within : (c : Cluster) (now : Now) (o : Operation) → NowWithin c now → Leads c (has_nothing now o)
 nothing_within c now o h = ends_within c now o.id _ h
@@ -177,7 +175,7 @@ handle_here c op name effect h = either (NamesHere c) (nat_lt most_bytes (length
 handles_within : (s : Setting) (now : Now) (o : Operation) (group : GroupId) (r : Reading) (p : ℕ) (message : Option Enter) → HasCells s → NowWithin s.cluster now → OperationWithin s.cluster o
     → Leads s.cluster (handles s now o group r p message)
 handles_within s now o group r p None h k i = picks_handle s now o (asked_by r) h k i
-handles_within s now o group r p (Some message) h k i = either (NowWithin s.cluster) (has s.handlers message.queue) _ _
+handles_within s now o group r p (Some message) h k i = either (Leads s.cluster) (has s.handlers message.queue) _ _
     (proposes_within s now o group r p (handling s o.id group message (table_rows s.cluster.schema group (listed_at now group p))) (Replies []) h k i
     (handle_here s.cluster o.id message.name (handled s.cluster.schema group (table_rows s.cluster.schema group (listed_at now group p)) (effect_by (meaning s.handlers message.queue) message (table_rows s.cluster.schema group (listed_at now group p)))) i.id))
     (ends_within s.cluster now o.id (NoHandler message.queue) k)
@@ -237,4 +235,4 @@ rests_stays zero s (ActsAgain now o) h k = keeps_within s.cluster now o k.0 k.1
 rests_stays (suc most) s (ActsAgain now o) h k = rests_stays most s (acts s now o) h (acts_within s now o h k.0 k.1)
 
 pub goes_within : (s : Setting) → HasCells s → (now : Now) (o : Operation) → NowWithin s.cluster now → OperationWithin s.cluster o → NowWithin s.cluster (goes_on s now o)
-goes_within s h now o k i = rests_stays (most_turns now) s (ActsAgain now o) h (k, i)
+goes_within s h now o k i = rests_stays (length (groups_of now.met) + 2) s (ActsAgain now o) h (k, i)

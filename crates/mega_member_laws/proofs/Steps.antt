@@ -1,5 +1,5 @@
 -- The step of a node notes, sends and leaves only what stays within its cluster.
-use Rattle.std.proofs.Common.{ℕ, ◌==◌, ◌&&◌, ◌≤◌, Bool, cond, List, [], ◌∷◌, ◌++◌, length, map, flat_map, fold, Option, Some, None, ◌≡◌, refl}
+use Rattle.std.proofs.Common.{ℕ, ◌==◌, ◌&&◌, ◌≤◌, Bool, cond, List, [], ◌∷◌, ◌++◌, length, map, flat_map, fold, Option, Some, None, ◌≡◌, refl, ◌+◌}
 use Rattle.std.specs.Prelude.{filter, nat_le, nat_lt, is_none}
 use Rattle.mega_base.specs.declared.names.Epoch.{Epoch}
 use Rattle.mega_base.specs.declared.names.GroupId.{GroupId}
@@ -33,7 +33,7 @@ use Rattle.mega_format_laws.specs.of_rules.Locks.{asked_for, cell_calls, grant_n
 use Rattle.mega_format_laws.specs.of_rules.Coordinators.{acquires_at, coordinator_calls, counts_notes, forget_notes, grant_notes, is_cell_in, lost_note, tick_notes, tick_told}
 use Rattle.mega_format_laws.specs.of_rules.Replies.{reply_to}
 use Rattle.mega_format_laws.specs.of_rules.Operations.{Node, Now, Operation, Phase, Proposes, Reads, Setting}
-use Rattle.mega_format_laws.specs.of_rules.Acting.{ends, goes_on, most_turns, reader_of, sends_more}
+use Rattle.mega_format_laws.specs.of_rules.Acting.{ends, goes_on, reader_of, sends_more}
 use Rattle.mega_format_laws.specs.of_rules.Steps.{Begin, Decision, Event, Heard, Step, Take, Tick, acts_first, acts_in_turn, all_act, applied_at, apply_note, apply_notes, at_first, at_open, background, begin_step, crashed, decision_at, decision_note, does_due, find_begins, first_settled, hears_message, if_new, is_out, lapse_notes, last_answer, lease_notes, local_find_begins, new_operation, news, onto, op_of, portion_of, read_begins, read_decision, refusal, settled_by, start, start_items, start_note, start_notes, step, step_of, stored_after, take_step, taken, tick_step, ticked, told_decision, told_notes, unless_refused}
 use Rattle.mega_format_laws.specs.Rounds.{Each}
 use Rattle.mega_format_laws.proofs.Each.{each_both, each_fold, each_map, either}
@@ -308,7 +308,7 @@ first_by s now id PumpHandle began visited message phase h k i = picks_handle s 
 first_by s now id Refresh began visited message phase h k i = ends_within s.cluster now id _ k
 
 refused_or : (s : Setting) (now : Now) (o : Operation) (answer : Option Answer) → HasCells s → NowWithin s.cluster now → OperationWithin s.cluster o → NowWithin s.cluster (unless_refused s now o answer)
-refused_or s now o None h k i = rests_stays (most_turns now) s (acts_first s now o) h (first_by s now o.id o.request o.began o.visited o.message o.phase h k (record { id = i.id; phase = i.phase }))
+refused_or s now o None h k i = rests_stays (length (groups_of now.met) + 2) s (acts_first s now o) h (first_by s now o.id o.request o.began o.visited o.message o.phase h k (record { id = i.id; phase = i.phase }))
 refused_or s now o (Some answer) h k i = ends_within s.cluster now o.id answer k
 
 begin_within : (s : Setting) (node : Node) (request : Request) (text : List ℕ) → IsHere s.cluster s.me → HasCells s → StaysWithin s.cluster node → StepWithin s.cluster (begin_step s node request text)

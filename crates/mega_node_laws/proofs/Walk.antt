@@ -32,7 +32,7 @@ use Rattle.mega_voter.specs.of_rules.Logs.{decided, groups_of, log_of, prefix_of
 use Rattle.mega_voter.specs.of_rules.Coordinators.{refused_at, serves_at, valid_at}
 use Rattle.mega_voter.specs.of_rules.Queues.{Posted, enter_entry, is_named, names_entered, next_to_enter, next_to_handle, oldest_unhandled}
 use Rattle.mega_voter.specs.of_rules.Operations.{Now, Operation, Phase, Promised, Proposes, Reads, Replies, Results, Setting}
-use Rattle.mega_voter.specs.of_rules.Acting.{Next, Rests, ActsAgain, acts, applied_logs, batch_sealed, begins_read, completes_read, enters, finishes, goes_on, handles, handling, is_taken, is_visited, leader_after, listed_at, most_turns, picks_group, picks_message, proposes, proposes_by, read_begun, reader_of, reads_on, rests_within, rows_at, sealed, sends_more, table_rows, unless_decided, unless_full, validated_by, validates, ends, keeps, in_phase, visiting}
+use Rattle.mega_voter.specs.of_rules.Acting.{Next, Rests, ActsAgain, acts, applied_logs, batch_sealed, begins_read, completes_read, enters, finishes, goes_on, handles, handling, is_taken, is_visited, leader_after, listed_at, picks_group, picks_message, proposes, proposes_by, read_begun, reader_of, reads_on, rests_within, rows_at, sealed, sends_more, table_rows, unless_decided, unless_full, validated_by, validates, ends, keeps, in_phase, visiting}
 use Rattle.mega_voter.specs.of_rules.Steps.{Heard, acts_first, acts_in_turn, all_act, begins, does_due, find_begins, hears_message, is_out, local_find_begins, read_begins, ticked, unless_refused}
 use Rattle.mega_node_laws.specs.About.{IsAbout, IsOf, group_in}
 use Rattle.mega_node_laws.proofs.Rounds.{asks_hold}
@@ -152,7 +152,7 @@ module _ (A : Message → Type 0) (P : Now → Type 0) (wanted : Type 0) (l : La
   handles_it : (now : Now) (o : Operation) (group : GroupId) (r : Reading) (p : ℕ) (message : Option Enter) → (wanted → IsAbout o) → (wanted → (group : GroupId) → IsOf o.request group) → P now
       → Leads P wanted (handles s now o group r p message)
   handles_it now o group r p None about of h = picks_group_it now o (asked_by r) (next_to_handle (applied_logs now)) of h
-  handles_it now o group r p (Some message) about of h = either (has s.handlers message.queue) _ _
+  handles_it now o group r p (Some message) about of h = either_next (has s.handlers message.queue) _ _
       (proposes_it now o group r p (handling s o.id group message (table_rows s.cluster.schema group (listed_at now group p))) (Replies []) about (λ w. of w group) h) (l.ends_it now o.id _ h)
 
   pub unless_full_it : (now : Now) (o : Operation) (p : ℕ) (next : Next) → P now → Leads P wanted next → Leads P wanted (unless_full s now o p next)
@@ -210,7 +210,7 @@ module _ (A : Message → Type 0) (P : Now → Type 0) (wanted : Type 0) (l : La
   rests_within_it (suc most) (ActsAgain now o) h = rests_within_it most (acts s now o) (acts_it now o h.0 h.1)
 
   pub goes_on_it : (now : Now) (o : Operation) → (wanted → IsAbout o) → P now → P (goes_on s now o)
-  goes_on_it now o about h = rests_within_it (most_turns now) (ActsAgain now o) (about, h)
+  goes_on_it now o about h = rests_within_it (length (groups_of now.met) + 2) (ActsAgain now o) (about, h)
 
   -- one after another, and at a tick
   pub acts_in_turn_it : (now : Now) (t : Heard) → IsHeard A wanted t → P now → P (acts_in_turn s now t)
@@ -255,7 +255,7 @@ module _ (A : Message → Type 0) (P : Now → Type 0) (wanted : Type 0) (l : La
     first_by now Refresh h = l.ends_it now id _ h
 
   pub begins_it : (now : Now) (o : Operation) → P now → P (begins s now o)
-  begins_it now o h = rests_within_it (most_turns now) (acts_first s now o) (first_by o.id o.began o.visited o.message o.phase now o.request h)
+  begins_it now o h = rests_within_it (length (groups_of now.met) + 2) (acts_first s now o) (first_by o.id o.began o.visited o.message o.phase now o.request h)
 
   pub begun_it : (now : Now) (o : Operation) (refusal : Option Answer) → P now → P (unless_refused s now o refusal)
   begun_it now o None h = begins_it now o h

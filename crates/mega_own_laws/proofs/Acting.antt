@@ -38,7 +38,7 @@ use Rattle.mega_run_laws.specs.of_rules.Coordinators.{refused_at, serves_at, val
 use Rattle.mega_run_laws.specs.of_rules.Logs.{decided, groups_of, log_of, prefix_of, top_of}
 use Rattle.mega_run_laws.specs.of_rules.Queues.{Posted, enter_entry, is_named, names_entered, next_to_enter, next_to_handle, oldest_unhandled}
 use Rattle.mega_run_laws.specs.of_rules.Operations.{Now, Operation, Phase, Promised, Proposes, Reads, Replies, Results, Setting}
-use Rattle.mega_run_laws.specs.of_rules.Acting.{ActsAgain, Next, Rests, acts, applied_logs, batch_sealed, begins_read, completes_read, ends, enters, finishes, goes_on, handles, handling, in_phase, is_taken, is_visited, keeps, leader_after, listed_at, most_turns, picks_group, picks_message, picks_to_enter, picks_to_handle, proposes, proposes_by, proposes_there, read_begun, reader_of, reads_group, reads_on, rests_within, rows_at, sealed, seeks_on, sends_more, table_rows, unless_decided, unless_full, validated_by, validates, verdict, visiting}
+use Rattle.mega_run_laws.specs.of_rules.Acting.{ActsAgain, Next, Rests, acts, applied_logs, batch_sealed, begins_read, completes_read, ends, enters, finishes, goes_on, handles, handling, in_phase, is_taken, is_visited, keeps, leader_after, listed_at, picks_group, picks_message, picks_to_enter, picks_to_handle, proposes, proposes_by, proposes_there, read_begun, reader_of, reads_on, rests_within, rows_at, sealed, seeks_on, sends_more, table_rows, unless_decided, unless_full, validated_by, validates, verdict, visiting}
 use Rattle.mega_run_laws.specs.of_rules.Steps.{acts_first, find_begins, local_find_begins, read_begins, unless_refused}
 use Rattle.mega_run_laws.specs.of_tape_laws.Indexed.{IsDeclared}
 use Rattle.mega_run_laws.specs.Justified.{Each}
@@ -125,11 +125,9 @@ module _ (s : Setting) where
       (local_own s.cluster.schema group asked (top_of now.met group))
       (polled_own s.cluster.schema (reader_of s o.id group) (serves_at s.cluster now.met) asked (clock_of now.met)))
 
-  group_own : (now : Now) (o : Operation) (group : GroupId) (message : Option Enter) (t : ReadMove) → IsOwnNow now → IsOf o.request group → ReadMoveOwn s.cluster.schema group t → Leads (reads_group now o group message t)
-  group_own now o group message t h of m = (sends_own now t.sends h m.sends, record { about = of; phase = m.reading })
-
   begins_read_own : (now : Now) (o : Operation) (group : GroupId) (message : Option Enter) (asked : List ℕ) → IsOwnNow now → IsOf o.request group → Leads (begins_read s now o group message asked)
-  begins_read_own now o group message asked h of = group_own now o group message (read_begun s now o group asked) h of (begun_own now o group asked)
+  begins_read_own now o group message asked h of =
+      (sends_own now (read_begun s now o group asked).sends h (begun_own now o group asked).sends, record { about = of; phase = (begun_own now o group asked).reading })
 
   message_picked : (now : Now) (o : Operation) (asked : List ℕ) (found : Option Posted) → IsOwnNow now → ((group : GroupId) → IsOf o.request group) → Leads (picks_message s now o asked found)
   message_picked now o asked None h of = ends_own now o.id _ h
@@ -171,8 +169,8 @@ module _ (s : Setting) where
     handles_own : (now : Now) (o : Operation) (group : GroupId) (r : Reading) (p : ℕ) (message : Option Enter) → IsOwnNow now → OperationOwn s.cluster.schema o → ((group : GroupId) → IsOf o.request group)
         → Leads (handles s now o group r p message)
     handles_own now o group r p None h k of = picks_handle now o (asked_by r) h of
-    handles_own now o group r p (Some message) h k of = either IsOwnNow (has s.handlers message.queue)
-        (proposes s now o group r p (handling s o.id group message (table_rows s.cluster.schema group (listed_at now group p))) (Replies [])) (ends now o.id (NoHandler message.queue))
+    handles_own now o group r p (Some message) h k of = either Leads (has s.handlers message.queue)
+        (Rests (proposes s now o group r p (handling s o.id group message (table_rows s.cluster.schema group (listed_at now group p))) (Replies []))) (Rests (ends now o.id (NoHandler message.queue)))
         (proposes_own now o group r p (handling s o.id group message (table_rows s.cluster.schema group (listed_at now group p))) (Replies []) h k (of group)
         (handling_own s declared o.id group message (table_rows s.cluster.schema group (listed_at now group p))))
         (ends_own now o.id (NoHandler message.queue) h)
@@ -227,7 +225,7 @@ module _ (s : Setting) where
     rests_own (suc most) (ActsAgain now o) h = rests_own most (acts s now o) (acts_own now o h.0 h.1)
 
     pub goes_own : (now : Now) (o : Operation) → IsOwnNow now → OperationOwn s.cluster.schema o → IsOwnNow (goes_on s now o)
-    goes_own now o h k = rests_own (most_turns now) (ActsAgain now o) (h, k)
+    goes_own now o h k = rests_own (length (groups_of now.met) + 2) (ActsAgain now o) (h, k)
 
     -- ---- an operation begins
 
@@ -259,5 +257,5 @@ module _ (s : Setting) where
       first_by now Refresh h = ends_own now id _ h
 
     pub begun_or_refused : (now : Now) (o : Operation) (refusal : Option Answer) → IsOwnNow now → IsOwnNow (unless_refused s now o refusal)
-    begun_or_refused now o None h = rests_own (most_turns now) (acts_first s now o) (first_by o.id o.began o.visited o.message o.phase now o.request h)
+    begun_or_refused now o None h = rests_own (length (groups_of now.met) + 2) (acts_first s now o) (first_by o.id o.began o.visited o.message o.phase now o.request h)
     begun_or_refused now o (Some answer) h = ends_own now o.id answer h

@@ -41,7 +41,7 @@ use Rattle.mega_rules.specs.Coordinators.{refused_at}
 use Rattle.mega_rules.specs.Finding.{refreshed_marks}
 use Rattle.mega_rules.specs.Queues.{Posted, enter_entry, is_named, names_entered, next_to_enter, next_to_handle, oldest_unhandled}
 use Rattle.mega_rules.specs.Operations.{Node, Now, Operation, Phase, Promised, Proposes, Reads, Replies, Results, Setting}
-use Rattle.mega_rules.specs.Acting.{ActsAgain, Next, Rests, acts, applied_logs, batch_sealed, begins_read, committed, completes_read, ends, enters, finishes, goes_on, handles, handling, is_taken, keeps, leader_after, listed_at, most_turns, picks_group, picks_message, proposes, proposes_by, read_answer, read_begun, reads_on, rests_within, rows_answer, rows_at, sealed, sends_more, table_rows, unless_decided, unless_full, validated_by, validates, verdict}
+use Rattle.mega_rules.specs.Acting.{ActsAgain, Next, Rests, acts, applied_logs, batch_sealed, begins_read, committed, completes_read, ends, enters, finishes, goes_on, handles, handling, is_taken, keeps, leader_after, listed_at, picks_group, picks_message, proposes, proposes_by, read_answer, read_begun, reads_on, rests_within, rows_answer, rows_at, sealed, sends_more, table_rows, unless_decided, unless_full, validated_by, validates, verdict}
 use Rattle.mega_rules.specs.Replies.{reply_to}
 use Rattle.mega_rules.specs.Steps.{Begin, Decision, Event, Heard, Take, Tick, acts_first, acts_in_turn, all_act, applied_position, apply_notes, at_first, at_open, begin_step, decision_note, does_due, find_begins, first_settled, hears_message, if_new, is_out, is_worn, lapse_notes, last_answer, lease_notes, local_find_begins, missing_kind, needs_full, new_operation, news, onto, op_of, portion_of, read_begins, refusal, snapshot_listed, step, stored_after, stored_listed, take_step, taken, tick_step, ticked, told_decision, told_notes, unless_busy, unless_missing, unless_refused}
 use Rattle.mega_node_laws.proofs.Ending.{taken_by}
@@ -155,7 +155,7 @@ module _ (s : Setting) where
   handles_it : (now : Now) (o : Operation) (group : GroupId) (r : Reading) (p : ℕ) (message : Option Enter) → Said k now → Leads (handles s now o group r p message)
   handles_it now o group r p None h = picks_group_it now o (asked_by r) (next_to_handle (applied_logs now)) h
   handles_it now o group r p (Some message) h =
-      either (Said k) (has s.handlers message.queue) _ _
+      either Leads (has s.handlers message.queue) _ _
       (proposes_it now o group r p (handling s o.id group message (table_rows s.cluster.schema group (listed_at now group p))) (Replies []) h) (ends_it now o.id (NoHandler message.queue) tt h)
 
   -- ---- reads and finds
@@ -210,7 +210,7 @@ module _ (s : Setting) where
   rests_within_it (suc most) (ActsAgain now o) h = rests_within_it most (acts s now o) (acts_it now o.id o.request o.began o.visited o.message o.phase h)
 
   goes_on_it : (now : Now) (o : Operation) → Said k now → Said k (goes_on s now o)
-  goes_on_it now o h = rests_within_it (most_turns now) (ActsAgain now o) h
+  goes_on_it now o h = rests_within_it (length (groups_of now.met) + 2) (ActsAgain now o) h
 
   all_act_it : (ts : List Heard) (now : Now) → Said k now → Said k (all_act s now ts)
   all_act_it [] now h = h
@@ -258,7 +258,7 @@ module _ (s : Setting) where
   FitsSome (Some answer) = IsFit k answer
 
   begun_it : (now : Now) (o : Operation) (why : Option Answer) → FitsSome why → Said k now → Said k (unless_refused s now o why)
-  begun_it now o None fit h = rests_within_it (most_turns now) (acts_first s now o) (first_it now o.id o.request o.began o.visited o.message o.phase h)
+  begun_it now o None fit h = rests_within_it (length (groups_of now.met) + 2) (acts_first s now o) (first_it now o.id o.request o.began o.visited o.message o.phase h)
   begun_it now o (Some answer) fit h = ends_it now o.id answer fit h
 
   busy_fit : (os : List Operation) → FitsSome (unless_busy os)

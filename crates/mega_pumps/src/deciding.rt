@@ -1,12 +1,12 @@
 //! What a pump does whose read of a group is complete.
-ghost use Rattle.std.specs.Prelude.{◌≡◌, ◌≤◌, true, false, take, IfOk};
+ghost use Rattle.std.specs.Prelude.{◌≡◌, ◌≤◌, true, false, take, IfOk, Some};
 ghost use Rattle.std.specs.Option.{option_copied};
 ghost use Rattle.std.specs.Result.{result_err};
 ghost use Rattle.mega_meanings.specs.Means.{Means};
 ghost use Rattle.mega_outcome.specs.Answers.{rows_at};
 ghost use Rattle.mega_outcome.specs.Looks.{Looks};
 ghost use Rattle.mega_read.specs.declared.reading.Reading.{Reading};
-ghost use Rattle.mega_rules.specs.Acting.{Rests, enters, handles, handles_message, listed_at};
+ghost use Rattle.mega_rules.specs.Acting.{enters, handles, listed_at};
 ghost use Rattle.mega_rules.specs.Logs.{log_of, prefix_of};
 ghost use Rattle.mega_rules.specs.Operations.{Now, Operation, Setting};
 ghost use Rattle.mega_rules.specs.Queues.{enter_entry, oldest_unhandled};
@@ -96,7 +96,7 @@ fn handles_message<V: Versions, H: QueueHandlers>(
 ) -> Result<Own, StoreError>
     ensures own { V.is_told ≡ true → IfOk result (λ own. (s : Setting) (now : Now) (o : Operation) (r : Reading) → Means (H.meant handlers.old) s.handlers → s.cluster.schema ≡ schema.now →
         Shows schema.now group.now (rows_at (V.version rows.old) through) (listed_at now group.now through) → o.id ≡ op →
-        own_by false s now o group.now r through own ≡ Rests (handles_message s now o group.now r through message.now)) }
+        own_by false s now o group.now r through own ≡ handles s now o group.now r through (Some message.now)) }
     ensures looks { Looks V.Versions (result_err result) rows.old rows.new }
     ensures handlers { H.meant handlers.new ≡ H.meant handlers.old }
 {

@@ -139,8 +139,7 @@ validates s now group p (Some noted) = validated_by now group p (refused_at s.cl
 
 abbrev pub completes_read : Setting → Now → GroupId → Reading → ℕ → Now
 completes_read s now group r p =
-    validates s (record now { stored = stored_with now.stored group (after_read p (log_of now.met group) (now.stored group)) })
-    group p r.noted
+    validates s (record now { stored = stored_with now.stored group (after_read p (log_of now.met group) (now.stored group)) }) group p r.noted
 
 -- a transaction's outcome on the rows through which it read (CIDR 2011, transactions)
 abbrev pub sealed : Setting → Now → Operation → GroupId → Reading → ℕ → Result Done Turn → Now
@@ -196,11 +195,8 @@ read_begun s now o group asked =
 abbrev pub visiting : Operation → GroupId → Option Enter → ReadMove → Operation
 visiting o group message t = record o { visited = o.visited ++ group ∷ []; message = message; phase = Reads group t.reading }
 
-abbrev pub reads_group : Now → Operation → GroupId → Option Enter → ReadMove → Next
-reads_group now o group message t = ActsAgain (sends_more now t.sends) (visiting o group message t)
-
 abbrev pub begins_read : Setting → Now → Operation → GroupId → Option Enter → List ℕ → Next
-begins_read s now o group message asked = reads_group now o group message (read_begun s now o group asked)
+begins_read s now o group message asked = let t = read_begun s now o group asked in ActsAgain (sends_more now t.sends) (visiting o group message t)
 
 -- a pump picks the message, or the group, that it is to serve, and ends where there is none
 abbrev pub has_nothing : Now → Operation → Next
@@ -229,22 +225,18 @@ enters s now o group r p (Some message) =
     else Rests (proposes s now o group r p (enter_entry o.id message) (Replies []))
 
 -- a pump that handles: the group's oldest message that is not handled, if its queue has a handler; where there is none left it picks again
-abbrev pub handles_message : Setting → Now → Operation → GroupId → Reading → ℕ → Enter → Now
-handles_message s now o group r p message =
-    if has s.handlers message.queue
-    then proposes s now o group r p (handling s o.id group message (table_rows s.cluster.schema group (listed_at now group p))) (Replies [])
-    else ends now o.id (NoHandler message.queue)
-
 abbrev pub handles : Setting → Now → Operation → GroupId → Reading → ℕ → Option Enter → Next
 handles s now o group r p None = picks_to_handle s now o (asked_by r)
-handles s now o group r p (Some message) = Rests (handles_message s now o group r p message)
+handles s now o group r p (Some message) =
+    if has s.handlers message.queue
+    then Rests (proposes s now o group r p (handling s o.id group message (table_rows s.cluster.schema group (listed_at now group p))) (Replies []))
+    else Rests (ends now o.id (NoHandler message.queue))
 
 -- what an operation does whose current read through a position is complete
 abbrev pub finishes : Setting → Now → Operation → GroupId → Reading → ℕ → Next
 finishes s now o group r p = elim o.request [
   | Txn transaction ↦ unless_full s now o p (Rests (sealed s now o group r p (outcome s.cluster.schema transaction (rows_at now group p))))
-  | BatchRequest own transactions ↦
-      unless_full s now o p (Rests (batch_sealed s now o group r p (batch_outcome s.cluster.schema own transactions (rows_at now group p))))
+  | BatchRequest own transactions ↦ unless_full s now o p (Rests (batch_sealed s now o group r p (batch_outcome s.cluster.schema own transactions (rows_at now group p))))
   | ReadRequested request ↦ Rests (ends now o.id (read_answer s request p (rows_at now group p) (listed_at now group p)))
   | Find request ↦ Rests (ends now o.id (local_found s.cluster.schema request p (listed_at now group p)))
   | PumpEnter ↦ unless_full s now o p (enters s now o group r p o.message)
@@ -278,8 +270,5 @@ rests_within most s (Rests now) = now
 rests_within zero s (ActsAgain now o) = keeps now o
 rests_within (suc most) s (ActsAgain now o) = rests_within most s (acts s now o)
 
-abbrev pub most_turns : Now → ℕ
-most_turns now = length (groups_of now.met) + 2
-
 abbrev pub goes_on : Setting → Now → Operation → Now
-goes_on s now o = rests_within (most_turns now) s (ActsAgain now o)
+goes_on s now o = rests_within (length (groups_of now.met) + 2) s (ActsAgain now o)

@@ -37,7 +37,7 @@ use Rattle.mega_rules.specs.Locks.{asked_for, grant_note, lapses_at}
 use Rattle.mega_rules.specs.Coordinators.{acquires_at, grant_notes, tick_notes}
 use Rattle.mega_rules.specs.Replies.{reply_to}
 use Rattle.mega_rules.specs.Operations.{Node, Now, Operation, Promised, Proposes, Reads, Setting}
-use Rattle.mega_rules.specs.Acting.{Next, Rests, applied_marks, begins_read, ends, goes_on, in_phase, keeps, listed_at, most_turns, picks_to_enter, picks_to_handle, read_answer, reader_of, rests_within, rows_at, sends_more, stored_with}
+use Rattle.mega_rules.specs.Acting.{Next, Rests, applied_marks, begins_read, ends, goes_on, in_phase, keeps, listed_at, picks_to_enter, picks_to_handle, read_answer, reader_of, rests_within, rows_at, sends_more, stored_with}
 use Rattle.mega_rules.specs.Finding.{global_found, local_found}
 
 -- what happens at a node
@@ -288,10 +288,8 @@ stored_listed now group = list_written (stored_writes (log_of now.met group) (no
 -- a read or a find by its mode
 abbrev pub read_begins : Setting → Now → Operation → ReadRequest → Mode → Next
 read_begins s now o request Current = begins_read s now o request.group None []
-read_begins s now o request Snapshot =
-    Rests (ends now o.id (read_answer s request (applied_position now request.group) (snapshot_rows now request.group) (snapshot_listed now request.group)))
-read_begins s now o request Inconsistent =
-    Rests (ends now o.id (read_answer s request (applied_position now request.group) (stored_rows now request.group) (stored_listed now request.group)))
+read_begins s now o request Snapshot = Rests (ends now o.id (read_answer s request (applied_position now request.group) (snapshot_rows now request.group) (snapshot_listed now request.group)))
+read_begins s now o request Inconsistent = Rests (ends now o.id (read_answer s request (applied_position now request.group) (stored_rows now request.group) (stored_listed now request.group)))
 
 abbrev pub local_find_begins : Setting → Now → Operation → FindRequest → GroupId → Mode → Next
 local_find_begins s now o request group Current = begins_read s now o group None []
@@ -315,7 +313,7 @@ acts_first s now o = elim o.request [
 ]
 
 abbrev pub begins : Setting → Now → Operation → Now
-begins s now o = rests_within (most_turns now) s (acts_first s now o)
+begins s now o = rests_within (length (groups_of now.met) + 2) s (acts_first s now o)
 
 abbrev pub unless_refused : Setting → Now → Operation → Option Answer → Now
 unless_refused s now o None = begins s now o

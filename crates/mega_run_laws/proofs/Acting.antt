@@ -41,7 +41,7 @@ use Rattle.mega_tape_laws.specs.of_rules.Coordinators.{refused_at, serves_at, va
 use Rattle.mega_tape_laws.specs.of_rules.Queues.{Posted, enter_entry, is_named, names_entered, next_to_enter, next_to_handle, oldest_unhandled}
 use Rattle.mega_index.specs.Rows.{Listed}
 use Rattle.mega_tape_laws.specs.of_rules.Operations.{Now, Operation, Phase, Promised, Proposes, Reads, Replies, Results, Setting}
-use Rattle.mega_tape_laws.specs.of_rules.Acting.{ActsAgain, Next, Rests, acts, applied_logs, batch_sealed, begins_read, completes_read, ends, enters, finishes, goes_on, handles, handling, in_phase, is_taken, is_visited, keeps, leader_after, listed_at, most_turns, named_leader, picks_group, picks_message, picks_to_enter, picks_to_handle, proposes, proposes_by, proposes_there, read_begun, reads_on, rests_within, rows_at, sealed, seeks_on, sends_more, table_rows, unless_decided, unless_full, validated_by, validates, visiting}
+use Rattle.mega_tape_laws.specs.of_rules.Acting.{ActsAgain, Next, Rests, acts, applied_logs, batch_sealed, begins_read, completes_read, ends, enters, finishes, goes_on, handles, handling, in_phase, is_taken, is_visited, keeps, leader_after, listed_at, named_leader, picks_group, picks_message, picks_to_enter, picks_to_handle, proposes, proposes_by, proposes_there, read_begun, reads_on, rests_within, rows_at, sealed, seeks_on, sends_more, table_rows, unless_decided, unless_full, validated_by, validates, visiting}
 use Rattle.mega_tape_laws.specs.Places.{In, Place, Proposes as ProposesMove, moves}
 use Rattle.mega_tape_laws.specs.Writes.{AreWritten, OwnEntry, Own, Usage, enters as enters_one, handles as handles_one, own as own_one, runs, runs_all, Knows}
 use Rattle.mega_run_laws.specs.Usages.{Brought}
@@ -388,13 +388,13 @@ handling_id s op group message rows = either_id _ _ _ (Some op) refl refl
 handles_done : (users : Users) → (s : Setting) → (users.fits → Brought users.usage s.handlers) → (f : Frame) (now : Now) (o : Operation) (group : GroupId) (r : Reading) (p : ℕ) (message : Option Enter) → o.request ≡ PumpHandle → oldest_unhandled (take p (log_of now.met group)) ≡ message → FullAt users s f now o group p
     → Leads users s f o (handles s now o group r p message)
 handles_done users s brought f now o group r p None is oldest h = picks_to_handle_done users s brought f now o (asked_by r) (h.ready).turn h.free (λ fits. record { began = ((h.ready).owned fits).began; none = h.none fits; is = is })
-handles_done users s brought f now o group r p (Some message) is oldest h = done_if users s brought f o (has s.handlers message.queue)
-    (proposes s now o group r p (handling s o.id group message (table_rows s.cluster.schema group (listed_at now group p))) (Replies [])) _
-    (proposes_done users s brought f now o group r p (handling s o.id group message (table_rows s.cluster.schema group (listed_at now group p))) (Replies []) h
+handles_done users s brought f now o group r p (Some message) is oldest h = leads_when users s f o (has s.handlers message.queue)
+    (Rests (proposes s now o group r p (handling s o.id group message (table_rows s.cluster.schema group (listed_at now group p))) (Replies []))) _
+    (λ there. proposes_done users s brought f now o group r p (handling s o.id group message (table_rows s.cluster.schema group (listed_at now group p))) (Replies []) h
     (λ fits. handles_one message (brought fits).moment (full_asked users s f now o group p h fits ∙ ap Some is) oldest
     (λ i. handled_by s.cluster.schema (sym (brought fits).is i) group o.id message (take p (log_of now.met group))))
     (handling_id s o.id group message (table_rows s.cluster.schema group (listed_at now group p)))
-    (λ fits. subst (λ r. Keeps s.cluster.schema (tape_of f now.sends) o.id group (record { 0 = p + 1 }) r (Replies [])) (sym is) tt)) (reading_ends users s f now o _ (h.ready).turn h.none (λ fits. tt))
+    (λ fits. subst (λ r. Keeps s.cluster.schema (tape_of f now.sends) o.id group (record { 0 = p + 1 }) r (Replies [])) (sym is) tt)) (λ none. reading_ends users s f now o _ (h.ready).turn h.none (λ fits. tt))
 
 finishes_done : (users : Users) → (s : Setting) → (users.fits → Brought users.usage s.handlers) → (f : Frame) (now : Now) (id : OpId) (request : Request) (began : ℕ) (visited : List GroupId) (message : Option Enter) (phase : Phase)
     (group : GroupId) (r : Reading) (p : ℕ) → FullAt users s f now (record { id = id; request = request; began = began; visited = visited; message = message; phase = phase }) group p
@@ -491,4 +491,4 @@ rests_done users s brought f (suc most) o (ActsAgain now other) h = same_done us
     (rests_done users s brought f most other (acts s now other) (acts_done users s brought f now other.id other.request other.began other.visited other.message other.phase h.1))
 
 pub goes_on_done : (users : Users) → (s : Setting) → (users.fits → Brought users.usage s.handlers) → (f : Frame) (now : Now) (o : Operation) → ReadyAt users s f now o → DoneAt users s f o (goes_on s now o)
-goes_on_done users s brought f now o h = rests_done users s brought f (most_turns now) o (ActsAgain now o) (refl, h)
+goes_on_done users s brought f now o h = rests_done users s brought f (length (groups_of now.met) + 2) o (ActsAgain now o) (refl, h)

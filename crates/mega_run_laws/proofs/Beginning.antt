@@ -1,5 +1,5 @@
 -- All operations of a step act, one after another, and each does only what is allowed.
-use Rattle.std.proofs.Common.{◌≡◌, ℕ, ◌+◌, ◌≤◌, max, Bool, true, false, cond, List, [], ◌∷◌, map, fold, Option, Some, None, refl, sym, subst, arith, ◌<◌, ◌++◌, inr, flat_map, ap, ◌∙◌}
+use Rattle.std.proofs.Common.{◌≡◌, ℕ, ◌+◌, ◌≤◌, max, Bool, true, false, cond, List, [], ◌∷◌, map, fold, Option, Some, None, refl, sym, subst, arith, ◌<◌, ◌++◌, inr, flat_map, ap, ◌∙◌, length}
 use Rattle.mega_base.specs.declared.names.GroupId.{GroupId}
 use Rattle.mega_base.specs.declared.names.OpId.{OpId}
 use Rattle.mega_entry.specs.declared.content.Enter.{Enter}
@@ -21,8 +21,9 @@ use Rattle.mega_ballot.specs.Order.{zero_ballot}
 use Rattle.mega_cluster.specs.declared.cluster.Cluster.{Cluster}
 use Rattle.mega_coordinator.specs.declared.answers.NotValid.{NotValid}
 use Rattle.mega_tape_laws.specs.of_rules.Met.{Answers, Met, Validates}
+use Rattle.mega_tape_laws.specs.of_rules.Logs.{groups_of}
 use Rattle.mega_tape_laws.specs.of_rules.Operations.{Now, Operation, Phase, Proposes, Reads, Setting}
-use Rattle.mega_tape_laws.specs.of_rules.Acting.{ends, goes_on, most_turns, sends_more, validated_by}
+use Rattle.mega_tape_laws.specs.of_rules.Acting.{ends, goes_on, sends_more, validated_by}
 use Rattle.mega_tape_laws.specs.of_rules.Steps.{Heard, acts_first, acts_in_turn, all_act, applied_position, begins, does_due, find_begins, hears_message, is_current, is_out, last_answer, local_find_begins, read_begins, snapshot_listed, stored_listed, ticked, unless_refused}
 use Rattle.mega_tape_laws.specs.Places.{In, Place, Proposes as ProposesMove, Took, moves}
 use Rattle.mega_tape_laws.specs.Writes.{AreWritten, Usage, again}
@@ -317,4 +318,4 @@ begun_fine users s brought f k now o (Some answer) fine node start h le st less 
   most = omega arith;
   fine = refused_fine users s.cluster f k (max k ((o.id).number + 1)) now.met now.kept now.answers now.sends o.id answer (omega arith) node start (omega arith) fine less (λ fits. given fits answer refl);
 }
-begun_fine users s brought f k now o None fine node start h le st less given = record { k = (o.id).number + 1; most = omega arith; fine = rests_done users s brought f (most_turns now) o (acts_first s now o) (first_done users s brought f now o.id o.request o.began o.visited o.message o.phase (h refl).0 (h refl).1 (λ fits. st fits refl)) }
+begun_fine users s brought f k now o None fine node start h le st less given = record { k = (o.id).number + 1; most = omega arith; fine = rests_done users s brought f (length (groups_of now.met) + 2) o (acts_first s now o) (first_done users s brought f now o.id o.request o.began o.visited o.message o.phase (h refl).0 (h refl).1 (λ fits. st fits refl)) }

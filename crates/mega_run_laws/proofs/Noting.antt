@@ -28,7 +28,7 @@ use Rattle.mega_tape_laws.specs.of_rules.Logs.{decided, groups_of, log_of, prefi
 use Rattle.mega_tape_laws.specs.of_rules.Coordinators.{refused_at}
 use Rattle.mega_tape_laws.specs.of_rules.Queues.{Posted, enter_entry, is_named, names_entered, next_to_enter, next_to_handle, oldest_unhandled}
 use Rattle.mega_tape_laws.specs.of_rules.Operations.{Now, Operation, Phase, Promised, Proposes, Reads, Replies, Results, Setting}
-use Rattle.mega_tape_laws.specs.of_rules.Acting.{ActsAgain, Next, Rests, acts, applied_logs, batch_sealed, begins_read, completes_read, ends, enters, finishes, goes_on, handles, handling, is_taken, keeps, leader_after, listed_at, most_turns, picks_group, picks_message, proposes, proposes_by, read_begun, reads_on, rests_within, rows_at, sealed, sends_more, table_rows, unless_decided, unless_full, validated_by, validates}
+use Rattle.mega_tape_laws.specs.of_rules.Acting.{ActsAgain, Next, Rests, acts, applied_logs, batch_sealed, begins_read, completes_read, ends, enters, finishes, goes_on, handles, handling, is_taken, keeps, leader_after, listed_at, picks_group, picks_message, proposes, proposes_by, read_begun, reads_on, rests_within, rows_at, sealed, sends_more, table_rows, unless_decided, unless_full, validated_by, validates}
 use Rattle.mega_tape_laws.specs.of_rules.Steps.{Heard, acts_first, acts_in_turn, all_act, does_due, find_begins, is_out, local_find_begins, read_begins, ticked, unless_refused}
 
 -- a fact of a node within a step that nothing which operations do can break
@@ -93,7 +93,7 @@ module _ (P : Now → Type 0) (l : Lasts P) (s : Setting) where
 
   handles_it : (now : Now) (o : Operation) (group : GroupId) (r : Reading) (p : ℕ) (message : Option Enter) → P now → Leads P (handles s now o group r p message)
   handles_it now o group r p None h = picks_group_it now o (asked_by r) (next_to_handle (applied_logs now)) h
-  handles_it now o group r p (Some message) h = either (has s.handlers message.queue) _ _
+  handles_it now o group r p (Some message) h = either_next (has s.handlers message.queue) _ _
       (proposes_it now o group r p (handling s o.id group message (table_rows s.cluster.schema group (listed_at now group p))) (Replies []) h) (l.ends_it now o.id _ h)
 
   full_it : (now : Now) (o : Operation) (p : ℕ) (next : Next) → P now → Leads P next → Leads P (unless_full s now o p next)
@@ -129,7 +129,7 @@ module _ (P : Now → Type 0) (l : Lasts P) (s : Setting) where
   rests_within_it (suc most) (ActsAgain now o) h = rests_within_it most (acts s now o) (acts_it now o.id o.request o.began o.visited o.message o.phase h)
 
   pub goes_on_it : (now : Now) (o : Operation) → P now → P (goes_on s now o)
-  goes_on_it now o h = rests_within_it (most_turns now) (ActsAgain now o) h
+  goes_on_it now o h = rests_within_it (length (groups_of now.met) + 2) (ActsAgain now o) h
 
   pub all_act_it : (ts : List Heard) (now : Now) → P now → P (all_act s now ts)
   all_act_it [] now h = h
@@ -165,5 +165,5 @@ module _ (P : Now → Type 0) (l : Lasts P) (s : Setting) where
   first_it now id Refresh began visited message phase h = l.ends_it now id _ h
 
   pub begun_it : (now : Now) (o : Operation) (refusal : Option Answer) → P now → P (unless_refused s now o refusal)
-  begun_it now o None h = rests_within_it (most_turns now) (acts_first s now o) (first_it now o.id o.request o.began o.visited o.message o.phase h)
+  begun_it now o None h = rests_within_it (length (groups_of now.met) + 2) (acts_first s now o) (first_it now o.id o.request o.began o.visited o.message o.phase h)
   begun_it now o (Some answer) h = l.ends_it now o.id answer h

@@ -42,7 +42,7 @@ use Rattle.mega_rules.specs.Members.{voters}
 use Rattle.mega_rules.specs.Coordinators.{refused_at}
 use Rattle.mega_rules.specs.Queues.{Posted, enter_entry, is_named, names_entered, next_to_enter, next_to_handle, oldest_unhandled}
 use Rattle.mega_rules.specs.Operations.{Now, Operation, Phase, Promised, Proposes, Reads, Replies, Results, Setting}
-use Rattle.mega_rules.specs.Acting.{ActsAgain, Next, Rests, acts, applied_logs, applied_marks, batch_sealed, begins_read, completes_read, ends, enters, finishes, goes_on, handles, handles_message, handling, has_nothing, in_phase, is_taken, is_visited, keeps, leader_after, listed_at, mark_of, most_turns, named_leader, picks_group, picks_message, picks_to_enter, picks_to_handle, proposes, proposes_by, proposes_there, read_answer, read_begun, reader_of, reads_group, reads_on, rests_within, rows_at, sealed, seeks_on, sends_more, stored_with, table_rows, unless_decided, unless_full, validated_by, validates, verdict, visiting}
+use Rattle.mega_rules.specs.Acting.{ActsAgain, Next, Rests, acts, applied_logs, applied_marks, batch_sealed, begins_read, completes_read, ends, enters, finishes, goes_on, handles, handling, has_nothing, in_phase, is_taken, is_visited, keeps, leader_after, listed_at, mark_of, named_leader, picks_group, picks_message, picks_to_enter, picks_to_handle, proposes, proposes_by, proposes_there, read_answer, read_begun, reader_of, reads_on, rests_within, rows_at, sealed, seeks_on, sends_more, stored_with, table_rows, unless_decided, unless_full, validated_by, validates, verdict, visiting}
 use Rattle.mega_rules.specs.Steps.{Heard, acts_first, acts_in_turn, all_act, applied_position, begins, does_due, find_begins, is_out, last_answer, local_find_begins, read_begins, snapshot_listed, snapshot_rows, stored_listed, stored_rows, ticked, unless_refused}
 use Rattle.mega_served_laws.proofs.Alike.{Alike, Scope, alike_more}
 use Rattle.mega_served_laws.proofs.Logs.{log_alike, prefix_alike}
@@ -203,7 +203,7 @@ module _ (w : Scope) (s : Setting) where
   begins_read_alike : (a b : Now) (o : Operation) (group : GroupId) (message : Option Enter) (asked : List ℕ) → R a b
       → N (begins_read s a o group message asked) (begins_read s b o group message asked)
   begins_read_alike a b o group message asked h =
-      subst (λ t. N (reads_group a o group message (read_begun s a o group asked)) (reads_group b o group message t)) (begun_same a b h o group asked)
+      subst (λ t. N (begins_read s a o group message asked) (ActsAgain (sends_more b t.sends) (visiting o group message t))) (begun_same a b h o group asked)
       (sends_alike a b (read_begun s a o group asked).sends (read_begun s a o group asked).sends refl h, refl)
 
   nothing_alike : (a b : Now) (o : Operation) → R a b → N (has_nothing a o) (has_nothing b o)
@@ -240,8 +240,8 @@ module _ (w : Scope) (s : Setting) where
       by : Now → List Content → Next
       by now log = cond (is_named message.name (names_entered (take p log))) (picks_to_enter s now o (asked_by r)) (Rests (proposes s now o group r p (enter_entry o.id message) (Replies [])))
 
-  handles_message_alike : (a b : Now) (o : Operation) (group : GroupId) (r : Reading) (p : ℕ) (message : Enter) → R a b → R (handles_message s a o group r p message) (handles_message s b o group r p message)
-  handles_message_alike a b o group r p message h = either (has s.handlers message.queue) _ _ _ _
+  handles_message_alike : (a b : Now) (o : Operation) (group : GroupId) (r : Reading) (p : ℕ) (message : Enter) → R a b → N (handles s a o group r p (Some message)) (handles s b o group r p (Some message))
+  handles_message_alike a b o group r p message h = either_next (has s.handlers message.queue) _ _ _ _
       (subst (λ listed. R (by a (listed_at a group p)) (by b listed)) (listed_same a b h group p)
       (proposes_alike a b o group r p (handling s o.id group message (table_rows s.cluster.schema group (listed_at a group p))) (Replies []) h))
       (ends_alike a b o.id _ _ refl h)
@@ -336,11 +336,11 @@ module _ (w : Scope) (s : Setting) where
   rests_alike (suc most) (ActsAgain a o) (ActsAgain b p) h =
       subst (λ (q : Operation). R (rests_within most s (acts s a o)) (rests_within most s (acts s b q))) h.1 (rests_alike most (acts s a o) (acts s b o) (acts_alike a b o h.0))
 
-  most_same : (a b : Now) → R a b → most_turns a ≡ most_turns b
+  most_same : (a b : Now) → R a b → length (groups_of a.met) + 2 ≡ length (groups_of b.met) + 2
   most_same a b h = ap (λ groups. length groups + 2) ((h.met).kept).groups
 
-  rested_alike : (a b : Now) (x y : Next) → R a b → N x y → R (rests_within (most_turns a) s x) (rests_within (most_turns b) s y)
-  rested_alike a b x y h k = subst (λ most. R (rests_within (most_turns a) s x) (rests_within most s y)) (most_same a b h) (rests_alike (most_turns a) x y k)
+  rested_alike : (a b : Now) (x y : Next) → R a b → N x y → R (rests_within (length (groups_of a.met) + 2) s x) (rests_within (length (groups_of b.met) + 2) s y)
+  rested_alike a b x y h k = subst (λ most. R (rests_within (length (groups_of a.met) + 2) s x) (rests_within most s y)) (most_same a b h) (rests_alike (length (groups_of a.met) + 2) x y k)
 
   pub goes_on_alike : (a b : Now) (o : Operation) → R a b → R (goes_on s a o) (goes_on s b o)
   goes_on_alike a b o h = rested_alike a b (ActsAgain a o) (ActsAgain b o) h (h, refl)

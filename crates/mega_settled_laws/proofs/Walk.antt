@@ -29,7 +29,7 @@ use Rattle.mega_run_laws.specs.of_rules.Clock.{clock_of}
 use Rattle.mega_run_laws.specs.of_rules.Logs.{decided, groups_of, log_of, prefix_of}
 use Rattle.mega_run_laws.specs.of_rules.Queues.{Posted, enter_entry, is_named, names_entered, next_to_enter, next_to_handle, oldest_unhandled}
 use Rattle.mega_run_laws.specs.of_rules.Operations.{Now, Operation, Phase, Promised, Proposes, Reads, Replies, Results, Setting}
-use Rattle.mega_run_laws.specs.of_rules.Acting.{ActsAgain, Next, Rests, acts, applied_logs, batch_sealed, begins_read, completes_read, ends, enters, finishes, goes_on, handles, handling, in_phase, is_taken, keeps, leader_after, listed_at, most_turns, picks_group, picks_message, proposes, proposes_by, read_begun, reader_of, reads_on, rests_within, rows_at, sealed, sends_more, table_rows, unless_decided, unless_full, visiting}
+use Rattle.mega_run_laws.specs.of_rules.Acting.{ActsAgain, Next, Rests, acts, applied_logs, batch_sealed, begins_read, completes_read, ends, enters, finishes, goes_on, handles, handling, in_phase, is_taken, keeps, leader_after, listed_at, picks_group, picks_message, proposes, proposes_by, read_begun, reader_of, reads_on, rests_within, rows_at, sealed, sends_more, table_rows, unless_decided, unless_full, visiting}
 use Rattle.mega_run_laws.specs.of_rules.Steps.{acts_first, find_begins, local_find_begins, new_operation, read_begins, unless_refused}
 
 -- where an operation that begins stands
@@ -118,8 +118,8 @@ module _ (s : Setting) (B P : OpId → Now → Type 0) (W : Now → Operation �
 
   handles_it : (now : Now) (o : Operation) (group : GroupId) (noted : Option Epoch) (asked : List ℕ) (p : ℕ) (search : Option Search) (message : Option Enter) → W now (in_phase o (Reads group (caught noted asked p search))) → Leads o.id (handles s now (in_phase o (Reads group (caught noted asked p search))) group (caught noted asked p search) p message)
   handles_it now o group noted asked p search None h = picks_group_it now o group (caught noted asked p search) (next_to_handle (applied_logs now)) h
-  handles_it now o group noted asked p search (Some message) h = either o.id (has s.handlers message.queue) _ _
-      (proposes_it now o group noted asked p search (handling s o.id group message (table_rows s.cluster.schema group (listed_at now group p))) (Replies []) h) (l.ends_it now (in_phase o (Reads group (caught noted asked p search))) _ h)
+  handles_it now o group noted asked p search (Some message) h = either_so o.id (has s.handlers message.queue) _ _
+      (λ there. proposes_it now o group noted asked p search (handling s o.id group message (table_rows s.cluster.schema group (listed_at now group p))) (Replies []) h) (l.ends_it now (in_phase o (Reads group (caught noted asked p search))) _ h)
 
   unless_full_it : (now : Now) (o : Operation) (p : ℕ) (next : Next) → W now o → Leads o.id next → Leads o.id (unless_full s now o p next)
   unless_full_it now o p next h k = either_so o.id (nat_le (s.cluster.limit).0 p) _ next (λ full. l.ends_it now o _ h) k
@@ -165,7 +165,7 @@ module _ (s : Setting) (B P : OpId → Now → Type 0) (W : Now → Operation �
   rests_within_it (suc most) id (ActsAgain now o) h = subst (λ (op : OpId). P op (rests_within most s (acts s now o))) h.0 (rests_within_it most o.id (acts s now o) (acts_it now o h.1))
 
   pub goes_on_it : (now : Now) (o : Operation) → W now o → P o.id (goes_on s now o)
-  goes_on_it now o h = rests_within_it (most_turns now) o.id (ActsAgain now o) (refl, h)
+  goes_on_it now o h = rests_within_it (length (groups_of now.met) + 2) o.id (ActsAgain now o) (refl, h)
 
   -- an operation that begins
   module _ (now : Now) (id : OpId) (clock : ℕ) (b : B id now) where
@@ -205,5 +205,5 @@ module _ (s : Setting) (B P : OpId → Now → Type 0) (W : Now → Operation �
 
   pub begun_it : (now : Now) (id : OpId) (clock : ℕ) (request : Request) (refusal : Option Answer) → (refusal ≡ None → B id now) → ((answer : Answer) → P id (ends now id answer))
       → P id (unless_refused s now (new_operation id request clock) refusal)
-  begun_it now id clock request None h k = rests_within_it (most_turns now) id (acts_first s now (new_operation id request clock)) (first_by now id clock (h refl) request)
+  begun_it now id clock request None h k = rests_within_it (length (groups_of now.met) + 2) id (acts_first s now (new_operation id request clock)) (first_by now id clock (h refl) request)
   begun_it now id clock request (Some answer) h k = k answer

@@ -1,6 +1,7 @@
-use Rattle.std.proofs.Common.{◌∙◌, ap, subst, sym}
+use Rattle.std.proofs.Common.{◌∙◌, ap, subst, sym, length, ◌+◌}
 use Rattle.mega_answers.specs.of_pumps.Owns.{picks_by}
-use Rattle.mega_rules.specs.Acting.{most_turns, rests_within}
+use Rattle.mega_rules.specs.Logs.{groups_of}
+use Rattle.mega_rules.specs.Acting.{rests_within}
 use Rattle.mega_rules.specs.Clock.{clock_of}
 use Rattle.mega_rules.specs.Operations.{Now}
 use Rattle.mega_rules.specs.Steps.{new_operation}
@@ -25,7 +26,7 @@ returns-in_ok-does-in-Done-clause-state g c h now told means pump at =
     let began = c.now-began.ensures before.members before.me now.met at.stands.leased in
     let is =
     pump_begins s now c.args.op c.args.request (clock_of now.met) pump
-    ∙ ap (rests_within (most_turns now) s) ((λ i. picks_by (sym c.is_entering-entering.ensures i) s now (record { id = o.id; request = o.request; began = sym began i; visited = sym c.new-visited.ensures i; message = o.message; phase = o.phase }) (sym c.new-asked.ensures i))
+    ∙ ap (rests_within (length (groups_of now.met) + 2) s) ((λ i. picks_by (sym c.is_entering-entering.ensures i) s now (record { id = o.id; request = o.request; began = sym began i; visited = sym c.new-visited.ensures i; message = o.message; phase = o.phase }) (sym c.new-asked.ensures i))
     ∙ sym (c.in_ok-pumped.ensures.pumped before.me h now o.phase at.stands at.noted)
     ∙ ap (pumped_by now) c.in-Done.is) in
     let action = c.in-Done.action in
@@ -43,7 +44,7 @@ returns-in_ok-does-in-Done-clause-work g c h now told means pump at was =
     let began = c.now-began.ensures before.members before.me now.met at.stands.leased in
     let is =
     pump_begins s now c.args.op c.args.request (clock_of now.met) pump
-    ∙ ap (rests_within (most_turns now) s) ((λ i. picks_by (sym c.is_entering-entering.ensures i) s now (record { id = o.id; request = o.request; began = sym began i; visited = sym c.new-visited.ensures i; message = o.message; phase = o.phase }) (sym c.new-asked.ensures i))
+    ∙ ap (rests_within (length (groups_of now.met) + 2) s) ((λ i. picks_by (sym c.is_entering-entering.ensures i) s now (record { id = o.id; request = o.request; began = sym began i; visited = sym c.new-visited.ensures i; message = o.message; phase = o.phase }) (sym c.new-asked.ensures i))
     ∙ sym (c.in_ok-pumped.ensures.pumped before.me h now o.phase at.stands at.noted)
     ∙ ap (pumped_by now) c.in-Done.is) in
     c.in_ok-does-in-Done.ensures now was ∙ ap work_of (sym is)
@@ -58,7 +59,7 @@ returns-in_ok-acts_in_turn-in-Again-clause-state g c h now told means pump at =
     let heard = c.in-Again.heard in
     let is =
     pump_begins s now c.args.op c.args.request (clock_of now.met) pump
-    ∙ ap (rests_within (most_turns now) s) ((λ i. picks_by (sym c.is_entering-entering.ensures i) s now (record { id = o.id; request = o.request; began = sym began i; visited = sym c.new-visited.ensures i; message = o.message; phase = o.phase }) (sym c.new-asked.ensures i))
+    ∙ ap (rests_within (length (groups_of now.met) + 2) s) ((λ i. picks_by (sym c.is_entering-entering.ensures i) s now (record { id = o.id; request = o.request; began = sym began i; visited = sym c.new-visited.ensures i; message = o.message; phase = o.phase }) (sym c.new-asked.ensures i))
     ∙ sym (c.in_ok-pumped.ensures.pumped before.me h now o.phase at.stands at.noted)
     ∙ ap (pumped_by now) c.in-Again.is) in
     let noted = c.in_ok-pumped.ensures.noted now.met now.stored at.stands.tells at.stands.follows at.noted in
@@ -75,7 +76,7 @@ returns-in_ok-acts_in_turn-in-Again-clause-work g c h now told means pump at was
     let heard = c.in-Again.heard in
     let is =
     pump_begins s now c.args.op c.args.request (clock_of now.met) pump
-    ∙ ap (rests_within (most_turns now) s) ((λ i. picks_by (sym c.is_entering-entering.ensures i) s now (record { id = o.id; request = o.request; began = sym began i; visited = sym c.new-visited.ensures i; message = o.message; phase = o.phase }) (sym c.new-asked.ensures i))
+    ∙ ap (rests_within (length (groups_of now.met) + 2) s) ((λ i. picks_by (sym c.is_entering-entering.ensures i) s now (record { id = o.id; request = o.request; began = sym began i; visited = sym c.new-visited.ensures i; message = o.message; phase = o.phase }) (sym c.new-asked.ensures i))
     ∙ sym (c.in_ok-pumped.ensures.pumped before.me h now o.phase at.stands at.noted)
     ∙ ap (pumped_by now) c.in-Again.is) in
     let noted = c.in_ok-pumped.ensures.noted now.met now.stored at.stands.tells at.stands.follows at.noted in
