@@ -13,7 +13,7 @@ use Rattle.mega_outcome.specs.declared.request.Request.TheVariants.{Txn, Batch a
 use Rattle.mega_cause_laws.specs.of_run_laws.of_tape_laws.of_promises.of_rules.of_read.Catching.{falls_due, hears, site}
 use Rattle.mega_cause_laws.specs.of_run_laws.of_tape_laws.of_promises.of_rules.of_read.of_propose.Rounds.{due, takes}
 use Rattle.mega_cause_laws.specs.of_run_laws.of_tape_laws.of_promises.of_rules.Logs.{groups_of}
-use Rattle.mega_cause_laws.specs.of_run_laws.of_tape_laws.of_promises.of_rules.Acting.{applied_marks, begins_read, ends, goes_on, in_phase, picks_to_enter, picks_to_handle, read_answer, reader_of, rests_within, sends_more}
+use Rattle.mega_cause_laws.specs.of_run_laws.of_tape_laws.of_promises.of_rules.Acting.{applied_marks, begins_read, ends, in_phase, picks_to_enter, picks_to_handle, read_answer, reader_of, rests_within, sends_more}
 use Rattle.mega_cause_laws.specs.of_run_laws.of_tape_laws.of_promises.of_rules.Finding.{global_found, local_found}
 use Rattle.mega_cause_laws.specs.of_run_laws.of_tape_laws.of_promises.of_rules.Met.{Met}
 use Rattle.mega_cause_laws.specs.of_run_laws.of_tape_laws.of_promises.of_rules.Operations.{Node, Now, Operation, Phase, Proposes, Reads, Setting}

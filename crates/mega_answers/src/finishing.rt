@@ -4,7 +4,7 @@ ghost use Rattle.mega_disk.specs.VersionMaps.{SameVersions};
 ghost use Rattle.mega_handler.specs.Named.{Meanings};
 ghost use Rattle.mega_marks.specs.of_node_laws.About.{IsOf};
 ghost use Rattle.mega_rules.specs.Clock.{clock_of};
-ghost use Rattle.mega_rules.specs.Operations.{Now, Operation};
+ghost use Rattle.mega_rules.specs.Operations.{Now};
 ghost use Rattle.mega_rules.specs.Acting.{Rests, finishes};
 ghost use Rattle.mega_replica.specs.Used.{StoreUsed};
 ghost use Rattle.mega_step_work.specs.of_voter.Telling.{Tells};

@@ -45,7 +45,7 @@ use Rattle.mega_rules.specs.Met.{Met, Answers}
 use Rattle.mega_rules.specs.Queues.{Posted, enter_entry, is_named, names_entered, next_to_enter, next_to_handle, oldest_unhandled}
 use Rattle.mega_rules.specs.Members.{kind_of}
 use Rattle.mega_rules.specs.Operations.{Node, Now, Operation, Phase, Promised, Proposes, Reads, Replies, Results, Setting}
-use Rattle.mega_rules.specs.Acting.{ActsAgain, Next, Rests, acts, applied_logs, applied_marks, batch_sealed, begins_read, committed, completes_read, ends, enters, finishes, goes_on, handles, handling, in_phase, is_taken, leader_after, listed_at, picks_group, picks_message, proposes, proposes_by, read_answer, read_begun, reader_of, reads_on, rests_within, rows_answer, rows_at, sealed, sends_more, table_rows, unless_decided, unless_full, validated_by, validates, verdict, visiting}
+use Rattle.mega_rules.specs.Acting.{ActsAgain, Next, Rests, acts, applied_logs, applied_marks, batch_sealed, begins_read, committed, completes_read, ends, enters, finishes, goes_on, handles, handling, in_phase, is_taken, leader_after, listed_at, picks_group, picks_message, proposes, proposes_by, read_answer, reader_of, reads_on, rests_within, rows_answer, rows_at, sealed, sends_more, table_rows, unless_decided, unless_full, validated_by, validates, verdict}
 use Rattle.mega_rules.specs.Steps.{Heard, acts_first, acts_in_turn, all_act, applied_position, begins, does_due, find_begins, is_out, is_worn, last_answer, local_find_begins, missing_kind, onto, read_begins, refusal, snapshot_listed, stored_listed, ticked, unless_missing, unless_refused}
 use Rattle.mega_actions.specs.of_answers.Indexing.{marks_then}
 use Rattle.mega_node_events.specs.Beginning.{marks_unless}

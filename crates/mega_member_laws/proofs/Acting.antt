@@ -38,7 +38,7 @@ use Rattle.mega_format_laws.specs.of_rules.Logs.{decided, groups_of, log_of, pre
 use Rattle.mega_format_laws.specs.of_rules.Coordinators.{refused_at, serves_at, valid_at}
 use Rattle.mega_format_laws.specs.of_rules.Queues.{Posted, enter_entry, is_named, names_entered, next_to_enter, next_to_handle, oldest_unhandled}
 use Rattle.mega_format_laws.specs.of_rules.Operations.{Now, Operation, Phase, Promised, Proposes, Reads, Replies, Results, Setting}
-use Rattle.mega_format_laws.specs.of_rules.Acting.{ActsAgain, Next, Rests, acts, applied_logs, batch_sealed, begins_read, completes_read, ends, enters, finishes, goes_on, handles, handling, has_nothing, in_phase, is_taken, is_visited, keeps, leader_after, listed_at, named_leader, picks_group, picks_message, picks_to_enter, picks_to_handle, proposes, proposes_by, proposes_there, read_begun, reader_of, reads_on, rests_within, rows_at, sealed, seeks_on, sends_more, table_rows, unless_decided, unless_full, validated_by, validates, verdict, visiting}
+use Rattle.mega_format_laws.specs.of_rules.Acting.{ActsAgain, Next, Rests, acts, applied_logs, batch_sealed, begins_read, completes_read, ends, enters, finishes, goes_on, handles, handling, has_nothing, in_phase, is_taken, is_visited, keeps, leader_after, listed_at, named_leader, picks_group, picks_message, picks_to_enter, picks_to_handle, proposes, proposes_by, proposes_there, read_begun, reader_of, reads_on, rests_within, rows_at, sealed, seeks_on, sends_more, table_rows, unless_decided, unless_full, validated_by, validates, verdict}
 use Rattle.mega_format_laws.specs.Rounds.{Each}
 use Rattle.mega_format_laws.proofs.Each.{each_both, either}
 use Rattle.mega_member_laws.specs.Messages.{AreWithin, IsHere, IsWithin, NamesHere}

@@ -33,7 +33,7 @@ use Rattle.mega_format_laws.specs.of_rules.Locks.{asked_for, cell_calls, grant_n
 use Rattle.mega_format_laws.specs.of_rules.Coordinators.{acquires_at, coordinator_calls, counts_notes, forget_notes, grant_notes, is_cell_in, lost_note, tick_notes, tick_told}
 use Rattle.mega_format_laws.specs.of_rules.Replies.{reply_to}
 use Rattle.mega_format_laws.specs.of_rules.Operations.{Node, Now, Operation, Phase, Proposes, Reads, Setting}
-use Rattle.mega_format_laws.specs.of_rules.Acting.{ends, goes_on, reader_of, sends_more}
+use Rattle.mega_format_laws.specs.of_rules.Acting.{ends, reader_of, sends_more}
 use Rattle.mega_format_laws.specs.of_rules.Steps.{Begin, Decision, Event, Heard, Step, Take, Tick, acts_first, acts_in_turn, all_act, applied_at, apply_note, apply_notes, at_first, at_open, background, begin_step, crashed, decision_at, decision_note, does_due, find_begins, first_settled, hears_message, if_new, is_out, lapse_notes, last_answer, lease_notes, local_find_begins, new_operation, news, onto, op_of, portion_of, read_begins, read_decision, refusal, settled_by, start, start_items, start_note, start_notes, step, step_of, stored_after, take_step, taken, tick_step, ticked, told_decision, told_notes, unless_refused}
 use Rattle.mega_format_laws.specs.Rounds.{Each}
 use Rattle.mega_format_laws.proofs.Each.{each_both, each_fold, each_map, either}

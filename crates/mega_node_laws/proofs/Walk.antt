@@ -32,7 +32,7 @@ use Rattle.mega_voter.specs.of_rules.Logs.{decided, groups_of, log_of, prefix_of
 use Rattle.mega_voter.specs.of_rules.Coordinators.{refused_at, serves_at, valid_at}
 use Rattle.mega_voter.specs.of_rules.Queues.{Posted, enter_entry, is_named, names_entered, next_to_enter, next_to_handle, oldest_unhandled}
 use Rattle.mega_voter.specs.of_rules.Operations.{Now, Operation, Phase, Promised, Proposes, Reads, Replies, Results, Setting}
-use Rattle.mega_voter.specs.of_rules.Acting.{Next, Rests, ActsAgain, acts, applied_logs, batch_sealed, begins_read, completes_read, enters, finishes, goes_on, handles, handling, is_taken, is_visited, leader_after, listed_at, picks_group, picks_message, proposes, proposes_by, read_begun, reader_of, reads_on, rests_within, rows_at, sealed, sends_more, table_rows, unless_decided, unless_full, validated_by, validates, ends, keeps, in_phase, visiting}
+use Rattle.mega_voter.specs.of_rules.Acting.{Next, Rests, ActsAgain, acts, applied_logs, batch_sealed, begins_read, completes_read, enters, finishes, goes_on, handles, handling, is_taken, is_visited, leader_after, listed_at, picks_group, picks_message, proposes, proposes_by, read_begun, reader_of, reads_on, rests_within, rows_at, sealed, sends_more, table_rows, unless_decided, unless_full, validated_by, validates, ends, keeps, in_phase}
 use Rattle.mega_voter.specs.of_rules.Steps.{Heard, acts_first, acts_in_turn, all_act, begins, does_due, find_begins, hears_message, is_out, local_find_begins, read_begins, ticked, unless_refused}
 use Rattle.mega_node_laws.specs.About.{IsAbout, IsOf, group_in}
 use Rattle.mega_node_laws.proofs.Rounds.{asks_hold}

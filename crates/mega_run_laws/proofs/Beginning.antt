@@ -23,8 +23,8 @@ use Rattle.mega_coordinator.specs.declared.answers.NotValid.{NotValid}
 use Rattle.mega_tape_laws.specs.of_rules.Met.{Answers, Met, Validates}
 use Rattle.mega_tape_laws.specs.of_rules.Logs.{groups_of}
 use Rattle.mega_tape_laws.specs.of_rules.Operations.{Now, Operation, Phase, Proposes, Reads, Setting}
-use Rattle.mega_tape_laws.specs.of_rules.Acting.{ends, goes_on, sends_more, validated_by}
-use Rattle.mega_tape_laws.specs.of_rules.Steps.{Heard, acts_first, acts_in_turn, all_act, applied_position, begins, does_due, find_begins, hears_message, is_current, is_out, last_answer, local_find_begins, read_begins, snapshot_listed, stored_listed, ticked, unless_refused}
+use Rattle.mega_tape_laws.specs.of_rules.Acting.{ends, sends_more, validated_by}
+use Rattle.mega_tape_laws.specs.of_rules.Steps.{Heard, acts_first, acts_in_turn, all_act, applied_position, does_due, find_begins, hears_message, is_current, is_out, last_answer, local_find_begins, read_begins, snapshot_listed, stored_listed, ticked, unless_refused}
 use Rattle.mega_tape_laws.specs.Places.{In, Place, Proposes as ProposesMove, Took, moves}
 use Rattle.mega_tape_laws.specs.Writes.{AreWritten, Usage, again}
 use Rattle.mega_run_laws.specs.Usages.{Brought}
@@ -48,7 +48,7 @@ use Rattle.mega_run_laws.proofs.Reading.{falls_due_acts, hears_acts, who}
 use Rattle.mega_run_laws.proofs.Turns.{AnsweredBelow, Fine, Frame, Held, IsApart, IsOpen, IsRising, answered_more, could_more, could_not, each_on, each_push, each_zip, fine_turn, held_on, other_number, ready_sends, same_tape, tape_of, turn_ends}
 use Rattle.mega_run_laws.proofs.Prefixes.{prefix_more}
 use Rattle.mega_run_laws.proofs.Noting.{Lasts, goes_on_it, ticked_it}
-use Rattle.mega_run_laws.proofs.Acting.{Asks, DoneAt, FreeAt, Leads, ReadyAt, TurnAt, begins_read_done, goes_on_done, picks_to_enter_done, picks_to_handle_done, reading_ends, rests_done, turn_context}
+use Rattle.mega_run_laws.proofs.Acting.{Asks, FreeAt, Leads, ReadyAt, TurnAt, begins_read_done, goes_on_done, picks_to_enter_done, picks_to_handle_done, reading_ends, rests_done, turn_context}
 
 -- ---- what one operation hears, and what is due
 
