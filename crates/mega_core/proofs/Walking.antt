@@ -118,7 +118,7 @@ module _ (P : Now → Type 0) (Mine : GroupId → Type 0) (w : Walks P Mine) (s 
   -- a pump reads what it picks
   reads_walked : (now : Now) (o : Operation) (group : GroupId) (message : Option Enter) (asked : List ℕ) → IsServable o → Mine group → Roams Mine o.request → P now → Leads (begins_read s now o group message asked)
   reads_walked now o group message asked is mine roams h =
-      (is, λ reached. (mine, roams), w.sends_it now (read_begun s now o group asked).sends h)
+      (is, (λ reached. (mine, roams)), w.sends_it now (read_begun s now o group asked).sends h)
 
   message_walked : (now : Now) (o : Operation) (asked : List ℕ) (picked : Option Posted) → IsServable o → is_pump o.request ≡ true → Roams Mine o.request → P now → Leads (picks_message s now o asked picked)
   message_walked now o asked None is pump roams h = w.ends_it now o.id _ h

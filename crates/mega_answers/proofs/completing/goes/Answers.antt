@@ -18,9 +18,9 @@ returns-clause-state g c me h leases now after told of le clock r is =
     let reached = c.args.reached in
     let action = c.in_ok-action.action in
     let sees = sees_log s kept leases (version rows.rows) (progress_at rows.progress) now reached.group reached.position r le in
-    let after = stands_seen s kept leases (version rows.rows) (progress_at rows.progress) now.stored (version c.finishes.new.rows) now.met c.finishes.ensures.versions r in
+    let seen = stands_seen s kept leases (version rows.rows) (progress_at rows.progress) now.stored (version c.finishes.new.rows) now.met c.finishes.ensures.versions r in
     subst (λ (then : Now). RepresentsMet s kept leases (version c.finishes.new.rows) (progress_at rows.progress) then.met then.stored) (ap (rests_within 0 s) (c.in_ok-action.ensures.action told me h now r.tells clock sees of ∙ is))
-    (coe 0 1 (i. RepresentsMet s kept leases (version c.finishes.new.rows) (progress_at rows.progress) (sym (does_met now action) i) (sym (does_stored now action) i)) after)
+    (coe 0 1 (i. RepresentsMet s kept leases (version c.finishes.new.rows) (progress_at rows.progress) (sym (does_met now action) i) (sym (does_stored now action) i)) seen)
 
 pub returns-clause-work : goal.returns-clause-work
 returns-clause-work g c me h leases now after told of le clock r is was =
