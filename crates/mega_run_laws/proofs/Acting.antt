@@ -144,13 +144,15 @@ begun_wrote c s usage tape now o group asked same x = go (is_visited o group) (v
 
 pub begins_read_done : (users : Users) → (s : Setting) → (users.fits → Brought users.usage s.handlers) → (f : Frame) (now : Now) (o : Operation) (group : GroupId) (message : Option Enter) (asked : List ℕ)
     → TurnAt users s f now o.id → FreeAt f now o.id → (users.fits → Asks users.usage (tape_of f now.sends) o message group) → Leads users s f o (begins_read s now o group message asked)
-begins_read_done users s brought f now o group message asked h free asks =
-    (refl, ready_sends users s.cluster f now.met now.kept now.answers now.sends (read_begun s now o group asked).sends (visiting o group message (read_begun s now o group asked)) h (begun_acts s f now o group asked free)
-    (λ fits n. (wrote fits).written n)
-    (λ fits n. record {
-      began = began_on users.usage (tape_of f now.sends) (sent n ms (tape_of f now.sends)) o.id o.request (stood_sent n ms (tape_of f now.sends)) (asks fits).began;
-      mine = record { none = (wrote fits).none n; plain = (wrote fits).plain; serves = serves_on (tape_of f now.sends) (sent n ms (tape_of f now.sends)) o.id o.request message group (stood_sent n ms (tape_of f now.sends)) (asks fits).serves };
-    }))
+begins_read_done users s brought f now o group message asked h free asks = (
+  refl,
+  ready_sends users s.cluster f now.met now.kept now.answers now.sends (read_begun s now o group asked).sends (visiting o group message (read_begun s now o group asked)) h (begun_acts s f now o group asked free)
+      (λ fits n. (wrote fits).written n)
+      (λ fits n. record {
+        began = began_on users.usage (tape_of f now.sends) (sent n ms (tape_of f now.sends)) o.id o.request (stood_sent n ms (tape_of f now.sends)) (asks fits).began;
+        mine = record { none = (wrote fits).none n; plain = (wrote fits).plain; serves = serves_on (tape_of f now.sends) (sent n ms (tape_of f now.sends)) o.id o.request message group (stood_sent n ms (tape_of f now.sends)) (asks fits).serves };
+      }),
+)
   where
     ms : List Message
     ms = (read_begun s now o group asked).sends

@@ -67,7 +67,7 @@ returns-in-Ok-None-clause-acted g c h now told means about at =
       leads = ap Rests (
           one_turn s (setting loop.self.members loop.self.me h) now so.after c.args.operation loop.next c.args.most loop._turn c.loop-turn-test.true (λ i. setting (sym loop.invariant.members i) (sym loop.invariant.me i) h) so.leads
           ∙ ap (rests_within (c.args.most - (loop._turn + 1)) s) inner.leads
-      );
+          );
     }
 
 pub returns-in-Ok-None-clause-used : goal.returns-in-Ok-None-clause-used
