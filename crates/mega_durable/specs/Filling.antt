@@ -39,6 +39,6 @@ pub record Stores {V : Type 0} (store : Ghosts V) (kept : Kept) (after : Storing
   pub cleaned : store.cleaned new.rows ≡ store.cleaned old.rows
 
 -- behind so many versions that were spilled before, the rows are spilled again once they stored an eighth as many: not fewer than 1,024, and
--- not more than 65,536
+-- not more than 32,768
 abbrev pub is_run_due : ℕ → ℕ → Bool
-is_run_due spilled waiting = nat_le 1024 waiting && (nat_le 65536 waiting || nat_le spilled (waiting * 8))
+is_run_due spilled waiting = nat_le 1024 waiting && (nat_le 32768 waiting || nat_le spilled (waiting * 8))

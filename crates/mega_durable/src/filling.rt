@@ -37,7 +37,7 @@ fn is_run_due(spilled: u64, waiting: u64) -> bool
     if waiting < 1_024 {
         return false;
     }
-    if waiting >= 65_536 {
+    if waiting >= 32_768 {
         return true;
     }
     spilled <= waiting * 8
