@@ -22,4 +22,4 @@ returns-in-Err-clause-used g c =
 pub returns-clause-stores : goal.returns-clause-stores
 returns-clause-stores g c =
     stores_whole g.V.Versions c.args.voter.now.logs.kept c.args.group.now c.loop-before.before c.args.rows.now c.loop-before.rows
-    (λ met tells. let end = c.prefix.ensures met tells in let past = c.loop-before-test.false in omega (arith, end, past)) c.loop-before.invariant.stores
+    (λ met tells. let end = c.prefix-before-end.ensures met tells in let past = c.loop-before-test.false in omega (arith, end, past)) c.loop-before.invariant.stores

@@ -24,10 +24,10 @@ loop-group-preserved g c = record {
       let old = c.loop-group.rows in
       let new = c.store_group.new.rows in
       applied_next (g.V.Versions.version old.rows) (progress_at old.progress) (g.V.Versions.version new.rows) (progress_at new.progress) met c.in-Some.group (into_iter_items c.next.new.self)
-      (λ counts. c.in-Some-Ok.ensures.stores.follows told (c.loop-group.invariant.cleaned ∙ none) met counts tells)
+      (λ counts. c.in-Ok.ensures.stores.follows told (c.loop-group.invariant.cleaned ∙ none) met counts tells)
       (subst (AppliedSo (g.V.Versions.version old.rows) (progress_at old.progress) met) c.in-Some.ensures.steps.0 (c.loop-group.invariant.all told none met stored tells lists follows));
-  cleaned = c.in-Some-Ok.ensures.stores.cleaned ∙ c.loop-group.invariant.cleaned;
-  used = used_then g.V.Versions None c.args.rows.now.rows c.loop-group.rows.rows c.store_group.new.rows.rows c.loop-group.invariant.used c.in-Some-Ok.ensures.used;
+  cleaned = c.in-Ok.ensures.stores.cleaned ∙ c.loop-group.invariant.cleaned;
+  used = used_then g.V.Versions None c.args.rows.now.rows c.loop-group.rows.rows c.store_group.new.rows.rows c.loop-group.invariant.used c.in-Ok.ensures.used;
 }
 
 pub returns-in-Err-clause-used : goal.returns-in-Err-clause-used
