@@ -1,11 +1,9 @@
-use Rattle.std.proofs.Common.{true, ◌≡◌, ◌∙◌, sym}
+use Rattle.std.proofs.Common.{true, ◌≡◌, ◌∙◌, ◌∷◌, sym}
 use Rattle.std.proofs.lemmas.Bool.{false≢true}
-use Rattle.mega_replica.specs.Following.{Follows, progress_at}
-use Rattle.mega_rules.specs.Logs.{log_of}
+use Rattle.mega_replica.specs.Following.{progress_at}
 use Rattle.mega_rules.specs.Members.{has_rows}
-use Rattle.mega_rules.specs.Met.{Met, Starts}
+use Rattle.mega_rules.specs.Met.{Starts}
 use Rattle.mega_rules.specs.Steps.{apply_all, onto}
-use Rattle.mega_durable.specs.Standing.{MayStart}
 use Rattle.mega_durable.proofs.Recalled.{filled_follows, recalled_tells}
 use Rattle.mega_durable.proofs.AfterSpill.{used_here}
 use Rattle.mega_durable.proofs.down.Down.fill.Goals as goal
