@@ -1,8 +1,7 @@
 -- Rows that are spilled, or store more, before a start: what they follow then, and how the device below them fared.
-use Rattle.std.proofs.Common.{◌≡◌, ◌⊎◌, inl, inr, ⊎_elim, ℕ, ◌+◌, ◌≤◌, max, [], List, Bool, true, false, cond, Option, None, Some, ap, refl, sym, subst, ◌∙◌, arith}
-use Rattle.mega_base.specs.Causes.{Rose}
+use Rattle.std.proofs.Common.{◌≡◌, ◌⊎◌, inl, inr, ℕ, ◌+◌, ◌≤◌, max, [], List, Bool, true, false, cond, Option, None, Some, ap, refl, sym, subst, ◌∙◌, arith}
 use Rattle.mega_base.specs.declared.names.GroupId.{GroupId}
-use Rattle.mega_disk.specs.Fuse.{Fuse, Burns, MayBurn, Left, Unset, Untold}
+use Rattle.mega_disk.specs.Fuse.{Fuse, MayBurn}
 use Rattle.mega_disk.specs.VersionMaps.{SameVersions}
 use Rattle.mega_disk.specs.declared.versions.StoreError.{StoreError}
 use Rattle.mega_disk.specs.declared.versions.StoreError.TheVariants.{DiskFault, Full, NoMemory}
@@ -15,6 +14,7 @@ use Rattle.mega_replica.specs.Puts.{OnlyPuts}
 use Rattle.mega_replica.specs.Stored.{Counts, stored_with}
 use Rattle.mega_replica.proofs.Growing.{follows_same}
 use Rattle.mega_replica.proofs.Places.{through_later, through_total}
+use Rattle.mega_replica.proofs.Using.{burn_then, burns_then, rose_later}
 use Rattle.mega_rules.specs.Logs.{log_of, prefix_of}
 use Rattle.mega_rules.specs.Met.{Met}
 use Rattle.mega_rules.specs.Steps.{apply_all}
@@ -28,31 +28,6 @@ use Rattle.mega_durable.specs.Spilling.{SpillUsed}
 use Rattle.mega_durable.proofs.Stepping.{burns_not}
 
 -- ---- the device
-burn_then : (f g h : Fuse) → MayBurn f g → MayBurn g h → MayBurn f h
-burn_then Untold g h first second = subst (λ (m : Fuse). MayBurn m h) first second
-burn_then Unset g h first second = subst (λ (m : Fuse). MayBurn m h) first second
-burn_then (Left n) g h first second =
-    ⊎_elim
-    (λ gone. inl (let P : Fuse → Type 0 = λ m. MayBurn m h in subst P gone second))
-    (λ left.
-    let P : Fuse → Type 0 = λ m. MayBurn m h in
-    ⊎_elim (λ gone. inl gone) (λ less. inr (less.0, less.1, omega (arith, less.2, left.2))) (subst P left.1 second))
-    first
-
-burns_then : (f g h : Fuse) → MayBurn f g → Burns g h → Burns f h
-burns_then Untold g h first burns = absurd (untold (sym first ∙ burns.was_set.1))
-  where
-    untold : Untold ≡ Left burns.was_set.0 → ⊥
-    untold e = cc
-burns_then Unset g h first burns = absurd (unset (sym first ∙ burns.was_set.1))
-  where
-    unset : Unset ≡ Left burns.was_set.0 → ⊥
-    unset e = cc
-burns_then (Left n) g h first burns = record { was_set = (n, refl); gone = burns.gone }
-
-rose_later : (a b c : ℕ) → a ≤ b → Rose b c → Rose a c
-rose_later a b c le rose = omega (arith, le, rose)
-
 -- calls that went well, and then others
 pub used_then : {V : Type 0} (store : Ghosts V) (failed : Option StoreError) (old mid new : V) → SpillUsed store None old mid → SpillUsed store failed mid new → SpillUsed store failed old new
 used_then store failed old mid new first second = record {

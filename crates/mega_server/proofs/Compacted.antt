@@ -1,17 +1,17 @@
 -- A step behind a compaction of the node's log is the step, and its devices only went on.
-use Rattle.std.proofs.Common.{◌≡◌, ◌⊎◌, inl, inr, ℕ, ◌+◌, ◌-◌, ◌^◌, ◌≤◌, min, Bool, true, false, cond, List, Option, Err, refl, sym, subst, arith}
+use Rattle.std.proofs.Common.{◌≡◌, ◌⊎◌, inl, inr, ℕ, ◌+◌, ◌-◌, ◌^◌, ◌≤◌, min, Bool, true, false, cond, List, Option, Err, refl, sym, subst, ◌∙◌, arith}
 use Rattle.mega_base.specs.Causes.{Rose}
 use Rattle.mega_cluster.specs.declared.cluster.Cluster.{Cluster}
 use Rattle.mega_disk.specs.declared.records.Records.{Ghosts}
 use Rattle.mega_disk.specs.declared.versions.StoreError.{StoreError}
 use Rattle.mega_disk.specs.declared.versions.Versions.{Ghosts as VersionGhosts}
-use Rattle.mega_disk.specs.VersionMaps.{Versions}
+use Rattle.mega_disk.specs.VersionMaps.{Marks, Versions}
 use Rattle.mega_handler.specs.Named.{Meaning, Meanings}
 use Rattle.mega_wal.specs.declared.answers.LogFault.{LogFault}
 use Rattle.mega_wal.specs.declared.answers.LogFault.TheVariants as log
 use Rattle.mega_rules.specs.Operations.{Node as RuleNode, Setting}
 use Rattle.mega_rules.specs.Steps.{Event}
-use Rattle.mega_replica.specs.Used.{StoreUsed}
+use Rattle.mega_replica.specs.Used.{NothingSpilled, StoreUsed}
 use Rattle.mega_durable.specs.of_actions.of_step_work.Settings.{setting}
 use Rattle.mega_durable.specs.of_core.of_node_events.declared.fault.StepFault.{StepFault}
 use Rattle.mega_durable.specs.of_core.of_node_events.declared.fault.StepFault.TheVariants as step
@@ -21,7 +21,7 @@ use Rattle.mega_durable.specs.declared.fault.UpFault.{UpFault}
 use Rattle.mega_durable.specs.declared.fault.UpFault.TheVariants as up
 use Rattle.mega_durable.specs.Compacting.{AtEachUp, LogCompacts, OwesNothing}
 use Rattle.mega_durable.specs.Cut.{LogProceeds, failed_by, log_fault_in}
-use Rattle.mega_durable.specs.Spilling.{IsNotSpilled, SpillUsed, rows_in}
+use Rattle.mega_durable.specs.Spilling.{AreSpilled, IsNotSpilled, SpillUsed, rows_in}
 use Rattle.mega_durable.specs.Standing.{IsUp, MayHappen, records_in}
 use Rattle.mega_durable.specs.Stepped.{AtEach}
 use Rattle.mega_serve.specs.of_page.declared.fault.NodeFault.{NodeFault}
@@ -114,3 +114,11 @@ spilling_due store rows old new (up.Step step.NoMemory) why used = tt
 spilling_due store rows old new (up.Cut cut) why used = absurd (cc)
 spilling_due store rows old new (up.Log fault) why used = absurd (cc)
 spilling_due store rows old new up.Unformed why used = absurd (cc)
+
+-- rows that were spilled have their marks as long as nothing else is spilled
+pub still_spilled : {V : Type 0} (store : VersionGhosts V) (marks : Marks) (old mid new : V) → AreSpilled store marks old mid → NothingSpilled store mid new → AreSpilled store marks old new
+still_spilled store marks old mid new spilled rests = record {
+  marked = λ durable. rests.marks ∙ spilled.marked durable;
+  durable = λ told durable found left. spilled.durable told durable found (rests.within found left);
+  fits = spilled.fits;
+}
