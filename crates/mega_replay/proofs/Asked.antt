@@ -2,7 +2,7 @@
 use Rattle.std.proofs.Common.{◌≡◌, ℕ, List, Option, Some, sym, subst}
 use Rattle.mega_base.specs.declared.names.GroupId.{GroupId}
 use Rattle.mega_words.specs.declared.command.Command.{Command}
-use Rattle.mega_words.specs.declared.command.Command.TheVariants.{Backup, Node, Replay, Restore, Two}
+use Rattle.mega_words.specs.declared.command.Command.TheVariants.{Backup, Gen, Node, Replay, Restore, Two}
 use Rattle.mega_words.specs.declared.command.Report.{Report}
 
 -- this is so of what the words ask for, as it is of the command that was read
@@ -11,6 +11,10 @@ so_asked IsSo value some is so = subst IsSo value (subst IsSo (sym some) (subst 
 
 pub so_read : {found asked : Option Command} {command inner : Command} (IsSo : Option Command → Type 0) → found ≡ asked → found ≡ Some inner → inner ≡ command → IsSo asked → IsSo (Some command)
 so_read IsSo value some is so = subst (λ (one : Command). IsSo (Some one)) is (subst IsSo some (subst IsSo (sym value) so))
+
+pub same_gen : {found asked : Option Command} {inner : Command} {seed count nodes s n k : ℕ} → found ≡ asked → found ≡ Some inner → inner ≡ Gen seed count nodes → asked ≡ Some (Gen s n k)
+    → (seed ≡ s) × (count ≡ n) × (nodes ≡ k)
+same_gen value some is asks = (cc, cc, cc)
 
 pub same_report : {found asked : Option Command} {inner : Command} {report other : Report} → found ≡ asked → found ≡ Some inner → inner ≡ Replay report → asked ≡ Some (Replay other) → report ≡ other
 same_report value some is asks = cc

@@ -15,7 +15,8 @@ use Rattle.mega_backup_words.proofs.Endings.{unwritten}
 use Rattle.mega_words.specs.declared.command.Command.{Command}
 use Rattle.mega_words.specs.declared.command.Command.TheVariants.{Backup, Gen, Node, Replay, Restore, Two}
 use Rattle.mega_words.specs.Commands.{MayWant}
-use Rattle.mega_replay.specs.Backups.{BringsBack, HasBackedUp}
+use Rattle.mega_replay.specs.Backups.{BringsBack}
+use Rattle.mega_replay.specs.Run.{HasBackedUp}
 use Rattle.mega_replay.specs.Statuses.{IsStatusOf}
 
 -- where memory was wanting for the group, nothing was done

@@ -8,7 +8,8 @@ use Rattle.mega_two_turns.specs.Turns.{driven, start}
 use Rattle.mega_two_run_laws.specs.TurnResults.{tolds}
 use Rattle.mega_two_run_laws.proofs.Recovering.{recovered_run}
 use Rattle.mega_two_run_laws.proofs.Turns.{goes, is_over}
-use Rattle.mega_replay.specs.Changes.{HasDriven, SeesBefore}
+use Rattle.mega_replay.specs.Changes.{SeesBefore}
+use Rattle.mega_replay.specs.Run.{HasDriven}
 
 pub sees_before : (number : ℕ) → SeesBefore number
 sees_before number = record {

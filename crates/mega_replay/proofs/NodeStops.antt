@@ -5,7 +5,7 @@ use Rattle.mega_node.specs.declared.stop.Stop.{Stop}
 use Rattle.mega_node.specs.declared.stop.Stop.TheVariants.{BadRecord, Device, Full, Header, Link, NoMemory, Sink, Source, StartsFull, Unformed}
 use Rattle.mega_node.specs.Statuses.{ended_with}
 use Rattle.mega_node.specs.Stops.{IsBehindHeader as IsBehind, IsBeforeOpening as IsBefore, IsNoRule}
-use Rattle.mega_replay.specs.Nodes.{IsBeforeOpening, IsBehindHeader}
+use Rattle.mega_replay.specs.Statuses.{IsBeforeOpening, IsBehindHeader}
 use Rattle.mega_replay.specs.Statuses.{IsNodeStatus}
 
 pub ran_by : (ended : Result (Unit {0}) Stop) (P : Type 0) → ended_with ended ≡ 0 → OnOk ended P → P

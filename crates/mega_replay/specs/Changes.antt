@@ -1,7 +1,5 @@
--- What the call of a change of several groups came to.
-use Rattle.std.specs.Prelude.{◌≡◌, ◌⊎◌, ℕ, false, true, length, nat_lt, List, Option, Some}
-use Rattle.std.specs.Io.KnownBytes.{Appends}
-use Rattle.mega_io.specs.Pieces.{AppendsFront}
+-- How a change of several groups was driven, and what it saw where it ended as committed.
+use Rattle.std.specs.Prelude.{◌≡◌, ℕ, true, length, nat_lt, List, Option, Some}
 use Rattle.mega_link.specs.Datagrams.{Datagram}
 use Rattle.mega_node.specs.Outside.{Outside}
 use Rattle.mega_two_driver.specs.of_moves.declared.phase.Ended.TheVariants.{Committed}
@@ -12,7 +10,6 @@ use Rattle.mega_two_driver_laws.specs.Runs.{closes, shows_made, was}
 use Rattle.mega_two_turns.specs.Turns.{driven, ending, start}
 use Rattle.mega_two_run_laws.specs.TurnResults.{tolds}
 use Rattle.mega_two_words.specs.declared.last.Last.{Last}
-use Rattle.mega_two_words.specs.Endings.{is_cut, last_line, status_of}
 use Rattle.mega_two_words.specs.Runs.{RunsTo}
 
 -- this is said of how a change of this name, or of the input's line where there is none, was driven by requests to a node
@@ -31,12 +28,3 @@ pub record SeesBefore (number : ℕ) : Type 0 where
       → SawItMade number patience (length two.plan.parts) Begins two given
   pub recovered : (patience : ℕ) (two : Two) (given : List (ℕ × Option Datagram)) → two.phase ≡ Recovers → ending (driven number patience (start two) given).two ≡ Some Committed
       → SawItMade number patience (length (driven number patience (start two) given).two.plan.parts) Recovers two given
-
--- a change was to be driven for so many turns, and what was asked for ended with this status: unless a call failed or memory was wanting, its last line was
--- written, and nothing else; of one that the sink did not take a front
-pub record HasDriven (number turns : ℕ) (recover input : Option (List ℕ)) (before after : Outside) (status : ℕ) : Type 0 where
-  pub whole : is_cut status ≡ false → Drove number turns recover input before after (λ last. (status ≡ status_of last) × Appends before.held after.held (last_line last))
-  pub front : status ≡ 6 → Drove number turns recover input before after (λ last. AppendsFront before.held after.held (last_line last))
-  pub none : (status ≡ 5) ⊎ (status ≡ 9) → after.held ≡ before.held
-  pub memory : status ≡ 8 → (last : Last) × AppendsFront before.held after.held (last_line last)
-  pub sees : SeesBefore number

@@ -1,5 +1,5 @@
-pub mod Backups
-pub mod Changes
 pub mod Usage
 pub mod Statuses
-pub mod Nodes
+pub mod Backups
+pub mod Changes
+pub mod Run

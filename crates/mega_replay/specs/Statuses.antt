@@ -14,6 +14,14 @@ IsDrawn status = (status ≡ 0) ⊎ (status ≡ 6) ⊎ (status ≡ 8)
 abbrev pub IsNodeStatus : ℕ → Type 0
 IsNodeStatus status = (status ≡ 0) ⊎ (status ≡ 3) ⊎ (status ≡ 7) ⊎ (status ≡ 9) ⊎ (status ≡ 10) ⊎ (status ≡ 16) ⊎ IsCutStatus status
 
+-- the statuses with which a node ends behind a header that it read
+abbrev pub IsBehindHeader : ℕ → Type 0
+IsBehindHeader status = (status ≡ 7) ⊎ (status ≡ 9) ⊎ (status ≡ 10) ⊎ (status ≡ 16)
+
+-- those with which it ends before its log is opened
+abbrev pub IsBeforeOpening : ℕ → Type 0
+IsBeforeOpening status = (status ≡ 3) ⊎ (status ≡ 5) ⊎ (status ≡ 9)
+
 -- the statuses with which what the words ask for ends
 abbrev pub IsStatusOf : Option Command → ℕ → Type 0
 IsStatusOf None status = (status ≡ 2) ⊎ (status ≡ 8)

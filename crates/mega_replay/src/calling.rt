@@ -1,23 +1,18 @@
 //! The top call: its words, what it writes, and its status.
-ghost use Rattle.std.specs.Prelude.{◌≡◌, ◌≤◌, ◌⊎◌, ◌++◌, ℕ, List, Option, Some, None};
-ghost use Rattle.mega_node.specs.Outside.{told_by};
-ghost use Rattle.mega_replay.specs.Nodes.{HasRunNode};
-ghost use Rattle.std.specs.Io.KnownBytes.{Appends, IsAtEnd};
-ghost use Rattle.mega_meanings.specs.BuiltIn.{built_in};
+ghost use Rattle.std.specs.Prelude.{◌≡◌, ◌≤◌, ◌⊎◌, ℕ, List, Option, Some, None};
+ghost use Rattle.std.specs.Io.KnownBytes.{Appends};
 ghost use Rattle.mega_base.specs.Causes.{Rose};
+ghost use Rattle.mega_base.specs.declared.names.GroupId.{GroupId as Group};
 ghost use Rattle.mega_io.specs.Pieces.{AppendsFront};
-ghost use Rattle.mega_replay_output.specs.LastLines.{header_line, schedule_line, refused_line, limit_line};
-ghost use Rattle.mega_replay.specs.Usage.{usage_line};
-ghost use Rattle.mega_replay_loop.specs.Known.{InputDone, InputFailed, InputBroken, InputNoEvent, InputRefused, InputPastLast, InputCut};
-ghost use Rattle.mega_replay_output.specs.Statuses.{IsCutStatus};
-ghost use Rattle.mega_replay.specs.Statuses.{IsDrawn, IsOffline, IsStatusOf, UsesNoDevice};
-ghost use Rattle.mega_replay.specs.Backups.{HasBackedUp, HasRestored};
-ghost use Rattle.mega_replay.specs.Changes.{HasDriven};
 ghost use Rattle.mega_gen.specs.Generated.{generated};
+ghost use Rattle.mega_meanings.specs.BuiltIn.{built_in};
+ghost use Rattle.mega_node.specs.Outside.{told_by};
 ghost use Rattle.mega_words.specs.Commands.{command_of};
 ghost use Rattle.mega_words.specs.declared.command.Command.TheVariants.{Backup, Gen, Node, Replay, Restore, Two};
-ghost use Rattle.mega_base.specs.declared.names.GroupId.{GroupId as Group};
 ghost use Rattle.mega_words.specs.declared.command.Report.{Report};
+ghost use Rattle.mega_replay.specs.Run.{HasBackedUp, HasDrawn, HasDriven, HasReplayed, HasRestored, HasRunNode, HasToldUsage};
+ghost use Rattle.mega_replay.specs.Statuses.{IsDrawn, IsOffline, IsStatusOf, UsesNoDevice};
+ghost use Rattle.mega_replay.specs.Usage.{usage_line};
 
 use crate::ended::Ended;
 use crate::saving::back_up;
@@ -59,25 +54,16 @@ pub fn run<I: Source, O: Sink, D: Disk + Drop, L: Link, C: Clock>(
     clock: &mut C,
 ) -> Ended<D>
     ensures unformed { result.status ≡ 2 → command_of words.now ≡ None }
-    ensures no_form { command_of words.now ≡ None → (result.status ≡ 2) ⊎ (result.status ≡ 8) }
-    ensures used { result.status ≡ 2 → Appends (O.held out.old) (O.held out.new) usage_line ⊎ Rose (O.faults out.old) (O.faults out.new) }
-    ensures usage { command_of words.now ≡ None → AppendsFront (O.held out.old) (O.held out.new) usage_line }
-    ensures drawn { (seed count nodes : ℕ) → command_of words.now ≡ Some (Gen seed count nodes) → result.status ≡ 0 → Appends (O.held out.old) (O.held out.new) (generated seed count nodes) }
-    ensures drawing { (seed count nodes : ℕ) → command_of words.now ≡ Some (Gen seed count nodes) → IsDrawn result.status × AppendsFront (O.held out.old) (O.held out.new) (generated seed count nodes) }
+    ensures usage { command_of words.now ≡ None → HasToldUsage (O.held out.old) (O.held out.new) (Rose (O.faults out.old) (O.faults out.new)) result.status }
+    ensures drawn { (seed count nodes : ℕ) → command_of words.now ≡ Some (Gen seed count nodes) → HasDrawn seed count nodes (O.held out.old) (O.held out.new) result.status }
     ensures unread { (seed count nodes : ℕ) → command_of words.now ≡ Some (Gen seed count nodes) → input.new ≡ input.old }
-    ensures done { (report : Report) → command_of words.now ≡ Some (Replay report) → result.status ≡ 0 → InputDone report (I.left input.old) (Appends (O.held out.old) (O.held out.new)) }
-    ensures end { (report : Report) → command_of words.now ≡ Some (Replay report) → result.status ≡ 0 → IsAtEnd (I.left input.new) }
-    ensures header { (report : Report) → command_of words.now ≡ Some (Replay report) → result.status ≡ 3 → (rule : ℕ) × InputBroken (I.left input.old) rule (λ text. Appends (O.held out.old) (O.held out.new) (text ++ header_line rule)) }
-    ensures refused { (report : Report) → command_of words.now ≡ Some (Replay report) → result.status ≡ 4 → ((line : ℕ) × (reason : ℕ) × InputNoEvent report (I.left input.old) line reason (λ text. Appends (O.held out.old) (O.held out.new) (text ++ schedule_line line reason))) ⊎ ((line : ℕ) × (why : ℕ) × InputRefused report (I.left input.old) line why (λ text. Appends (O.held out.old) (O.held out.new) (text ++ refused_line line why))) }
-    ensures limit { (report : Report) → command_of words.now ≡ Some (Replay report) → result.status ≡ 10 → (line : ℕ) × InputPastLast report (I.left input.old) line (λ text. Appends (O.held out.old) (O.held out.new) (text ++ limit_line line)) }
-    ensures broken { (report : Report) → command_of words.now ≡ Some (Replay report) → result.status ≡ 5 → InputFailed report (I.left input.old) (I.left input.new) (Appends (O.held out.old) (O.held out.new)) ⊎ Rose (O.faults out.old) (O.faults out.new) }
-    ensures cut { (report : Report) → command_of words.now ≡ Some (Replay report) → IsCutStatus result.status → InputCut report (I.left input.old) (AppendsFront (O.held out.old) (O.held out.new)) }
-    ensures source { result.status ≡ 5 → Rose (I.faults input.old) (I.faults input.new) }
-    ensures sink { result.status ≡ 6 → Rose (O.faults out.old) (O.faults out.new) }
+    ensures replayed { (report : Report) → command_of words.now ≡ Some (Replay report) → HasReplayed report (I.left input.old) (I.left input.new) (O.held out.old) (O.held out.new) (Rose (O.faults out.old) (O.faults out.new)) result.status }
     ensures node { (number turns : ℕ) → command_of words.now ≡ Some (Node number turns) → HasRunNode D.Disk built_in number turns (I.left input.old) (I.left input.new) devices result.devices (told_by L.Link C.Clock O.Sink link.old clock.old out.old) (told_by L.Link C.Clock O.Sink link.new clock.new out.new) result.status }
     ensures backup { (number at : ℕ) (group : Group) → command_of words.now ≡ Some (Backup number group at) → HasBackedUp D.Disk number group at (I.left input.old) devices result.devices (O.held out.old) (O.held out.new) result.status }
     ensures restore { (at : ℕ) → command_of words.now ≡ Some (Restore at) → HasRestored at (I.left input.old) (O.held out.old) (O.held out.new) result.status }
     ensures two { (number turns : ℕ) (recover : Option (List ℕ)) → command_of words.now ≡ Some (Two number turns recover) → HasDriven number turns recover (I.left input.old) (told_by L.Link C.Clock O.Sink link.old clock.old out.old) (told_by L.Link C.Clock O.Sink link.new clock.new out.new) result.status }
+    ensures source { result.status ≡ 5 → Rose (I.faults input.old) (I.faults input.new) }
+    ensures sink { result.status ≡ 6 → Rose (O.faults out.old) (O.faults out.new) }
     ensures link { result.status ≡ 9 → Rose (L.faults link.old) (L.faults link.new) }
     ensures offline { IsOffline (command_of words.now) → (link.new ≡ link.old) × (clock.new ≡ clock.old) }
     ensures untouched { UsesNoDevice (command_of words.now) → result.devices ≡ Some devices }

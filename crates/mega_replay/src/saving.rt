@@ -2,7 +2,7 @@
 ghost use Rattle.std.specs.Prelude.{◌≡◌, ◌≤◌};
 ghost use Rattle.mega_backup_words.specs.Stops.{IsBackupStatus};
 ghost use Rattle.mega_base.specs.Causes.{Rose};
-ghost use Rattle.mega_replay.specs.Backups.{HasBackedUp};
+ghost use Rattle.mega_replay.specs.Run.{HasBackedUp};
 
 use crate::ended::Ended;
 use mega_backup_words::run_backup;

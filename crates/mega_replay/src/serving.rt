@@ -4,7 +4,7 @@ ghost use Rattle.mega_base.specs.Causes.{Rose};
 ghost use Rattle.mega_meanings.specs.BuiltIn.{built_in};
 ghost use Rattle.mega_node.specs.Calls.{AtHandlers};
 ghost use Rattle.mega_node.specs.Outside.{told_by};
-ghost use Rattle.mega_replay.specs.Nodes.{HasRunNode};
+ghost use Rattle.mega_replay.specs.Run.{HasRunNode};
 ghost use Rattle.mega_replay.specs.Statuses.{IsNodeStatus};
 
 use crate::ended::Ended;

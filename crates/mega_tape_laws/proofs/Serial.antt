@@ -61,7 +61,7 @@ IsOutcome schema op request group below e = (group_written request ≡ Some grou
 
 of_transaction : (schema : Schema) (op : OpId) (transaction : Transaction) (group : GroupId) (below : List Content) (done : Done) (e : Content) → transaction.group ≡ group
     → outcome schema transaction (after below no_rows) ≡ Ok done → e ≡ entry_of_done op done → IsOutcome schema op (Txn transaction) group below e
-of_transaction schema op transaction group below done e at h is = (ap Some at, rw h (ap Some (sym is)))
+of_transaction schema op transaction group below done e at h is = (ap Some at, rw (h, comes_to) (ap Some (sym is)))
 
 of_batch : (schema : Schema) (op : OpId) (group : GroupId) (transactions : List Transaction) (below : List Content) (e : Content)
     → e ≡ entry_of_batch op (batch_outcome schema group transactions (after below no_rows)) → IsOutcome schema op (BatchRequest group transactions) group below e

@@ -1,22 +1,23 @@
-use Rattle.std.proofs.Common.{◌≡◌, Option, Some, subst, sym}
+use Rattle.std.proofs.Common.{◌≡◌, Option, Some, refl, arith, inr, subst, sym}
 use Rattle.std.proofs.KnownBytes.{Appends-nil}
 use Rattle.mega_words.specs.declared.command.Command.{Command}
 use Rattle.mega_words.specs.Commands.{MayWant}
 use Rattle.mega_replay.specs.Statuses.{IsOffline, IsStatusOf, UsesNoDevice}
-use Rattle.mega_replay.proofs.Asked.{same_backup, same_change, same_node, same_report, same_restore, so_asked, so_read}
+use Rattle.mega_replay.proofs.Asked.{same_backup, same_change, same_gen, same_node, same_report, same_restore, so_asked, so_read}
 use Rattle.mega_replay.proofs.Changes.{none_driven, sees_before}
 use Rattle.mega_replay.proofs.Backups.{may_end, nothing_done, rows_come_back}
 use Rattle.mega_replay.proofs.calling.run.Goals as goal
 
-pub returns-in-Ok-Some-Replay-clause-refused : goal.returns-in-Ok-Some-Replay-clause-refused
-returns-in-Ok-Some-Replay-clause-refused g c report is stops =
-    let same = same_report c.in-Ok-Some-Replay.ensures.value c.in-Ok-Some-Replay.field-0-is c.in-Ok-Some-Replay.field-0-0-is is in
-    rw (← same) (c.replay_all.ensures.refused stops)
+pub returns-in-Ok-Some-Gen-clause-drawn : goal.returns-in-Ok-Some-Gen-clause-drawn
+returns-in-Ok-Some-Gen-clause-drawn g c seed count nodes is =
+    let same = same_gen c.in-Ok-Some-Gen.ensures.value c.in-Ok-Some-Gen.field-0-is c.in-Ok-Some-Gen.field-0-0-is is in
+    rw (← same.0, ← same.1, ← same.2) (record { only = c.draw.ensures.only; whole = c.draw.ensures.whole; front = c.draw.ensures.front })
 
-pub returns-in-Ok-Some-Replay-clause-limit : goal.returns-in-Ok-Some-Replay-clause-limit
-returns-in-Ok-Some-Replay-clause-limit g c report is stops =
+pub returns-in-Ok-Some-Replay-clause-replayed : goal.returns-in-Ok-Some-Replay-clause-replayed
+returns-in-Ok-Some-Replay-clause-replayed g c report is =
     let same = same_report c.in-Ok-Some-Replay.ensures.value c.in-Ok-Some-Replay.field-0-is c.in-Ok-Some-Replay.field-0-0-is is in
-    rw (← same) (c.replay_all.ensures.limit stops)
+    let of = c.replay_all.ensures in
+    rw (← same) (record { done = of.done; end = of.end; header = of.header; refused = of.refused; limit = of.limit; broken = of.broken; cut = of.cut })
 
 pub returns-in-Ok-Some-Node-clause-node : goal.returns-in-Ok-Some-Node-clause-node
 returns-in-Ok-Some-Node-clause-node g c number turns is =
@@ -67,14 +68,21 @@ pub returns-in-Ok-Some-Restore-clause-only : goal.returns-in-Ok-Some-Restore-cla
 returns-in-Ok-Some-Restore-clause-only g c =
     so_asked (λ (command : Option Command). IsStatusOf command c.run_restore.result) c.in-Ok-Some-Restore.ensures.value c.in-Ok-Some-Restore.field-0-is c.in-Ok-Some-Restore.field-0-0-is c.run_restore.ensures.only
 
+pub returns-in-Ok-None-clause-usage : goal.returns-in-Ok-None-clause-usage
+returns-in-Ok-None-clause-usage g c is = record { only = c.tell_usage.ensures.status; whole = c.tell_usage.ensures.used; front = c.tell_usage.ensures.usage }
+
 pub returns-in-Err-clause-usage : goal.returns-in-Err-clause-usage
-returns-in-Err-clause-usage g c is = (0, Appends-nil (g.O.Sink.held c.args.out.now))
+returns-in-Err-clause-usage g c is = record {
+  only = inr refl;
+  whole = λ other. absurd (omega (arith, other));
+  front = (0, Appends-nil (g.O.Sink.held c.args.out.now));
+}
 
-pub returns-in-Err-clause-drawing : goal.returns-in-Err-clause-drawing
-returns-in-Err-clause-drawing g c seed count nodes is = absurd (subst MayWant is c.in-Err.ensures.wanting)
+pub returns-in-Err-clause-drawn : goal.returns-in-Err-clause-drawn
+returns-in-Err-clause-drawn g c seed count nodes is = absurd (subst MayWant is c.in-Err.ensures.wanting)
 
-pub returns-in-Err-clause-cut : goal.returns-in-Err-clause-cut
-returns-in-Err-clause-cut g c report is = absurd (subst MayWant is c.in-Err.ensures.wanting)
+pub returns-in-Err-clause-replayed : goal.returns-in-Err-clause-replayed
+returns-in-Err-clause-replayed g c report is = absurd (subst MayWant is c.in-Err.ensures.wanting)
 
 pub returns-in-Err-clause-node : goal.returns-in-Err-clause-node
 returns-in-Err-clause-node g c number turns is = absurd (subst MayWant is c.in-Err.ensures.wanting)

@@ -1,6 +1,6 @@
 use Rattle.std.proofs.Common.{◌∙◌, ap, sym, subst}
 use Rattle.mega_node.specs.Statuses.{ended_with}
-use Rattle.mega_replay.specs.Nodes.{IsBeforeOpening, IsBehindHeader}
+use Rattle.mega_replay.specs.Statuses.{IsBeforeOpening, IsBehindHeader}
 use Rattle.mega_replay.specs.Statuses.{IsNodeStatus}
 use Rattle.mega_replay.proofs.NodeStops.{bad_by, before_by, behind_by, cut_by, device_by, header_by, link_by, ran_by, sink_by, source_by, status_known}
 use Rattle.mega_replay.proofs.serving.serve_with.Goals as goal
