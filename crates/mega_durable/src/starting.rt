@@ -135,6 +135,7 @@ fn refused<R: Records>(fault: LogFault, records: R) -> NotStarted<R>
 fn too_often<R: Records, V: Versions>(down: Down<R, V>) -> HandedBack<R, V>
     ensures why { result.why ≡ NotStarted.StartsFull down.voter.logs.records }
     ensures rows { result.rows ≡ Some down.rows.rows }
+    ensures puts { (left : V) → result.rows ≡ Some left → OnlyPuts V.Versions down.rows.rows left }
 {
     let (records, rows) = down.close_both();
     HandedBack {
