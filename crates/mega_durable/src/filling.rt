@@ -1,6 +1,6 @@
 //! Before a start all decided entries are stored, and the rows are spilled on the way: a start over them needs little memory, and
 //! writes little more than their versions.
-ghost use Rattle.std.specs.Prelude.{◌≡◌, [], ℕ, List, IfOk, OnOk, true, false};
+ghost use Rattle.std.specs.Prelude.{◌≡◌, [], ℕ, List, OnOk, true, false};
 ghost use Rattle.std.specs.Result.{result_err};
 ghost use Rattle.mega_replica.specs.Following.{Follows, progress_at};
 ghost use Rattle.mega_rules.specs.Logs.{groups_of, log_of};
