@@ -249,7 +249,7 @@ module _ (c : Cluster) (usage : Usage) (first : Meanings) (events : List Happeni
 
 of_transaction : (schema : Schema) (op : OpId) (transaction : Transaction) (below : List Content) (done : Done) (e : Content) → outcome schema transaction (after below no_rows) ≡ Ok done → e ≡ entry_of_done op done
     → comes_to schema op (Txn transaction) below ≡ Some e
-of_transaction schema op transaction below done e h is = rw h (ap Some (sym is))
+of_transaction schema op transaction below done e h is = rw (h, comes_to) (ap Some (sym is))
 
 own_comes : (schema : Schema) (usage : Usage) (tape : List Item) (op : OpId) (group : GroupId) (below : List Content) (e : Content) → OwnEntry schema usage tape op group below e → e.id ≡ Some op → (request : Request)
     → asked_for usage.meaning tape op ≡ Some request → is_write request ≡ true → comes_to schema op request below ≡ Some e
