@@ -8,6 +8,9 @@ deliver-requires g c = record { known = rw c.in-Deliver.is at c.requires.known }
 pub start-requires : goal.start-requires
 start-requires g c = record { known = (_, rw c.in-Start.is at c.requires.known) }
 
+pub returns-in-Deliver-clause-refused : goal.returns-in-Deliver-clause-refused
+returns-in-Deliver-clause-refused g c = rw c.in-Deliver.is c.deliver.ensures.refused
+
 pub returns-in-Begin-clause-refused : goal.returns-in-Begin-clause-refused
 returns-in-Begin-clause-refused g c = rw c.in-Begin.is c.begin.ensures.refused
 
