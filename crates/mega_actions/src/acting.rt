@@ -384,6 +384,7 @@ impl<R: Records, V: Versions> Replica<R, V> {
     }
 
     /// An operation acts, and a pump again while it picks again: at most as often as there are groups, and two times more.
+    #[tactic(auto, using(mega_replica::proofs::Using::used_here, mega_answers::proofs::Refused::used_unkept))]
     pub fn acts<H: QueueHandlers>(
         &mut self,
         alloc: Global,
@@ -406,6 +407,11 @@ impl<R: Records, V: Versions> Replica<R, V> {
         ensures indexed { self.new.indexed ≡ self.old.indexed }
         ensures unserved { result ≡ Err Unserved → is_open operation.request ≡ false }
     {
+        // Most operations only wait, and go on with no other move.
+        if stays(&self.voter, &operation) {
+            work.kept.push(operation)?;
+            return Ok(());
+        }
         match self.acts_once(alloc, handlers, work, operation) {
             Ok(Some(next)) => {
                 self.acts_again(alloc, handlers, work, next)?;

@@ -1,4 +1,4 @@
-use Rattle.std.proofs.Common.{None, rules, subst, sym}
+use Rattle.std.proofs.Common.{◌≡◌, ◌++◌, ◌∷◌, [], None, ap, rules, subst, sym}
 use Rattle.mega_meanings.proofs.Lasting.{means_still}
 use Rattle.mega_replica.specs.Used.{StoreUsed}
 use Rattle.mega_replica.proofs.Using.{used_then}
@@ -6,7 +6,7 @@ use Rattle.mega_answers.specs.of_voter.declared.voter.Voter.{Voter}
 use Rattle.mega_answers.specs.of_voter.Telling.{Tells}
 use Rattle.mega_answers.specs.Faults.{failed_by}
 use Rattle.mega_answers.specs.of_step_work.Settings.{setting}
-use Rattle.mega_actions.proofs.Turned.{once_stands, once_work, twice_stands, twice_work}
+use Rattle.mega_actions.proofs.Turned.{once_stands, once_work, twice_stands, twice_work, waits_stands, waits_work}
 use Rattle.mega_actions.proofs.replica.Replica.acts.Goals as goal
 
 pub returns-in_ok-acts_again-in-Ok-Some-clause-state : goal.returns-in_ok-acts_again-in-Ok-Some-clause-state
@@ -49,3 +49,17 @@ pub returns-in-Ok-None-clause-work : goal.returns-in-Ok-None-clause-work
 returns-in-Ok-None-clause-work g c h now told means about at =
     once_work g.V.Versions.version h c.acts_once.new.self c.args.work.now c.acts_once.new.work (setting c.args.self.now.members c.args.self.now.me h) now c.args.operation
     ((rw c.in-Ok-None.field-0-is at c.in-Ok-None.ensures.acted) h now told means about at)
+
+pub returns-then-stays-clause-state : goal.returns-then-stays-clause-state
+returns-then-stays-clause-state g c h now told means about at =
+    let s = setting c.args.self.now.members c.args.self.now.me h in
+    waits_stands g.V.Versions.version h c.args.self.now s now c.args.operation (λ again. c.stays.ensures c.if-stays.true s again now at.stands.tells) at
+
+pub returns-then-stays-clause-work : goal.returns-then-stays-clause-work
+returns-then-stays-clause-work g c h now told means about at =
+    let s = setting c.args.self.now.members c.args.self.now.me h in
+    let before = c.args.work.now in
+    let o = c.args.operation in
+    let pushed : c.push.new.self ≡ before.kept ++ o ∷ [] = search rules in
+    waits_work g.V.Versions.version h c.args.self.now s now o (λ again. c.stays.ensures c.if-stays.true s again now at.stands.tells) before (record before { kept = c.push.new.self })
+    (ap (λ kept. record before { kept = kept }) pushed)
