@@ -9,7 +9,7 @@ use Rattle.mega_schema.specs.declared.schema.Schema.{Schema}
 use Rattle.mega_outcome.specs.declared.answer.Answer.{Answer}
 use Rattle.mega_promises.specs.of_transcript.Answers.{answer_words}
 use Rattle.mega_promises.specs.Served.{Line, Waiting, answer_line, answered_line, reply_line}
-use Rattle.mega_reply_laws.specs.Requests.{Asked, Came, Ended, Heard, Opened, Refused, comes_to, ended_as, op_awaited, reply_by, reply_to, waits, waits_by}
+use Rattle.mega_reply_laws.specs.Requests.{Asked, RequestState, Ended, Heard, Opened, Refused, comes_to, ended_as, op_awaited, reply_by, reply_to, waits, waits_by}
 use Rattle.mega_reply_laws.specs.Fates.{AreApart, Ends, Fate, Stays, among, answering, op_in, staying}
 
 -- ---- operations and their ids
@@ -87,12 +87,12 @@ staying_apart (Ends op answer ∷ fates) h = staying_apart fates h.1
 
 -- ---- what becomes of a request
 
-abbrev pub passes : List Fate → Came → Came
+abbrev pub passes : List Fate → RequestState → RequestState
 passes [] came = came
 passes (Stays op ∷ fates) came = passes fates came
 passes (Ends op answer ∷ fates) came = passes fates (ended_as op answer came)
 
-abbrev pub open_or_ended : OpId → Option Answer → Came
+abbrev pub open_or_ended : OpId → Option Answer → RequestState
 open_or_ended x None = Opened x
 open_or_ended x (Some answer) = Ended x answer
 
@@ -150,7 +150,7 @@ waits_less op answer (one ∷ asked) = by one.client one.token one.came (waits_l
     other_waits : Waiting → Bool
     other_waits one = not (answers_to op one)
 
-    by : (client token : ℕ) (came : Came) → waits (ends op answer asked) ≡ filter other_waits (waits asked)
+    by : (client token : ℕ) (came : RequestState) → waits (ends op answer asked) ≡ filter other_waits (waits asked)
         → cons_option (waits_by client token (ended_as op answer came)) (waits (ends op answer asked)) ≡ filter other_waits (cons_option (waits_by client token came) (waits asked))
     by client token Heard rest = rest
     by client token (Refused words) rest = rest
@@ -225,7 +225,7 @@ module _ (schema : Schema) (me : ℕ) where
   none_ends op answer [] h = refl
   none_ends op answer (one ∷ asked) h = by one.client one.token one.came h (λ k. none_ends op answer asked k)
     where
-      by : (client token : ℕ) (came : Came) → among (map op_awaited (cons_option (waits_by client token came) (waits asked))) op ≡ false
+      by : (client token : ℕ) (came : RequestState) → among (map op_awaited (cons_option (waits_by client token came) (waits asked))) op ≡ false
           → (among (map op_awaited (waits asked)) op ≡ false → ends op answer asked ≡ asked)
           → ((record { client = client; token = token; came = ended_as op answer came }) ∷ ends op answer asked) ≡ ((record { client = client; token = token; came = came }) ∷ asked)
       by client token Heard k rest = ap (λ those. (record { client = client; token = token; came = Heard }) ∷ those) (rest k)
@@ -257,7 +257,7 @@ module _ (schema : Schema) (me : ℕ) where
             many_more test line ended ∙ ap (λ n. cond (test line) 1 0 + n) e
             ∙ swap_in (cond (test line) 1 0) (many test (given asked)) (many test (found_reply answer found)) ∙ sym (ap (λ n. n + many test (found_reply answer found)) (many_more test line (given asked)))
 
-        by : (client token : ℕ) (came : Came) → AreApart (map op_awaited (cons_option (waits_by client token came) (waits asked)))
+        by : (client token : ℕ) (came : RequestState) → AreApart (map op_awaited (cons_option (waits_by client token came) (waits asked)))
             → (AreApart (map op_awaited (waits asked)) → many test ended ≡ many test (given asked) + many test (found_reply answer found))
             → many test (cons_option (reply_by schema me client token (ended_as op answer came)) ended)
             ≡ many test (cons_option (reply_by schema me client token came) (given asked)) + many test (found_reply answer (find (answers_to op) (cons_option (waits_by client token came) (waits asked))))

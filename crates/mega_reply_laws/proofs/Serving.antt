@@ -29,7 +29,7 @@ use Rattle.mega_promises.specs.NodeRuns.{met_of}
 use Rattle.mega_promises.specs.Runs.{names_nothing, setting}
 use Rattle.mega_promises.specs.Served.{Asks, Got, Line, Noted, OfClient, OfNode, Peer, Refuses, Served, Turn, Waiting, Wish, answer_line, answered_line, given as receives, is_open_at, noted, put_out, received, recorded, reply_line, served, served_start, ticked, turned, wished, with_lines}
 use Rattle.mega_reply_laws.specs.Fates.{AreApart, Ends, Fate, Stays, among, answering, ids, op_in, staying}
-use Rattle.mega_reply_laws.specs.Requests.{Agrees, AreReplied, Asked, Came, Ended, HasOpen, Heard, IsAsItStands, Opened, Refused, asked_by, asked_in, behind_line, begun_as, comes_to, is_reply, op_awaited, replies, reply_to, requests, waits, waits_by, waits_in, wished_for}
+use Rattle.mega_reply_laws.specs.Requests.{Agrees, AreReplied, Asked, RequestState, Ended, HasOpen, Heard, IsAsItStands, Opened, Refused, asked_by, asked_in, behind_line, begun_as, comes_to, is_reply, op_awaited, replies, reply_to, requests, waits, waits_by, waits_in, wished_for}
 use Rattle.mega_reply_laws.proofs.Ending.{all_end, all_pass, all_pass_each, apart_less, ends, given, many, many_both, not_first, open_or_ended, others_staying, passes, passes_ended, passes_opened, passes_refused, replies_of, staying_apart, stays_untold, told_to}
 use Rattle.mega_reply_laws.proofs.Plain.{IsPlain, start_plain}
 use Rattle.mega_reply_laws.proofs.Told.{refused_at_once}
@@ -38,59 +38,59 @@ use Rattle.mega_reply_laws.proofs.Steps.{AreBelow, IsBelow, IsWithin, Went, all_
 -- ---- what is said of each request
 
 -- an operation that is open is among these
-abbrev pub OpenAmong : List OpId → Came → Type 0
+abbrev pub OpenAmong : List OpId → RequestState → Type 0
 OpenAmong ops Heard = ⊥
 OpenAmong ops (Refused words) = Unit {0}
 OpenAmong ops (Opened x) = among ops x ≡ true
 OpenAmong ops (Ended x answer) = Unit {0}
 
 -- and one that ended is not
-abbrev pub EndedOut : List OpId → Came → Type 0
+abbrev pub EndedOut : List OpId → RequestState → Type 0
 EndedOut ops Heard = Unit {0}
 EndedOut ops (Refused words) = Unit {0}
 EndedOut ops (Opened x) = Unit {0}
 EndedOut ops (Ended x answer) = among ops x ≡ false
 
-abbrev pub Standing : List OpId → Came → Type 0
+abbrev pub Standing : List OpId → RequestState → Type 0
 Standing ops Heard = ⊥
 Standing ops (Refused words) = Unit {0}
 Standing ops (Opened x) = among ops x ≡ true
 Standing ops (Ended x answer) = among ops x ≡ false
 
 -- one that ended was begun by now
-abbrev pub Past : ℕ → Came → Type 0
+abbrev pub Past : ℕ → RequestState → Type 0
 Past n Heard = Unit {0}
 Past n (Refused words) = Unit {0}
 Past n (Opened x) = Unit {0}
 Past n (Ended x answer) = x.number ≤ n
 
-abbrev pub Each : (Came → Type 0) → List Asked → Type 0
+abbrev pub Each : (RequestState → Type 0) → List Asked → Type 0
 Each P asked = All (λ (one : Asked). P one.came) asked
 
-each_weaker : (P Q : Came → Type 0) → ((came : Came) → P came → Q came) → (asked : List Asked) → Each P asked → Each Q asked
+each_weaker : (P Q : RequestState → Type 0) → ((came : RequestState) → P came → Q came) → (asked : List Asked) → Each P asked → Each Q asked
 each_weaker P Q f asked h = All-weaker (λ (one : Asked). P one.came) (λ (one : Asked). Q one.came) (λ one k. f one.came k) asked h
 
-each_comes : (P Q : Came → Type 0) (next : Came → Came) → ((came : Came) → P came → Q (next came)) → (asked : List Asked) → Each P asked → Each Q (map (comes_to next) asked)
+each_comes : (P Q : RequestState → Type 0) (next : RequestState → RequestState) → ((came : RequestState) → P came → Q (next came)) → (asked : List Asked) → Each P asked → Each Q (map (comes_to next) asked)
 each_comes P Q next f asked h = All-map (λ (one : Asked). Q one.came) (comes_to next) asked (All-weaker (λ (one : Asked). P one.came) (λ (one : Asked). Q (next one.came)) (λ one k. f one.came k) asked h)
 
-each_both : (P Q : Came → Type 0) (asked : List Asked) → Each P asked → Each Q asked → Each (λ came. P came × Q came) asked
+each_both : (P Q : RequestState → Type 0) (asked : List Asked) → Each P asked → Each Q asked → Each (λ came. P came × Q came) asked
 each_both P Q [] h k = All-nil (λ (one : Asked). P one.came × Q one.came)
 each_both P Q (one ∷ asked) h k = All-cons (λ (one : Asked). P one.came × Q one.came) one asked (All-head (λ (one : Asked). P one.came) one asked h, All-head (λ (one : Asked). Q one.came) one asked k)
     (each_both P Q asked (All-tail (λ (one : Asked). P one.came) one asked h) (All-tail (λ (one : Asked). Q one.came) one asked k))
 
-opened_of : (ops : List OpId) (came : Came) → Standing ops came → OpenAmong ops came
+opened_of : (ops : List OpId) (came : RequestState) → Standing ops came → OpenAmong ops came
 opened_of ops Heard h = h
 opened_of ops (Refused words) h = tt
 opened_of ops (Opened x) h = h
 opened_of ops (Ended x answer) h = tt
 
-out_of : (ops : List OpId) (came : Came) → Standing ops came → EndedOut ops came
+out_of : (ops : List OpId) (came : RequestState) → Standing ops came → EndedOut ops came
 out_of ops Heard h = tt
 out_of ops (Refused words) h = tt
 out_of ops (Opened x) h = tt
 out_of ops (Ended x answer) h = h
 
-out_more : (fates : List Fate) (came : Came) → EndedOut (map op_in fates) came → EndedOut (flat_map staying fates) came
+out_more : (fates : List Fate) (came : RequestState) → EndedOut (map op_in fates) came → EndedOut (flat_map staying fates) came
 out_more fates Heard h = tt
 out_more fates (Refused words) h = tt
 out_more fates (Opened x) h = tt
@@ -107,7 +107,7 @@ among_all P (op ∷ ops) x h k = by (same_op op x) refl k (λ rest. among_all P 
 
 -- ---- behind the fates of a step
 
-passed : (fates : List Fate) → AreApart (map op_in fates) → (came : Came) → OpenAmong (map op_in fates) came × EndedOut (flat_map staying fates) came → Standing (flat_map staying fates) (passes fates came)
+passed : (fates : List Fate) → AreApart (map op_in fates) → (came : RequestState) → OpenAmong (map op_in fates) came × EndedOut (flat_map staying fates) came → Standing (flat_map staying fates) (passes fates came)
 passed fates apart Heard h = absurd h.0
 passed fates apart (Refused words) h = subst (Standing (flat_map staying fates)) (sym (passes_refused fates words)) tt
 passed fates apart (Ended x answer) h = subst (Standing (flat_map staying fates)) (sym (passes_ended fates x answer)) h.1
@@ -117,7 +117,7 @@ passed fates apart (Opened x) h = subst (Standing (flat_map staying fates)) (sym
     by None e = e
     by (Some answer) e = e
 
-passed_past : (n : ℕ) (fates : List Fate) → All (IsWithin n) (map op_in fates) → (came : Came) → OpenAmong (map op_in fates) came × Past n came → Past n (passes fates came)
+passed_past : (n : ℕ) (fates : List Fate) → All (IsWithin n) (map op_in fates) → (came : RequestState) → OpenAmong (map op_in fates) came × Past n came → Past n (passes fates came)
 passed_past n fates within Heard h = absurd h.0
 passed_past n fates within (Refused words) h = subst (Past n) (sym (passes_refused fates words)) tt
 passed_past n fates within (Ended x answer) h = subst (Past n) (sym (passes_ended fates x answer)) h.1
@@ -140,7 +140,7 @@ still_waits fates apart (one ∷ asked) h =
     after : List Asked
     after = map (comes_to (passes fates)) asked
 
-    by : (client token : ℕ) (came : Came) → OpenAmong (map op_in fates) came → waits after ≡ filter stay (waits asked)
+    by : (client token : ℕ) (came : RequestState) → OpenAmong (map op_in fates) came → waits after ≡ filter stay (waits asked)
         → cons_option (waits_by client token (passes fates came)) (waits after) ≡ filter stay (cons_option (waits_by client token came) (waits asked))
     by client token Heard k rest = absurd k
     by client token (Refused words) k rest = ap (λ came. cons_option (waits_by client token came) (waits after)) (passes_refused fates words) ∙ rest
@@ -455,7 +455,7 @@ module _ (c : Cluster) (me : ℕ) (wish : List ℕ → Wish) where
           before_it : List Asked
           before_it = map (comes_to (begun_as new)) (asked ++ one_heard ∷ [])
 
-          by : (client token : ℕ) (came : Came) → Standing open_ids came → before_it ≡ asked ++ one_opened ∷ []
+          by : (client token : ℕ) (came : RequestState) → Standing open_ids came → before_it ≡ asked ++ one_opened ∷ []
               → ((record { client = client; token = token; came = begun_as new came }) ∷ before_it) ≡ ((record { client = client; token = token; came = came }) ∷ (asked ++ one_opened ∷ []))
           by client token Heard k rest = absurd k
           by client token (Refused words) k rest = ap (λ those. (record { client = client; token = token; came = Refused words }) ∷ those) rest
@@ -510,7 +510,7 @@ module _ (c : Cluster) (me : ℕ) (wish : List ℕ → Wish) where
       waits_below (one ∷ asked) k =
           by one.client one.token one.came (All-head (λ (one : Asked). Standing open_ids one.came) one asked k) (waits_below asked (All-tail (λ (one : Asked). Standing open_ids one.came) one asked k))
         where
-          by : (client token : ℕ) (came : Came) → Standing open_ids came → All (IsBelow new.number) (map op_awaited (waits asked)) → All (IsBelow new.number) (map op_awaited (cons_option (waits_by client token came) (waits asked)))
+          by : (client token : ℕ) (came : RequestState) → Standing open_ids came → All (IsBelow new.number) (map op_awaited (waits asked)) → All (IsBelow new.number) (map op_awaited (cons_option (waits_by client token came) (waits asked)))
           by client token Heard k rest = absurd k
           by client token (Refused words) k rest = rest
           by client token (Opened x) k rest = All-cons (IsBelow new.number) x (map op_awaited (waits asked)) (among_all (IsBelow new.number) open_ids x below_new k) rest
@@ -533,7 +533,7 @@ module _ (c : Cluster) (me : ℕ) (wish : List ℕ → Wish) where
         alone = subst (λ those. AreApart those) (sym (ap (map op_awaited) waits_then ∙ map-append op_awaited (waits asked_now) (one_waits ∷ []))) (push_apart (map op_awaited (waits asked_now)) (waits_below asked_now h.standing) h.alone);
       }
         where
-          more : (came : Came) → Standing open_ids came → OpenAmong (open_ids ++ new ∷ []) came
+          more : (came : RequestState) → Standing open_ids came → OpenAmong (open_ids ++ new ∷ []) came
           more Heard k = k
           more (Refused words) k = tt
           more (Opened x) k = among_more open_ids x k
@@ -556,7 +556,7 @@ module _ (c : Cluster) (me : ℕ) (wish : List ℕ → Wish) where
               (each_weaker (λ came. Standing open_ids came × Past (begun_of now.node.met) came) (EndedOut (open_ids ++ new ∷ [])) outside asked_now
               (each_both (Standing open_ids) (Past (begun_of now.node.met)) asked_now h.standing h.past))))
             where
-              outside : (came : Came) → Standing open_ids came × Past (begun_of now.node.met) came → EndedOut (open_ids ++ new ∷ []) came
+              outside : (came : RequestState) → Standing open_ids came × Past (begun_of now.node.met) came → EndedOut (open_ids ++ new ∷ []) came
               outside Heard k = tt
               outside (Refused words) k = tt
               outside (Opened x) k = tt
@@ -569,7 +569,7 @@ module _ (c : Cluster) (me : ℕ) (wish : List ℕ → Wish) where
           (subst (λ b. All (IsWithin b) (open_ids ++ new ∷ [])) (sym w.begun) (within_with_new s now.node h.below))
           (subst (λ b. Each (Past b) asked_then_new) (sym w.begun) (All-push (λ (one : Asked). Past (begun_of now.node.met + 1) one.came) asked_now one_opened (each_weaker (Past (begun_of now.node.met)) (Past (begun_of now.node.met + 1)) later asked_now h.past) tt))
         where
-          later : (came : Came) → Past (begun_of now.node.met) came → Past (begun_of now.node.met + 1) came
+          later : (came : RequestState) → Past (begun_of now.node.met) came → Past (begun_of now.node.met + 1) came
           later Heard k = tt
           later (Refused words) k = tt
           later (Opened x) k = tt
@@ -657,7 +657,7 @@ module _ (c : Cluster) (me : ℕ) (wish : List ℕ → Wish) (first : Meanings) 
   at_end : Serves c me wish (served c me wish first before turns)
   at_end = serves c me wish first before turns
 
-  stand_at : (node : Node) (came : Came) → Standing (ids node.open_operations) came → Agrees node came
+  stand_at : (node : Node) (came : RequestState) → Standing (ids node.open_operations) came → Agrees node came
   stand_at node Heard k = k
   stand_at node (Refused words) k = tt
   stand_at node (Opened x) k = any_ids c me wish node.open_operations x ∙ k
@@ -679,7 +679,7 @@ module _ (c : Cluster) (me : ℕ) (wish : List ℕ → Wish) (first : Meanings) 
   waits_open node (one ∷ asked) k =
       by one.client one.token one.came (All-head (λ (one : Asked). Agrees node one.came) one asked k) (waits_open node asked (All-tail (λ (one : Asked). Agrees node one.came) one asked k))
     where
-      by : (client token : ℕ) (came : Came) → Agrees node came → All (HasOpen node) (waits asked) → All (HasOpen node) (cons_option (waits_by client token came) (waits asked))
+      by : (client token : ℕ) (came : RequestState) → Agrees node came → All (HasOpen node) (waits asked) → All (HasOpen node) (cons_option (waits_by client token came) (waits asked))
       by client token Heard k rest = absurd k
       by client token (Refused words) k rest = rest
       by client token (Opened x) k rest = All-cons (HasOpen node) (record { op = x; client = client; token = token }) (waits asked) k rest

@@ -19,13 +19,13 @@ use Rattle.mega_promises.specs.Items.{shown}
 use Rattle.mega_promises.specs.NodeRuns.{met_of}
 use Rattle.mega_promises.specs.Runs.{names_nothing, setting}
 use Rattle.mega_promises.specs.Served.{Asks, Got, Line, Noted, OfClient, OfNode, Peer, Put, Refuses, Served, Turn, Waiting, Wish, answer_line, answered_line, given as receives, noted, put_out, received, recorded, reply_line, served, served_start, ticked, turned, wished, with_lines}
-use Rattle.mega_reply_laws.specs.Requests.{AreToldAtOnce, Asked, Came, Ended, Heard, Opened, Refused, TellsBy, TellsNext, asked_by, asked_in, wished_for}
+use Rattle.mega_reply_laws.specs.Requests.{AreToldAtOnce, Asked, RequestState, Ended, Heard, Opened, Refused, TellsBy, TellsNext, asked_by, asked_in, wished_for}
 
 module _ (c : Cluster) (me : ℕ) (wish : List ℕ → Wish) where
   abbrev At : List Line → Type 0
   At lines = AreToldAtOnce me wish lines
 
-  further : (client token : ℕ) (came : Came) (xs ys : List Line) → TellsBy me client token came xs → TellsBy me client token came (xs ++ ys)
+  further : (client token : ℕ) (came : RequestState) (xs ys : List Line) → TellsBy me client token came xs → TellsBy me client token came (xs ++ ys)
   further client token Heard xs ys h = tt
   further client token (Refused words) [] ys h = absurd h
   further client token (Refused words) (x ∷ xs) ys h = h

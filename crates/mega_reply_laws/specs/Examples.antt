@@ -6,7 +6,7 @@ use Rattle.mega_promises.specs.of_transcript.Answers.{answer_words}
 use Rattle.mega_promises.specs.of_rules.Examples.{schema}
 use Rattle.mega_promises.specs.Served.{Line, OfClient, Served, Turn, reply_line, served}
 use Rattle.mega_promises.specs.Worked.{asked_by, op, short_log, wish_put}
-use Rattle.mega_reply_laws.specs.Requests.{Asked, Came, Ended, Opened}
+use Rattle.mega_reply_laws.specs.Requests.{Asked, RequestState, Ended, Opened}
 
 -- a turn that brings a request of the first client, under token 7
 abbrev pub asks : ℕ → Turn
@@ -15,7 +15,7 @@ asks clock = record { handlers = []; clock = clock; datagram = Some (OfClient 1,
 abbrev pub run : List Turn → Served
 run turns = served short_log 1 wish_put [] [] turns
 
-abbrev pub asked : Came → Asked
+abbrev pub asked : RequestState → Asked
 asked came = record { client = 1; token = 7; came = came }
 
 -- the first operation of the node's first start, and the second

@@ -18,20 +18,20 @@ use Rattle.mega_promises.specs.Runs.{names_nothing}
 use Rattle.mega_promises.specs.Served.{Asks, Got, Line, Noted, OfClient, OfNode, Peer, Put, Refuses, Served, Waiting, Wish, is_open_at, reply_line}
 
 -- what came of a request: its operation is to begin next, it was refused in these words, its operation is open, or that was answered
-pub data Came : Type 0 where
-  Heard : Came
-  Refused : (words : List (List ℕ)) → Came
-  Opened : (op : OpId) → Came
-  Ended : (op : OpId) (answer : Answer) → Came
+pub data RequestState : Type 0 where
+  Heard : RequestState
+  Refused : (words : List (List ℕ)) → RequestState
+  Opened : (op : OpId) → RequestState
+  Ended : (op : OpId) (answer : Answer) → RequestState
 
 -- a request of a client, under its token
 pub record Asked : Type 0 where
   pub client : ℕ
   pub token : ℕ
-  pub came : Came
+  pub came : RequestState
 
 -- a datagram brings a request where it comes from a client, and is for this node
-abbrev pub wished_for : Wish → Came
+abbrev pub wished_for : Wish → RequestState
 wished_for (Refuses reason) = Refused (codes "refused" ∷ codes "schedule" ∷ decimal reason ∷ [])
 wished_for (Asks request text) = if names_nothing request then Refused (codes "refused" ∷ codes "world" ∷ decimal 7 ∷ []) else Heard
 
@@ -45,19 +45,19 @@ asked_by me wish (OfClient client) (Err at) = []
 asked_by me wish (OfClient client) (Ok m) = if m.from == 0 && m.to == me then asked_in wish client m.body else []
 
 -- an operation begins for the request before it, and its answer ends it
-abbrev pub begun_as : OpId → Came → Came
+abbrev pub begun_as : OpId → RequestState → RequestState
 begun_as op Heard = Opened op
 begun_as op (Refused words) = Refused words
 begun_as op (Opened other) = Opened other
 begun_as op (Ended other answer) = Ended other answer
 
-abbrev pub ended_as : OpId → Answer → Came → Came
+abbrev pub ended_as : OpId → Answer → RequestState → RequestState
 ended_as op answer Heard = Heard
 ended_as op answer (Refused words) = Refused words
 ended_as op answer (Opened other) = if same_op other op then Ended other answer else Opened other
 ended_as op answer (Ended other given) = Ended other given
 
-abbrev pub comes_to : (Came → Came) → Asked → Asked
+abbrev pub comes_to : (RequestState → RequestState) → Asked → Asked
 comes_to next one = record { client = one.client; token = one.token; came = next one.came }
 
 abbrev pub behind_item : List Asked → Item → List Asked
@@ -75,7 +75,7 @@ abbrev pub requests : ℕ → (List ℕ → Wish) → List Line → List Asked
 requests me wish lines = fold (behind_line me wish) [] lines
 
 -- the reply that a request gets: one where it was refused or its operation was answered, and else none
-abbrev pub reply_by : Schema → ℕ → ℕ → ℕ → Came → Option Line
+abbrev pub reply_by : Schema → ℕ → ℕ → ℕ → RequestState → Option Line
 reply_by schema me client token Heard = None
 reply_by schema me client token (Refused words) = Some (reply_line me client token words)
 reply_by schema me client token (Opened op) = None
@@ -95,7 +95,7 @@ abbrev pub replies : List Line → List Line
 replies lines = filter is_reply lines
 
 -- what came of a request agrees with its node: it was refused, or its operation is open just until it is answered
-abbrev pub Agrees : Node → Came → Type 0
+abbrev pub Agrees : Node → RequestState → Type 0
 Agrees node Heard = ⊥
 Agrees node (Refused words) = Unit {0}
 Agrees node (Opened op) = is_open_at node op ≡ true
@@ -105,7 +105,7 @@ abbrev pub IsAsItStands : Node → Asked → Type 0
 IsAsItStands node one = Agrees node one.came
 
 -- the requests whose operations are open, which wait for their answers
-abbrev pub waits_by : ℕ → ℕ → Came → Option Waiting
+abbrev pub waits_by : ℕ → ℕ → RequestState → Option Waiting
 waits_by client token Heard = None
 waits_by client token (Refused words) = None
 waits_by client token (Opened op) = Some (record { op = op; client = client; token = token })
@@ -128,7 +128,7 @@ abbrev pub IsFirst : Line → List Line → Type 0
 IsFirst line [] = ⊥
 IsFirst line (next ∷ behind) = next ≡ line
 
-abbrev pub TellsBy : ℕ → ℕ → ℕ → Came → List Line → Type 0
+abbrev pub TellsBy : ℕ → ℕ → ℕ → RequestState → List Line → Type 0
 TellsBy me client token Heard behind = Unit {0}
 TellsBy me client token (Refused words) behind = IsFirst (reply_line me client token words) behind
 TellsBy me client token (Opened op) behind = Unit {0}
