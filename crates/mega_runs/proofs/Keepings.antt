@@ -106,6 +106,7 @@ latest_among vs lists key row bounded orderly is =
 
 -- ---- what openings find
 module _ {D : Type 0} (moment : D → ℕ) (left_since : D → ℕ → List ℕ → Type 0) where
+
 -- ---- a spill
 pub spilled_or : (marks : Marks) (cs : List Cleaned) (recent : List Version) (lists : List (List Version)) (run : Run) (images : List ℕ → Type 0) (file : List ℕ) → IsSpillOf marks cs recent lists run → HoldsOr images (kept_with run lists) file
     → SpilledOr images marks cs (layered (recent ∷ lists)) file
