@@ -12,13 +12,12 @@ use Rattle.mega_outcome.specs.declared.request.Request.{Request}
 use Rattle.mega_outcome.specs.declared.request.Request.TheVariants.{Txn, Batch, Read, Find, PumpEnter, PumpHandle, Refresh}
 use Rattle.mega_read.specs.declared.reading.Move.{Move}
 use Rattle.mega_rules.specs.Clock.{clock_of}
-use Rattle.mega_rules.specs.Finding.{refreshed_marks}
 use Rattle.mega_rules.specs.Operations.{Now, Reads, Setting}
 use Rattle.mega_rules.specs.Acting.{begins_read, ends, goes_on, read_begun}
 use Rattle.mega_rules.specs.Steps.{Heard, acts_in_turn, begins, find_begins, is_current, local_find_begins, new_operation, read_begins}
 use Rattle.mega_answers.specs.of_node_laws.About.{IsOf}
 use Rattle.mega_answers.specs.of_step_work.Servable.{is_at_once, is_indexed, is_plain}
-use Rattle.mega_answers.specs.Indexing.{by_index, found_by_index, marks_then}
+use Rattle.mega_answers.specs.Indexing.{by_index, found_by_index}
 use Rattle.mega_answers.specs.Showing.{at_once, looks, looks_in}
 
 module _ (s : Setting) (now : Now) (op : OpId) where
@@ -137,13 +136,3 @@ module _ (s : Setting) (now : Now) (op : OpId) where
   stored_stays PumpEnter clock is = cc
   stored_stays PumpHandle clock is = cc
   stored_stays Refresh clock is = refl
-
--- what is no refresh leaves the marks
-pub marks_stay : (now : Now) (request : Request) → is_indexed request ≡ false → marks_then now request ≡ refreshed_marks now.met
-marks_stay now (Txn transaction) is = refl
-marks_stay now (Batch own transactions) is = refl
-marks_stay now (Read request) is = refl
-marks_stay now (Find request) is = refl
-marks_stay now PumpEnter is = refl
-marks_stay now PumpHandle is = refl
-marks_stay now Refresh is = cc

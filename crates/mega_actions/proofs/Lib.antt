@@ -1,4 +1,5 @@
 mod Onward
+mod Leaving
 mod Within
 mod InTurn
 mod Begun

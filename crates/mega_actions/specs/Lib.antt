@@ -1,5 +1,6 @@
 pub mod StandsAt
 pub mod IsAt
+pub mod Leaves
 pub mod Turns
 pub mod Acted
 pub mod Later

@@ -11,7 +11,6 @@ ghost use Rattle.mega_rules.specs.Operations.{Now, Operation as OpenOne, Propose
 ghost use Rattle.mega_rules.specs.Acting.{acts, acts_within, completes_read, finishes, goes_on, keeps, reader_of, reads_on, seeks_on, unless_decided};
 ghost use Rattle.mega_replica.specs.Applying.{applied};
 ghost use Rattle.mega_read.specs.Catching.{seeks};
-ghost use Rattle.mega_replica.specs.Used.{StoreUsed};
 ghost use Rattle.mega_answers.specs.declared.fault.ActFault.TheVariants.{NoMemory as OutOfMemory, Unserved};
 ghost use Rattle.mega_answers.specs.of_voter.Telling.{Tells};
 ghost use Rattle.mega_actions.specs.Acted.{Acted};
@@ -20,6 +19,7 @@ ghost use Rattle.mega_answers.specs.of_step_work.Servable.{is_open, is_pump};
 ghost use Rattle.mega_actions.specs.Later.{later};
 ghost use Rattle.mega_answers.specs.Faults.{failed_by};
 ghost use Rattle.mega_actions.specs.IsAt.{IsAt, setting_of};
+ghost use Rattle.mega_actions.specs.Leaves.{Leaves};
 ghost use Rattle.mega_answers.specs.of_step_work.Actions.{does};
 ghost use Rattle.mega_answers.specs.of_step_work.Reaching.{operation_of};
 ghost use Rattle.mega_answers.specs.of_step_work.Settings.{setting};
@@ -146,12 +146,7 @@ impl<R: Records, V: Versions> Replica<R, V> {
             reached.position ≤ applied (log_of now.met reached.group) (now.stored reached.group) → IsAt V.version h self.old now.met now.stored →
             Acted V.version h self.new work.old work.new now (λ again. finishes (setting_of self.old h) again now (operation_of reached) reached.group reached.reading reached.position) next) }
         ensures asked { IfOk result (λ next. IsNextAsked next reached.kept.request) }
-        ensures handlers { H.meant handlers.new ≡ H.meant handlers.old }
-        ensures used { StoreUsed V.Versions (failed_by result) self.old.rows.rows self.new.rows.rows }
-        ensures members { self.new.members ≡ self.old.members }
-        ensures me { self.new.me ≡ self.old.me }
-        ensures voter { self.new.voter ≡ self.old.voter }
-        ensures indexed { self.new.indexed ≡ self.old.indexed }
+        ensures leaves { Leaves V.Versions (failed_by result) (H.meant handlers.old) (H.meant handlers.new) self.old self.new }
         ensures built { result ≡ Err Unserved → ⊥ }
     {
         let pumped = pumps(
@@ -180,12 +175,7 @@ impl<R: Records, V: Versions> Replica<R, V> {
             reached.position ≤ applied (log_of now.met reached.group) (now.stored reached.group) → IsAt V.version h self.old now.met now.stored →
             Acted V.version h self.new work.old work.new now (λ again. finishes (setting_of self.old h) again now (operation_of reached) reached.group reached.reading reached.position) next) }
         ensures asked { IfOk result (λ next. IsNextAsked next reached.kept.request) }
-        ensures handlers { H.meant handlers.new ≡ H.meant handlers.old }
-        ensures used { StoreUsed V.Versions (failed_by result) self.old.rows.rows self.new.rows.rows }
-        ensures members { self.new.members ≡ self.old.members }
-        ensures me { self.new.me ≡ self.old.me }
-        ensures voter { self.new.voter ≡ self.old.voter }
-        ensures indexed { self.new.indexed ≡ self.old.indexed }
+        ensures leaves { Leaves V.Versions (failed_by result) (H.meant handlers.old) (H.meant handlers.new) self.old self.new }
         ensures unserved { result ≡ Err Unserved → is_open reached.kept.request ≡ false }
     {
         if is_pump(&reached.kept.request) {
@@ -217,12 +207,7 @@ impl<R: Records, V: Versions> Replica<R, V> {
             reached.position ≤ prefix_of now.met reached.group → IsAt V.version h self.old now.met now.stored →
             Acted V.version h self.new work.old work.new now (λ again. finishes (setting_of self.old h) again (completes_read (setting_of self.old h) now reached.group reached.reading reached.position) (operation_of reached) reached.group reached.reading reached.position) next) }
         ensures asked { IfOk result (λ next. IsNextAsked next reached.kept.request) }
-        ensures handlers { H.meant handlers.new ≡ H.meant handlers.old }
-        ensures used { StoreUsed V.Versions (failed_by result) self.old.rows.rows self.new.rows.rows }
-        ensures members { self.new.members ≡ self.old.members }
-        ensures me { self.new.me ≡ self.old.me }
-        ensures voter { self.new.voter ≡ self.old.voter }
-        ensures indexed { self.new.indexed ≡ self.old.indexed }
+        ensures leaves { Leaves V.Versions (failed_by result) (H.meant handlers.old) (H.meant handlers.new) self.old self.new }
         ensures unserved { result ≡ Err Unserved → is_open reached.kept.request ≡ false }
     {
         match reads_through(
@@ -257,12 +242,7 @@ impl<R: Records, V: Versions> Replica<R, V> {
         ensures acted { IfOk result (λ next. (h : Meanings) (now : Now) → V.is_told ≡ true → Means (H.meant handlers.old) h → IsOf kept.request group → IsAt V.version h self.old now.met now.stored →
             Acted V.version h self.new work.old work.new now (λ again. reads_on (setting_of self.old h) again now (whole kept (Reads group reading)) group reading) next) }
         ensures asked { IfOk result (λ next. IsNextAsked next kept.request) }
-        ensures handlers { H.meant handlers.new ≡ H.meant handlers.old }
-        ensures used { StoreUsed V.Versions (failed_by result) self.old.rows.rows self.new.rows.rows }
-        ensures members { self.new.members ≡ self.old.members }
-        ensures me { self.new.me ≡ self.old.me }
-        ensures voter { self.new.voter ≡ self.old.voter }
-        ensures indexed { self.new.indexed ≡ self.old.indexed }
+        ensures leaves { Leaves V.Versions (failed_by result) (H.meant handlers.old) (H.meant handlers.new) self.old self.new }
         ensures unserved { result ≡ Err Unserved → is_open kept.request ≡ false }
     {
         let Some(through) = reading.through_of() else {
@@ -311,12 +291,7 @@ impl<R: Records, V: Versions> Replica<R, V> {
         ensures acted { IfOk result (λ next. (h : Meanings) (now : Now) → V.is_told ≡ true → Means (H.meant handlers.old) h → IsAbout operation → IsAt V.version h self.old now.met now.stored →
             Acted V.version h self.new work.old work.new now (λ again. acts (setting_of self.old h) again now operation) next) }
         ensures asked { IfOk result (λ next. IsNextAsked next operation.request) }
-        ensures handlers { H.meant handlers.new ≡ H.meant handlers.old }
-        ensures used { StoreUsed V.Versions (failed_by result) self.old.rows.rows self.new.rows.rows }
-        ensures members { self.new.members ≡ self.old.members }
-        ensures me { self.new.me ≡ self.old.me }
-        ensures voter { self.new.voter ≡ self.old.voter }
-        ensures indexed { self.new.indexed ≡ self.old.indexed }
+        ensures leaves { Leaves V.Versions (failed_by result) (H.meant handlers.old) (H.meant handlers.new) self.old self.new }
         ensures unserved { result ≡ Err Unserved → is_open operation.request ≡ false }
     {
         if stays(&self.voter, &operation) {
@@ -360,12 +335,7 @@ impl<R: Records, V: Versions> Replica<R, V> {
     ) -> Result<(), ActFault>
         ensures acted { OnOk result ((h : Meanings) (now : Now) → V.is_told ≡ true → Means (H.meant handlers.old) h → IsAbout operation → IsAt V.version h self.old now.met now.stored →
             Acted V.version h self.new work.old work.new now (λ again. acts_within most (setting_of self.old h) now operation) None) }
-        ensures handlers { H.meant handlers.new ≡ H.meant handlers.old }
-        ensures used { StoreUsed V.Versions (failed_by result) self.old.rows.rows self.new.rows.rows }
-        ensures members { self.new.members ≡ self.old.members }
-        ensures me { self.new.me ≡ self.old.me }
-        ensures voter { self.new.voter ≡ self.old.voter }
-        ensures indexed { self.new.indexed ≡ self.old.indexed }
+        ensures leaves { Leaves V.Versions (failed_by result) (H.meant handlers.old) (H.meant handlers.new) self.old self.new }
         ensures unserved { result ≡ Err Unserved → is_open operation.request ≡ false }
     {
         let mut next = operation;
@@ -398,12 +368,7 @@ impl<R: Records, V: Versions> Replica<R, V> {
         ensures work { OnOk result ((h : Meanings) (now : Now) → V.is_told ≡ true → Means (H.meant handlers.old) h → IsAbout operation →
             IsAt V.version h self.old now.met now.stored →
             work.old ≡ work_of now → work.new ≡ work_of (goes_on (setting_of self.old h) now operation)) }
-        ensures handlers { H.meant handlers.new ≡ H.meant handlers.old }
-        ensures used { StoreUsed V.Versions (failed_by result) self.old.rows.rows self.new.rows.rows }
-        ensures members { self.new.members ≡ self.old.members }
-        ensures me { self.new.me ≡ self.old.me }
-        ensures voter { self.new.voter ≡ self.old.voter }
-        ensures indexed { self.new.indexed ≡ self.old.indexed }
+        ensures leaves { Leaves V.Versions (failed_by result) (H.meant handlers.old) (H.meant handlers.new) self.old self.new }
         ensures unserved { result ≡ Err Unserved → is_open operation.request ≡ false }
     {
         match self.acts_once(alloc, handlers, work, operation) {
@@ -427,12 +392,7 @@ impl<R: Records, V: Versions> Replica<R, V> {
         ensures acted { OnOk result ((h : Meanings) (now before : Now) → V.is_told ≡ true → Means (H.meant handlers.old) h → IsAbout operation → Tells self.old.voter.logs.kept before.met →
             IsAt V.version h self.old now.met now.stored →
             Acted V.version h self.new work.old work.new now (λ again. later (setting_of self.old h) before now operation) None) }
-        ensures handlers { H.meant handlers.new ≡ H.meant handlers.old }
-        ensures used { StoreUsed V.Versions (failed_by result) self.old.rows.rows self.new.rows.rows }
-        ensures members { self.new.members ≡ self.old.members }
-        ensures me { self.new.me ≡ self.old.me }
-        ensures voter { self.new.voter ≡ self.old.voter }
-        ensures indexed { self.new.indexed ≡ self.old.indexed }
+        ensures leaves { Leaves V.Versions (failed_by result) (H.meant handlers.old) (H.meant handlers.new) self.old self.new }
         ensures unserved { result ≡ Err Unserved → is_open operation.request ≡ false }
     {
         match self.voter.groups(alloc) {

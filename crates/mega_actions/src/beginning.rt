@@ -8,7 +8,6 @@ ghost use Rattle.mega_rules.specs.Operations.{Now, Operation as Open};
 ghost use Rattle.mega_rules.specs.Acting.{read_begun};
 ghost use Rattle.mega_answers.specs.of_node_laws.About.{IsOf};
 ghost use Rattle.mega_rules.specs.Steps.{begins, new_operation};
-ghost use Rattle.mega_replica.specs.Used.{StoreUsed};
 ghost use Rattle.mega_answers.specs.of_voter.Telling.{Tells};
 ghost use Rattle.mega_answers.specs.declared.fault.ActFault.TheVariants.{Unserved};
 ghost use Rattle.mega_answers.specs.of_step_work.Servable.{is_at_once, is_served, is_indexed, is_plain, is_pump};
@@ -16,6 +15,7 @@ ghost use Rattle.mega_answers.specs.Indexing.{marks_then};
 ghost use Rattle.mega_answers.specs.of_marks.AreMarked.{AreMarked, IsIndexed};
 ghost use Rattle.mega_answers.specs.Faults.{failed_by};
 ghost use Rattle.mega_actions.specs.IsAt.{IsAt, setting_of};
+ghost use Rattle.mega_actions.specs.Leaves.{Leaves, LeavesRest};
 ghost use Rattle.mega_answers.specs.of_step_work.Working.{work_of};
 
 use crate::replica::Replica;
@@ -82,10 +82,7 @@ impl<R: Records, V: Versions> Replica<R, V> {
             IsAt V.version h self.old now.met now.stored → IsIndexed (self.old.members).schema self.old.indexed now.met →
             work.old ≡ work_of now → work.new ≡ work_of (begins (setting_of self.old h) now (new_operation op request (clock_of now.met)))) }
         ensures handlers { H.meant handlers.new ≡ H.meant handlers.old }
-        ensures used { StoreUsed V.Versions (failed_by result) self.old.rows.rows self.new.rows.rows }
-        ensures members { self.new.members ≡ self.old.members }
-        ensures me { self.new.me ≡ self.old.me }
-        ensures voter { self.new.voter ≡ self.old.voter }
+        ensures leaves { LeavesRest V.Versions (failed_by result) self.old self.new }
         ensures indexed { OnOk result ((h : Meanings) (now : Now) → V.is_told ≡ true →
             IsAt V.version h self.old now.met now.stored → IsIndexed (self.old.members).schema self.old.indexed now.met →
             AreMarked (self.old.members).schema self.new.indexed now.met (marks_then now request)) }
@@ -140,12 +137,7 @@ impl<R: Records, V: Versions> Replica<R, V> {
         ensures work { OnOk result ((h : Meanings) (now : Now) → V.is_told ≡ true → Means (H.meant handlers.old) h → is_pump request ≡ true →
             IsAt V.version h self.old now.met now.stored →
             work.old ≡ work_of now → work.new ≡ work_of (begins (setting_of self.old h) now (new_operation op request (clock_of now.met)))) }
-        ensures handlers { H.meant handlers.new ≡ H.meant handlers.old }
-        ensures used { StoreUsed V.Versions (failed_by result) self.old.rows.rows self.new.rows.rows }
-        ensures members { self.new.members ≡ self.old.members }
-        ensures me { self.new.me ≡ self.old.me }
-        ensures voter { self.new.voter ≡ self.old.voter }
-        ensures indexed { self.new.indexed ≡ self.old.indexed }
+        ensures leaves { Leaves V.Versions (failed_by result) (H.meant handlers.old) (H.meant handlers.new) self.old self.new }
         ensures unserved { is_pump request ≡ true → result ≡ Err Unserved → ⊥ }
     {
         let entering = is_entering(&request);
@@ -197,10 +189,7 @@ impl<R: Records, V: Versions> Replica<R, V> {
         ensures work { OnOk result ((h : Meanings) (now : Now) → V.is_told ≡ true → is_indexed request.now ≡ true →
             IsAt V.version h self.old now.met now.stored → IsIndexed (self.old.members).schema self.old.indexed now.met →
             work.old ≡ work_of now → work.new ≡ work_of (begins (setting_of self.old h) now (new_operation op request.now (clock_of now.met)))) }
-        ensures used { StoreUsed V.Versions (failed_by result) self.old.rows.rows self.new.rows.rows }
-        ensures members { self.new.members ≡ self.old.members }
-        ensures me { self.new.me ≡ self.old.me }
-        ensures voter { self.new.voter ≡ self.old.voter }
+        ensures leaves { LeavesRest V.Versions (failed_by result) self.old self.new }
         ensures indexed { OnOk result ((h : Meanings) (now : Now) → V.is_told ≡ true → is_indexed request.now ≡ true →
             IsAt V.version h self.old now.met now.stored → IsIndexed (self.old.members).schema self.old.indexed now.met →
             AreMarked (self.old.members).schema self.new.indexed now.met (marks_then now request.now)) }
@@ -236,10 +225,7 @@ impl<R: Records, V: Versions> Replica<R, V> {
         ensures work { OnOk result ((h : Meanings) (now : Now) → V.is_told ≡ true → is_at_once request.now ≡ true →
             IsAt V.version h self.old now.met now.stored →
             work.old ≡ work_of now → work.new ≡ work_of (begins (setting_of self.old h) now (new_operation op request.now (clock_of now.met)))) }
-        ensures used { StoreUsed V.Versions (failed_by result) self.old.rows.rows self.new.rows.rows }
-        ensures members { self.new.members ≡ self.old.members }
-        ensures me { self.new.me ≡ self.old.me }
-        ensures voter { self.new.voter ≡ self.old.voter }
+        ensures leaves { LeavesRest V.Versions (failed_by result) self.old self.new }
         ensures indexed { self.new.indexed ≡ self.old.indexed }
         ensures unserved { result ≡ Err Unserved → is_at_once request.now ≡ false }
     {
@@ -268,12 +254,7 @@ impl<R: Records, V: Versions> Replica<R, V> {
         ensures work { OnOk result ((h : Meanings) (now : Now) → V.is_told ≡ true → Means (H.meant handlers.old) h → is_at_once request ≡ false →
             IsAt V.version h self.old now.met now.stored →
             work.old ≡ work_of now → work.new ≡ work_of (begins (setting_of self.old h) now (new_operation op request (clock_of now.met)))) }
-        ensures handlers { H.meant handlers.new ≡ H.meant handlers.old }
-        ensures used { StoreUsed V.Versions (failed_by result) self.old.rows.rows self.new.rows.rows }
-        ensures members { self.new.members ≡ self.old.members }
-        ensures me { self.new.me ≡ self.old.me }
-        ensures voter { self.new.voter ≡ self.old.voter }
-        ensures indexed { self.new.indexed ≡ self.old.indexed }
+        ensures leaves { Leaves V.Versions (failed_by result) (H.meant handlers.old) (H.meant handlers.new) self.old self.new }
         ensures unserved { result ≡ Err Unserved → is_plain request ≡ false }
     {
         match self.first_read(alloc, op, &request) {

@@ -5,11 +5,11 @@ ghost use Rattle.mega_meanings.specs.Means.{Means};
 ghost use Rattle.mega_answers.specs.of_node_laws.About.{IsAbout};
 ghost use Rattle.mega_rules.specs.Operations.{Now};
 ghost use Rattle.mega_rules.specs.Steps.{acts_in_turn, all_act, ticked};
-ghost use Rattle.mega_replica.specs.Used.{StoreUsed};
 ghost use Rattle.mega_answers.specs.declared.fault.ActFault.TheVariants.{Unserved};
 ghost use Rattle.mega_answers.specs.of_step_work.Servable.{is_open};
 ghost use Rattle.mega_answers.specs.Faults.{failed_by};
 ghost use Rattle.mega_actions.specs.IsAt.{IsAt, setting_of};
+ghost use Rattle.mega_actions.specs.Leaves.{Leaves};
 ghost use Rattle.mega_actions.specs.Turns.{IsServable, IsServableHeard, IsHeardAbout};
 ghost use Rattle.mega_answers.specs.of_step_work.Working.{work_of};
 
@@ -39,12 +39,7 @@ impl<R: Records, V: Versions> Replica<R, V> {
         ensures work { OnOk result ((h : Meanings) (now : Now) → V.is_told ≡ true → Means (H.meant handlers.old) h → IsHeardAbout heard →
             IsAt V.version h self.old now.met now.stored →
             work.old ≡ work_of now → work.new ≡ work_of (acts_in_turn (setting_of self.old h) now heard)) }
-        ensures handlers { H.meant handlers.new ≡ H.meant handlers.old }
-        ensures used { StoreUsed V.Versions (failed_by result) self.old.rows.rows self.new.rows.rows }
-        ensures members { self.new.members ≡ self.old.members }
-        ensures me { self.new.me ≡ self.old.me }
-        ensures voter { self.new.voter ≡ self.old.voter }
-        ensures indexed { self.new.indexed ≡ self.old.indexed }
+        ensures leaves { Leaves V.Versions (failed_by result) (H.meant handlers.old) (H.meant handlers.new) self.old self.new }
         ensures unserved { result ≡ Err Unserved → is_open heard.operation.request ≡ false }
     {
         let Heard { operation, sends } = heard;
@@ -76,12 +71,7 @@ impl<R: Records, V: Versions> Replica<R, V> {
         ensures work { OnOk result ((h : Meanings) (now : Now) → V.is_told ≡ true → Means (H.meant handlers.old) h → All IsHeardAbout heard →
             IsAt V.version h self.old now.met now.stored →
             work.old ≡ work_of now → work.new ≡ work_of (all_act (setting_of self.old h) now heard)) }
-        ensures handlers { H.meant handlers.new ≡ H.meant handlers.old }
-        ensures used { StoreUsed V.Versions (failed_by result) self.old.rows.rows self.new.rows.rows }
-        ensures members { self.new.members ≡ self.old.members }
-        ensures me { self.new.me ≡ self.old.me }
-        ensures voter { self.new.voter ≡ self.old.voter }
-        ensures indexed { self.new.indexed ≡ self.old.indexed }
+        ensures leaves { Leaves V.Versions (failed_by result) (H.meant handlers.old) (H.meant handlers.new) self.old self.new }
         ensures unserved { result ≡ Err Unserved → All IsServableHeard heard → ⊥ }
     {
         for one in heard.into_vec() {
@@ -107,12 +97,7 @@ impl<R: Records, V: Versions> Replica<R, V> {
         ensures work { OnOk result ((h : Meanings) (now : Now) → V.is_told ≡ true → Means (H.meant handlers.old) h → IsAbout operation →
             IsAt V.version h self.old now.met now.stored →
             work.old ≡ work_of now → work.new ≡ work_of (ticked (setting_of self.old h) clock now operation)) }
-        ensures handlers { H.meant handlers.new ≡ H.meant handlers.old }
-        ensures used { StoreUsed V.Versions (failed_by result) self.old.rows.rows self.new.rows.rows }
-        ensures members { self.new.members ≡ self.old.members }
-        ensures me { self.new.me ≡ self.old.me }
-        ensures voter { self.new.voter ≡ self.old.voter }
-        ensures indexed { self.new.indexed ≡ self.old.indexed }
+        ensures leaves { Leaves V.Versions (failed_by result) (H.meant handlers.old) (H.meant handlers.new) self.old self.new }
         ensures unserved { result ≡ Err Unserved → is_open operation.request ≡ false }
     {
         if operation.is_out(&self.members, clock) {
@@ -147,12 +132,7 @@ impl<R: Records, V: Versions> Replica<R, V> {
         ensures work { OnOk result ((h : Meanings) (now : Now) → V.is_told ≡ true → Means (H.meant handlers.old) h → All IsAbout operations →
             IsAt V.version h self.old now.met now.stored →
             work.old ≡ work_of now → work.new ≡ work_of (fold (ticked (setting_of self.old h) clock) now operations)) }
-        ensures handlers { H.meant handlers.new ≡ H.meant handlers.old }
-        ensures used { StoreUsed V.Versions (failed_by result) self.old.rows.rows self.new.rows.rows }
-        ensures members { self.new.members ≡ self.old.members }
-        ensures me { self.new.me ≡ self.old.me }
-        ensures voter { self.new.voter ≡ self.old.voter }
-        ensures indexed { self.new.indexed ≡ self.old.indexed }
+        ensures leaves { Leaves V.Versions (failed_by result) (H.meant handlers.old) (H.meant handlers.new) self.old self.new }
         ensures unserved { result ≡ Err Unserved → All IsServable operations → ⊥ }
     {
         for operation in operations.into_vec() {

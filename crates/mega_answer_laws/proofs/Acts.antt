@@ -21,16 +21,13 @@ use Rattle.mega_wire.specs.declared.message.Message.{Message}
 use Rattle.mega_cause_laws.specs.of_run_laws.Justified.{Each}
 use Rattle.mega_cause_laws.proofs.of_run_laws.Turns.{IsRising}
 use Rattle.mega_answer_laws.proofs.Reasons.{IsSound, SoundReads}
-use Rattle.mega_answer_laws.proofs.Walk.{Acting, Turn, acting_sends, acting_up, begins_read_it, ends_at, goes_on_it, picks_group_it, picks_message_it}
+use Rattle.mega_answer_laws.proofs.Walk.{Acting, acting_sends, acting_up, begins_read_it, ends_at, goes_on_it, picks_group_it, picks_message_it}
 
 -- ---- acting in turn
 
 module _ (s : Setting) (base : List Met) (first : GroupId → ℕ) (Of : OpId → Request → ℕ → Type 0) (Spoke : OpId → Type 0) (Other : OpId → Request → ℕ → Answer → Type 0) where
   abbrev ActingAt : ℕ → Now → Type 0
   ActingAt k now = Acting s base first Of Spoke Other k now
-
-  abbrev TurnAt : Now → Operation → Type 0
-  TurnAt now o = Turn s base first Of Spoke Other now o
 
   -- an operation spoke where it proposes
   abbrev pub Spoken : OpId → Phase → Type 0

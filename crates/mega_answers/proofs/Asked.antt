@@ -1,6 +1,5 @@
 -- Requests that are answered by the rows of their group.
-use Rattle.std.proofs.Common.{◌≡◌, ◌∙◌, ℕ, true, false, Bool, List, Option, Some, None, refl, ap, sym}
-use Rattle.std.specs.Prelude.{is_some, ◌||◌}
+use Rattle.std.proofs.Common.{◌≡◌, ◌∙◌, ℕ, List, Option, Some, None, refl, ap, sym}
 use Rattle.mega_base.specs.declared.names.GroupId.{GroupId}
 use Rattle.mega_outcome.specs.declared.answer.Answer.{Answer}
 use Rattle.mega_outcome.specs.declared.request.FindRequest.{FindRequest}
@@ -18,7 +17,7 @@ use Rattle.mega_rules.specs.Operations.{Now, Setting}
 use Rattle.mega_rules.specs.Steps.{applied_position, snapshot_listed, snapshot_rows, stored_listed, stored_rows}
 use Rattle.mega_outcome.specs.declared.answer.Mark.{Mark}
 use Rattle.mega_marks.specs.of_node_laws.About.{IsOf}
-use Rattle.mega_step_work.specs.Servable.{group_asked, is_plain, is_proposed}
+use Rattle.mega_step_work.specs.Servable.{group_asked}
 use Rattle.mega_answers.specs.Showing.{looks, place_by, shown}
 
 some_is : {A : Type 0} (a b : A) → Some a ≡ Some b → a ≡ b
@@ -32,13 +31,6 @@ asked_of (Find request) group is = is
 asked_of PumpEnter group is = tt
 asked_of PumpHandle group is = tt
 asked_of Refresh group is = tt
-
-or_true : (a : Bool) → (a || true) ≡ true
-or_true true = refl
-or_true false = refl
-
-pub asked_plain : (request : Request) (group : GroupId) → group_asked request ≡ Some group → is_plain request ≡ true
-asked_plain request group is = ap (λ (asked : Option GroupId). is_proposed request || is_some asked) is ∙ or_true (is_proposed request)
 
 -- what is answered at once, by where the request looks
 pub answered_at_once : (s : Setting) (now : Now) (request : Request) (group : GroupId) (mode : Mode) (applied prefix at : ℕ) (answer : Answer) → applied ≡ applied_position now group → place_by mode applied prefix ≡ Some at

@@ -1,5 +1,5 @@
 -- What an operation does whose read is complete, by what its request comes to.
-use Rattle.std.proofs.Common.{◌≡◌, ◌∙◌, ℕ, Bool, true, false, if◌then◌else◌, List, Option, Some, None, refl, ap}
+use Rattle.std.proofs.Common.{◌≡◌, ◌∙◌, ℕ, Bool, false, if◌then◌else◌, List, Option, Some, None, refl, ap}
 use Rattle.std.specs.Prelude.{nat_le}
 use Rattle.mega_base.specs.declared.names.GroupId.{GroupId}
 use Rattle.mega_base.specs.declared.names.OpId.{OpId}
@@ -18,7 +18,6 @@ use Rattle.mega_rules.specs.Acting.{batch_sealed, ends, finishes, listed_at, row
 use Rattle.mega_marks.specs.of_node_laws.About.{IsOf}
 use Rattle.mega_answers.specs.declared.request_outcome.RequestOutcome.{RequestOutcome}
 use Rattle.mega_answers.specs.declared.request_outcome.RequestOutcome.TheVariants.{Alone, Batched}
-use Rattle.mega_step_work.specs.Servable.{is_proposed}
 use Rattle.mega_answers.specs.Coming.{comes, sealed_by}
 use Rattle.mega_answers.specs.Sees.{Sees}
 use Rattle.mega_answers.specs.Showing.{shown}
@@ -51,17 +50,6 @@ module _ (s : Setting) (again : Now → Operation → Now) (now : Now) (group : 
   answers_by PumpEnter answer is = cc
   answers_by PumpHandle answer is = cc
   answers_by Refresh answer is = cc
-
-  -- a log that is full ends it
-  pub ends_full : (request : Request) → is_proposed request ≡ true → nat_le (s.cluster.limit).0 p ≡ true → finishes s again now (one request) group r p ≡ ends now id (LogFull (record { 0 = p }))
-  ends_full (Txn transaction) built full = ap (λ (t : Bool). if t then ends now id (LogFull (record { 0 = p })) else sealed s now (one (Txn transaction)) group r p (outcome s.cluster.schema transaction (rows_at now group p))) full
-  ends_full (Batch own transactions) built full =
-      ap (λ (t : Bool). if t then ends now id (LogFull (record { 0 = p })) else batch_sealed s now (one (Batch own transactions)) group r p (batch_outcome s.cluster.schema own transactions (rows_at now group p))) full
-  ends_full (Read request) built full = cc
-  ends_full (Find request) built full = cc
-  ends_full PumpEnter built full = cc
-  ends_full PumpHandle built full = cc
-  ends_full Refresh built full = cc
 
   abbrev by : Request → Option RequestOutcome → Now
   by request None = now

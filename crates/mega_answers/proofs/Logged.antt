@@ -27,7 +27,8 @@ use Rattle.mega_marks.specs.of_node_laws.Own.{HasOwnRows}
 use Rattle.mega_view.specs.Shows.{Shows}
 use Rattle.mega_view.proofs.Found.{key_named, stands_key}
 use Rattle.mega_view.proofs.Grouped.{has_group}
-use Rattle.mega_view.proofs.Lists.{after-ascends, after_is, after_writes, ascending, key_is, list_written_is, row_is, same_self, unwritten_rows, unwritten_through, written-ascends}
+use Rattle.mega_index.proofs.KeyLists.{after-ascends, after_is, key_is, list_written_is, same_self, written-ascends}
+use Rattle.mega_replica.proofs.RowLists.{after_writes, ascending, row_is, unwritten_rows, unwritten_through}
 
 -- the writes of the first entries are first among all
 first_writes : (p : ℕ) (log : List Content) → take (length (writes_of (take p log))) (writes_of log) ≡ writes_of (take p log)

@@ -49,10 +49,6 @@ piece_put area place bytes old page room =
       size,
     )
 
--- nothing is put yet, and a further piece joins what was put
-pub put_none : (area : Area) (place : ℕ) (old : List ℕ) → Puts area place [] old old
-put_none area place old = record { longer = omega arith; there = λ j less. absurd (omega (arith, less)); same = λ i less free. refl }
-
 pub put_more : (area : Area) (place n : ℕ) (bytes piece old mid new : List ℕ) → n + length piece ≤ length bytes → ((j : ℕ) → j < length piece → get_or piece j 0 ≡ get_or bytes (n + j) 0) → length new ≡ length mid → Puts area place (take n bytes) old mid → Puts area (place + n) piece mid new → Puts area place (take (n + length piece) bytes) old new
 put_more area place n bytes piece old mid new room reads size first second =
     let front : length (take n bytes) ≡ n = length-take-le n bytes (omega (arith, room)) in

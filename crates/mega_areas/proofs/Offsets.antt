@@ -40,11 +40,6 @@ pub inside : (area : Area) (place pages : ℕ) → place < 4096 * pages → offs
 inside Odd place pages less = let a = (parted place).whole in let b = (parted place).below in omega (arith, a, b, less)
 inside Even place pages less = let a = (parted place).whole in let b = (parted place).below in omega (arith, a, b, less)
 
--- a piece within a page lies in the file
-pub piece_inside : (area : Area) (place n pages : ℕ) → place % 4096 + n ≤ 4096 → 1 ≤ n → place + n ≤ 4096 * pages → offset area place + n ≤ 4096 * (2 * pages + 1)
-piece_inside Odd place n pages fits some room = let a = (parted place).whole in let b = (parted place).below in omega (arith, a, b, fits, some, room)
-piece_inside Even place n pages fits some room = let a = (parted place).whole in let b = (parted place).below in omega (arith, a, b, fits, some, room)
-
 -- the places of a page follow its first one
 pub page_offset : (area : Area) (page place : ℕ) → 4096 * page ≤ place → place < 4096 * page + 4096 → offset area place ≡ 4096 * (2 * page + first_page area) + (place - 4096 * page)
 page_offset area page place le less = let p = parted place in let a = p.whole in let b = p.below in omega (arith, a, b, le, less)

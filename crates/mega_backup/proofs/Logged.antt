@@ -41,6 +41,3 @@ text_some decided most n entry lt is = part decided most n lt ∙ ap (λ (found 
 
 pub text_none : (decided : ℕ → Option Content) (most n : ℕ) → n < most → decided (n + 1) ≡ None → text_from decided most n ≡ []
 text_none decided most n lt is = part decided most n lt ∙ ap (λ (found : Option Content). entries_text (then_more found (entries_from decided (most - (n + 1)) (n + 1 + 1)))) is
-
-pub text_end : (decided : ℕ → Option Content) (most n : ℕ) → most ≤ n → text_from decided most n ≡ []
-text_end decided most n le = ap (λ (m : ℕ). entries_text (entries_from decided m (n + 1))) (let same : most - n ≡ 0 = omega (arith, le) in same)

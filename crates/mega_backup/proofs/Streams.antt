@@ -1,7 +1,7 @@
 -- How far a text was written, piece by piece.
 use Rattle.std.proofs.Common.{◌≡◌, ℕ, zero, suc, ◌+◌, ◌≤◌, min, List, [], ◌∷◌, ◌++◌, length, take, refl, sym, ap, ◌∙◌, subst, arith, append_assoc, append-nil, Option}
 use Rattle.std.specs.Io.KnownBytes.{Appends}
-use Rattle.std.proofs.KnownBytes.{Appends-nil, Appends-trans}
+use Rattle.std.proofs.KnownBytes.{Appends-trans}
 use Rattle.std.proofs.Math.Seq.{take-append-add}
 use Rattle.std.proofs.lemmas.List.{take-append-le}
 use Rattle.mega_io.specs.Pieces.{AppendsFront}
@@ -16,11 +16,6 @@ shorter {A} (suc k) [] = nothing (min (suc k) 0)
     nothing zero = refl
     nothing (suc n) = refl
 shorter (suc k) (x ∷ xs) = let least : min (suc k) (suc (length xs)) ≡ suc (min k (length xs)) = omega arith in ap (λ n. take n (x ∷ xs)) least ∙ ap (λ ys. x ∷ ys) (shorter k xs)
-
--- nothing was written
-pub nothing_written : (a : Option (List ℕ)) (text : List ℕ) → AppendsFront a a text
-nothing_written a [] = (0, Appends-nil a)
-nothing_written a (b ∷ text) = (0, Appends-nil a)
 
 -- a piece more was written, or a front of it, or nothing
 pub wrote_on : (a b c : Option (List ℕ)) (whole piece rest : List ℕ) → Written a b whole (piece ++ rest) → Appends b c piece → Written a c whole rest

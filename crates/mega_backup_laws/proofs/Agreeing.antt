@@ -15,7 +15,8 @@ use Rattle.mega_transcript.specs.declared.item.Item.{Item}
 use Rattle.mega_promises.specs.Promises.{log_of}
 use Rattle.mega_tape_laws.specs.Writes.{LawfulWrites, Usage}
 use Rattle.mega_tape_laws.specs.Indexed.{AllPutValues, AskValues, IsDeclared, PutValues}
-use Rattle.mega_tape_laws.proofs.Placed.{Ascends, after-ascends, after_is}
+use Rattle.mega_index.proofs.Ordered.{Ascends}
+use Rattle.mega_index.proofs.KeyLists.{after-ascends, after_is}
 use Rattle.mega_tape_laws.proofs.RowKeys.{Standing, OfTable, of_table}
 use Rattle.mega_tape_laws.proofs.IndexKept.{IndexExact, Owner}
 use Rattle.mega_tape_laws.proofs.LogSteps.{log_keeps}

@@ -16,7 +16,9 @@ use Rattle.mega_outcome.specs.declared.transaction.Transaction.{Transaction}
 use Rattle.mega_outcome.specs.Changes.{replaced}
 use Rattle.mega_tape_laws.specs.Places.{In}
 use Rattle.mega_tape_laws.specs.Indexed.{IsDeclared}
-use Rattle.mega_tape_laws.proofs.Placed.{same_self, same_or_not, not_key, key_apart, under, Below, Ascends, in_under, under_in}
+use Rattle.mega_index.proofs.Ordered.{Below, Ascends}
+use Rattle.mega_index.proofs.KeyLists.{same_self, same_or_not, not_key, key_apart, under}
+use Rattle.mega_tape_laws.proofs.Placed.{in_under, under_in}
 use Rattle.mega_tape_laws.proofs.RowKeys.{Standing, stands}
 use Rattle.mega_tape_laws.proofs.RootKeys.{no_entry}
 use Rattle.mega_tape_laws.proofs.IndexKept.{IndexExact, key_of_table, turned_leaves, replaced_kept}

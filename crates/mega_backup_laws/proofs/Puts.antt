@@ -19,7 +19,7 @@ use Rattle.mega_outcome.specs.declared.answer.Turn.TheVariants.{OtherGroup, BadR
 use Rattle.mega_outcome.specs.Places.{◌>>=◌, spelled, placed, key_in, key_in_table}
 use Rattle.mega_outcome.specs.Changes.{replaced, put_in}
 use Rattle.mega_outcome.specs.Outcome.{longest, outcome, unless_large}
-use Rattle.mega_tape_laws.proofs.Placed.{same_self}
+use Rattle.mega_index.proofs.KeyLists.{same_self}
 use Rattle.mega_tape_laws.proofs.RowKeys.{Standing, IsKeyOf, group_of_key, of_ok, group_is}
 use Rattle.mega_backup.specs.Restoring.{put_of, is_large, is_large_turn, done_writes, after_one}
 

@@ -102,9 +102,6 @@ enough : 262149 ≤ most_bytes
 unfolding most_bytes
 enough = omega arith
 
-pub taken_few : (taken : ℕ) → taken ≤ 262149 → taken ≤ most_bytes
-taken_few taken few = let more = enough in omega (arith, few, more)
-
 pub unmarked_broken : (first : Option (List ℕ)) (c : Cluster) (text : List ℕ) → read_of 1 text ≡ Ok c → HasNoMark first text → IfKnown first (λ input. (at : ℕ) → restore_of at input ≡ ending_of (Header 9))
 unmarked_broken None c text reads none = tt
 unmarked_broken (Some first) c text reads none = λ at.

@@ -110,28 +110,3 @@ none_reads most (Some old) (Some new) line reads none = last_within most old new
 
 abbrev pub Gathers : ℕ → Option (List ℕ) → List (List ℕ) → ℕ → Option (List ℕ) → Type 0
 Gathers most first lines room left = Passes first left (λ first left. lines_within most first ≡ lines ++ lines_within room left)
-
-pub gathers_none : (most room : ℕ) (first : Option (List ℕ)) (lines : List (List ℕ)) → lines ≡ [] → room ≡ most → Gathers most first lines room first
-gathers_none most room None lines none same = tt
-gathers_none most room (Some first) lines none same = ap (λ n. lines_within n first) (sym same) ∙ ap (λ ls. ls ++ lines_within room first) (sym none)
-
-pub gathers_more : (most room rest : ℕ) (first old new : Option (List ℕ)) (lines more : List (List ℕ)) (line : List ℕ) → Gathers most first lines room old
-    → Passes old new (λ old new. lines_within room old ≡ line ∷ lines_within (room - (length line + 1)) new) → more ≡ lines ++ line ∷ [] → rest ≡ room - (length line + 1) → Gathers most first more rest new
-gathers_more most room rest None old new lines more line gathers reads adds left = tt
-gathers_more most room rest (Some first) None new lines more line gathers reads adds left = absurd gathers
-gathers_more most room rest (Some first) (Some old) None lines more line gathers reads adds left = absurd reads
-gathers_more most room rest (Some first) (Some old) (Some new) lines more line gathers reads adds left =
-    gathers ∙ ap (λ ls. lines ++ ls) reads ∙ sym (append_assoc lines (line ∷ []) (lines_within (room - (length line + 1)) new))
-    ∙ ap (λ ls. ls ++ lines_within (room - (length line + 1)) new) (sym adds) ∙ ap (λ n. more ++ lines_within n new) (sym left)
-
-pub gathers_last : (most room : ℕ) (first old : Option (List ℕ)) (lines more : List (List ℕ)) (line : List ℕ) → Gathers most first lines room old
-    → IfKnown old (λ old. lines_within room old ≡ line ∷ []) → more ≡ lines ++ line ∷ [] → IfKnown first (λ first. lines_within most first ≡ more)
-gathers_last most room None old lines more line gathers reads adds = tt
-gathers_last most room (Some first) None lines more line gathers reads adds = absurd gathers
-gathers_last most room (Some first) (Some old) lines more line gathers reads adds = gathers ∙ ap (λ ls. lines ++ ls) reads ∙ sym adds
-
-pub gathers_all : (most room : ℕ) (first old : Option (List ℕ)) (lines : List (List ℕ)) → Gathers most first lines room old
-    → IfKnown old (λ old. lines_within room old ≡ []) → IfKnown first (λ first. lines_within most first ≡ lines)
-gathers_all most room None old lines gathers reads = tt
-gathers_all most room (Some first) None lines gathers reads = absurd gathers
-gathers_all most room (Some first) (Some old) lines gathers reads = gathers ∙ ap (λ ls. lines ++ ls) reads ∙ append-nil lines

@@ -53,7 +53,3 @@ fails read front m n p q r NoMemory whole e h k = tt
 pub ready : {A : Type 0} (read : Place → Read A) (front : List A) (m : ℕ) (p : Place) (whole : Read (List A)) → m ≡ 0
     → with_front front (items_at read m p) ≡ whole → whole ≡ Ok (front, p)
 ready read front m p whole e k = sym k ∙ (ap (λ i. with_front front (items_at read i p)) e ∙ is_done read front p)
-
-pub begins_any : {A : Type 0} (r : Read (List A)) → with_front [] r ≡ r
-begins_any (Ok xs) = refl
-begins_any (Err at) = refl

@@ -1,7 +1,7 @@
 -- Two lists that are compared from a place on: where they agree so far, what is left decides.
-use Rattle.std.proofs.Common.{◌≡◌, ℕ, zero, suc, ◌+◌, ◌<◌, ◌≤◌, List, [], ◌∷◌, length, get_or, drop, length-drop, refl, sym, ◌∙◌, ap, arith, min}
+use Rattle.std.proofs.Common.{◌≡◌, ℕ, zero, suc, ◌+◌, ◌<◌, ◌≤◌, true, List, [], ◌∷◌, ◌++◌, length, get_or, take, drop, take-append-drop, length-drop, refl, sym, ◌∙◌, ap, arith, min, nat_eq}
 use Rattle.std.specs.Cmp.{ranked}
-use Rattle.std.specs.Cmp.Lexicographic.{slice_cmp}
+use Rattle.std.specs.Cmp.Lexicographic.{slice_cmp, pointwise, bytes_decides}
 use Rattle.std.specs.declared.cmp.Ordering.{Ordering}
 use Rattle.std.specs.declared.cmp.Ordering.TheVariants.{Less, Equal, Greater}
 use Rattle.std.specs.Ordering.{nat_cmp, ordering_then, MatchOrdering}
@@ -46,3 +46,24 @@ ended xs ys i r m h =
     let p = length-drop i xs in
     let q = length-drop i ys in
     by_lengths (drop i xs) (drop i ys) r (omega arith) (shifted (length xs) (length ys) i (length (drop i xs)) (length (drop i ys)) r m (omega arith) (omega arith) (ranked _ _ r h))
+
+alike : (x : ℕ) → nat_cmp x x ≡ Equal
+alike x = by_rank x x (nat_cmp x x) refl
+  where
+    by_rank : (x y : ℕ) (r : Ordering) → r ≡ nat_cmp x x → r ≡ Equal
+    by_rank x y Less e = let l : x < x = ranked x x Less e in absurd (omega arith)
+    by_rank x y Equal e = refl
+    by_rank x y Greater e = let l : x < x = ranked x x Greater e in absurd (omega arith)
+
+-- behind a front that both have the rest decides
+front_alike : (front xs ys : List ℕ) → slice_cmp nat_cmp xs ys ≡ slice_cmp nat_cmp (front ++ xs) (front ++ ys)
+front_alike [] xs ys = refl
+front_alike (x ∷ front) xs ys = front_alike front xs ys ∙ ap (λ r. ordering_then r (slice_cmp nat_cmp (front ++ xs) (front ++ ys))) (sym (alike x))
+
+pub behind_front : (n : ℕ) (xs ys front other behind after : List ℕ) → front ≡ take n xs → other ≡ take n ys → behind ≡ drop n xs → after ≡ drop n ys → pointwise nat_eq front other ≡ true
+    → slice_cmp nat_cmp behind after ≡ slice_cmp nat_cmp xs ys
+behind_front n xs ys front other behind after f o b a same =
+    let is : front ≡ other = (bytes_decides front other).0 same in
+    let left : front ++ behind ≡ xs = (λ i. f i ++ b i) ∙ take-append-drop n xs in
+    let right : front ++ after ≡ ys = (λ i. is i ++ after) ∙ (λ i. o i ++ a i) ∙ take-append-drop n ys in
+    front_alike front behind after ∙ (λ i. slice_cmp nat_cmp (left i) (right i))

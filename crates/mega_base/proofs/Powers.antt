@@ -2,7 +2,6 @@
 use Rattle.std.proofs.Common.{◌≡◌, ℕ, zero, suc, ◌+◌, ◌-◌, ◌*◌, ◌^◌, ◌<◌, ◌≤◌, arith}
 use Rattle.std.proofs.Math.Nat.{pow-suc, pow-le-pow_right}
 use Rattle.mega_base.specs.Digits.{pow_256_pos}
-use Rattle.mega_base.specs.Chars.{pow_64_pos}
 
 pub pow_le : (k m : ℕ) → k ≤ m → 256 ^ k ≤ 256 ^ m
 pow_le k m h = pow-le-pow_right {n = 256} (omega arith) {i = k} {j = m} h
@@ -34,7 +33,3 @@ tail_next count top bits few some small h =
 
 pub tail_small : (count top bits : ℕ) → count ≤ 3 → 0 < count → top < 256 * 64 ^ (3 - count) → bits < 64 → 64 * top + bits < 18446744073709551616
 tail_small count top bits few some small h = omega (arith, tail_next count top bits few some small h, pow_64_le (3 - (count - 1)) 3 (omega arith))
-
--- no top is too great, whatever the first byte
-pub pow_64_some : (k : ℕ) → 1 ≤ 64 ^ k
-pow_64_some k = pow_64_pos k

@@ -7,15 +7,12 @@ use Rattle.mega_base.specs.Faults.{Reads}
 use Rattle.mega_base.specs.declared.values.Cell.{Cell}
 use Rattle.mega_base.specs.declared.fault.FieldFault.{FieldFault}
 use Rattle.mega_base.specs.declared.fault.FieldFault.TheVariants.{Malformed, NoMemory}
-use Rattle.mega_base.proofs.Loops.{with_front, begins_any}
+use Rattle.mega_base.proofs.Loops.{with_front}
 
 -- k cells from low on are still to come, behind those that are there
 pub record Coming (k low : ℕ) (cells : List Cell) (p : Place) (whole : Read (List Cell)) : Type 0 where
   pub read : with_front cells (cells_at k low p) ≡ whole
   pub room : low + k ≤ 256
-
-pub cells_begin : (count : ℕ) (p : Place) → count ≤ 255 → Coming count 0 [] p (cells_at count 0 p)
-cells_begin count p h = record { read = begins_any (cells_at count 0 p); room = omega arith }
 
 goes_on : (k low : ℕ) (front : List Cell) (p : Place) (x : Cell) (q : Place) → cell_in low (255 - k) p ≡ Ok (x, q)
     → with_front front (cells_at (suc k) low p) ≡ with_front (front ++ x ∷ []) (cells_at k (x.property + 1) q)

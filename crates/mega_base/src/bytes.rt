@@ -1,5 +1,5 @@
 //! A string of bytes that contracts see as a list.
-ghost use Rattle.std.specs.Prelude.{◌≡◌, [], ◌++◌, ◌+◌, ◌≤◌, drop, IfOk, OnOk, OnErr, length, nat_eq, refl, Some, take, ◌∷◌, ◌==◌};
+ghost use Rattle.std.specs.Prelude.{◌≡◌, [], ◌++◌, ◌+◌, ◌<◌, ◌≤◌, drop, IfOk, IfSome, OnOk, OnErr, length, nat_eq, refl, Some, take, ◌∷◌, ◌==◌};
 ghost use Rattle.mega_base.specs.Codec.{number_text};
 ghost use Rattle.std.specs.Ordering.{nat_cmp};
 ghost use Rattle.std.specs.Cmp.Lexicographic.{pointwise, slice_cmp, nat_list_eq_equiv, nat_list_cmp_total, texts_ties, texts_po};
@@ -161,8 +161,39 @@ impl Ord for Bytes {
     }
 }
 
-/// How two byte strings compare, byte by byte. Keys are short, so this costs less than the comparison of slices, which looks for long equal fronts first.
+/// What is left of two byte strings behind eight bytes that are the same, where both begin with such.
+fn behind_same<'a>(one: &'a [u8], other: &'a [u8]) -> Option<(&'a [u8], &'a [u8])>
+    ensures { IfSome result (λ left. (slice_cmp nat_cmp left.0.now left.1.now ≡ slice_cmp nat_cmp one.now other.now) × (length left.0.now < length one.now)) }
+{
+    match one.split_first_chunk::<8>() {
+        Some((front, behind)) => match other.split_first_chunk::<8>() {
+            Some((beginning, after)) => {
+                if front == beginning {
+                    return Some((behind, after));
+                }
+                None
+            }
+            None => None,
+        },
+        None => None,
+    }
+}
+
+/// How two byte strings compare. Most keys begin alike, so eight bytes are passed at once where they are the same.
 fn order(a: &[u8], b: &[u8]) -> Ordering
+    ensures { result ≡ slice_cmp nat_cmp a.now b.now }
+{
+    let mut one = a;
+    let mut other = b;
+    while let Some((behind, after)) = behind_same(one, other) {
+        one = behind;
+        other = after;
+    }
+    by_bytes(one, other)
+}
+
+/// How two byte strings compare, byte by byte. Keys are short, so this costs less than the comparison of slices, which looks for long equal fronts first.
+fn by_bytes(a: &[u8], b: &[u8]) -> Ordering
     ensures { result ≡ slice_cmp nat_cmp a.now b.now }
 {
     let both = a.len().min(b.len());

@@ -47,7 +47,7 @@ use Rattle.mega_calm_laws.proofs.Mail.{Among, Mailed, among_left, mailed_plain, 
 use Rattle.mega_calm_laws.proofs.Majorities.{some_pass}
 use Rattle.mega_calm_laws.proofs.Noting.{IsStill, SameLogs, applies_still, logs_then, sends_still, still_onto}
 use Rattle.mega_calm_laws.proofs.Polls.{among_voters, voter_is_node, voter_of}
-use Rattle.mega_calm_laws.proofs.Proposing.{Finished, Fits as ProposalFits, Next as ProposalNext, asks_vote, ends_finished, is_stale, takes_next, tells_vote}
+use Rattle.mega_calm_laws.proofs.Proposing.{Finished, Fits as ProposalFits, asks_vote, ends_finished, is_stale, takes_next, tells_vote}
 use Rattle.mega_calm_laws.proofs.Reaching.{Around, Comes, FinishesSo, awaits, helped, me_comes, receives, takes_on}
 use Rattle.mega_calm_laws.proofs.Searching.{Fits, Grounds, Grown, Ready, asks_where}
 use Rattle.mega_calm_laws.proofs.Seeking.{Outcome, asks, fetching, goes_on_so, proposed, proposes, seeks, validates_bland, validates_still, waits, who}
@@ -226,9 +226,6 @@ module _ (c : Cluster) (h : Meanings) (cuts : Cuts) (now : Standing) (me : ℕ) 
     abbrev HasCome : Standing → Type 0
     HasCome standing = Comes c me start nth g log member request entering clock noted own promised is.leader h fresh is.known (finishes_so noted) is.leads is.leader_votes standing
 
-    abbrev IsProposal : Standing → Type 0
-    IsProposal standing = ProposalNext c me start nth g (length log + 1) own member request clock (g ∷ []) entering [] promised h standing
-
     around : IsAround now
     around = record {
       up = λ v there. calm.all_up v there;
@@ -311,9 +308,6 @@ module _ (c : Cluster) (h : Meanings) (cuts : Cuts) (now : Standing) (me : ℕ) 
 
   finished_so : (noted : Option Epoch) (standing : Standing) → IsFinished noted standing → IsCommitted standing.tape
   finished_so noted standing f = record { answered = f.stands; decides = f.decides }
-
-  none_stand : (m : Message) → Among m [] → ⊥
-  none_stand m i = i
 
   pub in_the_end : (most : ℕ) → is_cut (drained c h cuts (begun c h cuts now me request text) most).tape ≡ false → IsCommitted (drained c h cuts (begun c h cuts now me request text) most).tape
   in_the_end most = subst (λ standing. is_cut (drained c h cuts standing most).tape ≡ false → IsCommitted (drained c h cuts standing most).tape) (sym begun_so) (by (valid_at c met g) refl)

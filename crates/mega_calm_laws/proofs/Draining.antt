@@ -20,14 +20,6 @@ use Rattle.mega_leased_laws.proofs.of_run_laws.Runs.{found}
 
 -- ---- a step that no fuse cuts
 
-never_burns : (a : Bool) → not (a && false) ≡ true
-never_burns true = refl
-never_burns false = refl
-
-none_burning : (a : Bool) → (a && false) ≡ false
-none_burning true = refl
-none_burning false = refl
-
 -- no fuse is set on a node's devices
 pub record IsUnfused (now : Standing) (me : ℕ) : Type 0 where
   pub no_log : now.log_fuse me ≡ None

@@ -100,13 +100,6 @@ greatest f (v ∷ vs) least = elim (greatest f vs (max least (f v))) [
     by true e same = inl (same ∙ left least (f v) e)
     by false e same = inr (v, inl refl, sym (same ∙ right least (f v) e))
 
-more_least : (f : ℕ → ℕ) (vs : List ℕ) (least : ℕ) → least ≤ fold (λ most v. max most (f v)) least vs
-more_least f [] least = omega arith
-more_least f (v ∷ vs) least = let rest = more_least f vs (max least (f v)) in step least (f v) (fold (λ most u. max most (f u)) (max least (f v)) vs) rest
-  where
-    step : (a b d : ℕ) → max a b ≤ d → a ≤ d
-    step a b d le = omega (arith, le)
-
 -- ---- votes
 
 if_grows : (t : Bool) (a b : ℕ) → b ≤ cond t (max a b) b

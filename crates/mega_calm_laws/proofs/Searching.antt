@@ -1,6 +1,5 @@
 -- An operation that is to propose reads alone in a calm cluster: what is around it, and what it waits for.
-use Rattle.std.proofs.Common.{◌≡◌, ◌⊎◌, inl, inr, ℕ, zero, suc, ◌+◌, ◌==◌, ◌&&◌, ◌≤◌, ◌<◌, max, nat_le, Bool, true, false, cond, List, [], ◌∷◌, length, slice_get, Option, Some, None, is_none, refl, sym, ap, ◌∙◌, subst, arith}
-use Rattle.std.proofs.lemmas.Bool.Decides.{nat_tests}
+use Rattle.std.proofs.Common.{◌≡◌, ◌⊎◌, inl, inr, ℕ, zero, suc, ◌+◌, ◌==◌, ◌&&◌, ◌≤◌, ◌<◌, max, Bool, true, false, cond, List, [], ◌∷◌, length, slice_get, Option, Some, None, is_none, refl, sym, ap, ◌∙◌, subst, arith}
 use Rattle.std.proofs.lemmas.Option.{same_Some}
 use Rattle.mega_base.specs.declared.names.GroupId.{GroupId}
 use Rattle.mega_cluster.specs.declared.cluster.Cluster.{Cluster}
@@ -64,12 +63,6 @@ as_long met g group p (suc most) k = go (decided met g k) (as_long met g group p
         → length (then_more o (decided_from met g most (k + 1))) ≤ length (then_more o (decided_from (Validates group p ∷ met) g (suc most) (k + 1)))
     go None le = omega arith
     go (Some e) le = omega (arith, le)
-
-le_is : (a b : ℕ) → nat_le a b ≡ true → a ≤ b
-le_is a b h = grind (arith, nat_tests)
-
-less_is : (a b : ℕ) → nat_le a b ≡ false → b < a
-less_is a b h = grind (arith, nat_tests)
 
 module _ (g : GroupId) (log : List Content) where
   abbrev pub behind : ℕ

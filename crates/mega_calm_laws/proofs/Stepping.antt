@@ -13,7 +13,7 @@ use Rattle.mega_leased_laws.specs.of_run_laws.of_tape_laws.of_promises.of_rules.
 use Rattle.mega_leased_laws.specs.of_run_laws.of_tape_laws.of_promises.of_rules.Steps.{Decision, Heard, Step, all_act, apply_notes, at_first, decision_note, first_settled, hears_message, if_new, news, onto, stored_after, take_step, taken}
 use Rattle.mega_leased_laws.specs.of_run_laws.Justified.{Each}
 use Rattle.mega_calm_laws.proofs.Mail.{Among, among_right}
-use Rattle.mega_calm_laws.proofs.Noting.{IsNoVote, IsStill, SameLogs, applies_still, logs_then, sends_still, still_onto, still_one}
+use Rattle.mega_calm_laws.proofs.Noting.{IsNoVote, IsStill, SameLogs, applies_still, logs_then, sends_still, still_onto}
 use Rattle.mega_calm_laws.proofs.Reading.{append_none}
 use Rattle.mega_leased_laws.proofs.of_run_laws.Events.{onto_append}
 
@@ -111,8 +111,3 @@ module _ (s : Setting) (node : Node) (m : Message) (ts : List Heard) (d : Option
 
   pub answer_noted : (one : Met) → Among one acted.answers → Among one made.notes
   answer_noted one h = among_right one ((([] ++ decision_note d) ++ apply_notes s node.met node.stored acted.met acted.stored) ++ acted.valid) acted.answers h
-
--- it decided nothing
-pub logs_same : (s : Setting) (node : Node) (m : Message) (ts : List Heard) (reply : List Message)
-    → SameLogs (Takes m ∷ node.met) ((made s node m ts None reply).node).met → SameLogs node.met ((made s node m ts None reply).node).met
-logs_same s node m ts reply same = logs_then node.met (Takes m ∷ node.met) ((made s node m ts None reply).node).met (still_one (Takes m) node.met tt) same

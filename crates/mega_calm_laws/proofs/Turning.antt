@@ -111,11 +111,6 @@ module _ (s : Setting) (op : OpId) (g : GroupId) (request : Request) (entering :
         → step.sends ≡ reply ++ fetch_all (prefix_of base g + 1) → (step.node).open_operations ≡ its (fetching s op g request entering began noted_epoch log own promised leader base through at) ∷ []
         → Leaves g end base (step.node).met → Becomes base stage step reply
 
-  pub becomes_leaves : (base : List Met) (stage : Stage) (step : Step) (reply : List Message) → Becomes base stage step reply → Leaves g end base (step.node).met
-  becomes_leaves base stage step reply (turns at sends opens leaves) = leaves
-  becomes_leaves base stage step reply (stays sends opens leaves stayed) = leaves
-  becomes_leaves base stage step reply (fetches through at search is above sends opens leaves) = leaves
-
   pub fetch_quiet : (n : ℕ) (vs : List ℕ) → AreQuiet (map (fetch_to (who s op g request entering began noted_epoch log own promised leader) n) vs)
   fetch_quiet n [] = tt
   fetch_quiet n (v ∷ vs) = (tt, fetch_quiet n vs)

@@ -1,5 +1,4 @@
 pub mod Chains
-mod Outcomes
 pub mod Records
 mod Repaired
 mod Torn

@@ -1,24 +1,15 @@
 -- What files of records hold.
-use Rattle.std.proofs.Common.{◌≡◌, ◌≢◌, ℕ, zero, suc, ◌+◌, ◌<◌, ◌≤◌, ◌^◌, List, [], ◌∷◌, ◌++◌, length, get_or, take, drop, refl, sym, ◌∙◌, ap, subst, arith, append_assoc, length-append, length-take-le, length-drop, take-append-drop, Bool, true, false, cond}
-use Rattle.std.specs.Prelude.{Option, Some, None, ◌==◌, ◌&&◌, nat_lt}
+use Rattle.std.proofs.Common.{◌≡◌, ◌≢◌, ℕ, suc, ◌+◌, ◌<◌, ◌≤◌, ◌^◌, List, [], ◌∷◌, ◌++◌, length, take, drop, refl, sym, ◌∙◌, ap, subst, arith, append_assoc, length-append, length-take-le, length-drop, take-append-drop, Bool, true, cond}
+use Rattle.std.specs.Prelude.{Some, None, ◌==◌, ◌&&◌, nat_lt}
 use Rattle.std.specs.Int.{from_be_bytes, to_be_bytes, w64}
+use Rattle.std.proofs.lemmas.Bool.{and_parts}
 use Rattle.std.proofs.lemmas.Bool.Decides.{nat_tests}
-use Rattle.std.proofs.lemmas.List.{take_at, drop_at, drop-drop, get_or-drop, append-nil}
+use Rattle.std.proofs.lemmas.List.{take_at, drop_at, drop-drop}
 use Rattle.std.proofs.lemmas.Nat.{from_be_bytes-to_be_bytes_8, be_bytes_8}
 use Rattle.std.proofs.lemmas.Option.{cond_some}
-use Rattle.mega_chain.specs.Chain.{record_of, chain_of, first_record, body_and, bodies_in, records_of, AreShort}
-
-abbrev pub IsBytes : List ℕ → Type 0
-IsBytes bytes = (i : ℕ) → get_or bytes i 0 < 256
-
-pub bytes_drop : (n : ℕ) (bytes : List ℕ) → IsBytes bytes → IsBytes (drop n bytes)
-bytes_drop n bytes fits i = let there = fits (n + i) in omega (arith, get_or-drop n bytes i 0, there)
-
-pub bytes_take : (n : ℕ) (bytes : List ℕ) → IsBytes bytes → IsBytes (take n bytes)
-bytes_take zero bytes fits i = omega arith
-bytes_take (suc n) [] fits i = omega arith
-bytes_take (suc n) (x ∷ bytes) fits zero = fits 0
-bytes_take (suc n) (x ∷ bytes) fits (suc i) = bytes_take n bytes (λ k. fits (suc k)) i
+use Rattle.mega_disk.proofs.Chains as chains
+use Rattle.mega_disk.proofs.Chains.{IsBytes, IsChain, bytes_drop, bytes_take, parts_of}
+use Rattle.mega_chain.specs.Chain.{record_of, chain_of, first_record, records_of, AreShort, IsShort}
 
 -- what a record at the front says of the file
 pub record Begins (gate : ℕ) (tail body rest : List ℕ) : Type 0 where
@@ -27,19 +18,11 @@ pub record Begins (gate : ℕ) (tail body rest : List ℕ) : Type 0 where
   pub body_is : take (from_be_bytes w64 (take 8 tail)) (drop 8 tail) ≡ body
   pub rest_is : drop (8 + from_be_bytes w64 (take 8 tail)) tail ≡ rest
 
-pub both : (a b : Bool) → a && b ≡ true → (a ≡ true) × (b ≡ true)
-both true true is = (refl, refl)
-both true false is = absurd (cc)
-both false b is = absurd (cc)
-
-parts_of : (a x b y : List ℕ) → ◌≡◌ {A = List ℕ × List ℕ} (a, b) (x, y) → (a ≡ x) × (b ≡ y)
-parts_of a x b y is = (ap (λ (p : List ℕ × List ℕ). p.0) is, ap (λ (p : List ℕ × List ℕ). p.1) is)
-
 pub begins : (gate : ℕ) (tail body rest : List ℕ) → first_record (gate ∷ tail) ≡ Some (body, rest) → Begins gate tail body rest
 begins gate tail body rest is =
     let size = from_be_bytes w64 (take 8 tail) in
     let chosen = cond_some ((gate == 1) && nat_lt (8 + size) (length tail)) (take size (drop 8 tail), drop (8 + size) tail) (body, rest) is in
-    let tests = both (gate == 1) (nat_lt (8 + size) (length tail)) chosen.0 in
+    let tests = and_parts (gate == 1) (nat_lt (8 + size) (length tail)) chosen.0 in
     let parts = parts_of (take size (drop 8 tail)) body (drop (8 + size) tail) rest chosen.1 in
     record {
       is_open = (let e : (gate == 1) ≡ true = tests.0 in grind (arith, nat_tests));
@@ -54,42 +37,6 @@ shorter [] body rest is = absurd (cc)
 shorter (gate ∷ tail) body rest is =
     let b = begins gate tail body rest is in
     omega (arith, ap length b.rest_is, length-drop (8 + from_be_bytes w64 (take 8 tail)) tail)
-
-turns : (n m : ℕ) (again : (rest : List ℕ) → length rest ≤ n → length rest ≤ m → bodies_in n rest ≡ bodies_in m rest) (file : List ℕ) (found : Option (List ℕ × List ℕ)) → first_record file ≡ found → length file ≤ suc n → length file ≤ suc m
-    → body_and (λ rest. bodies_in n rest) found ≡ body_and (λ rest. bodies_in m rest) found
-turns n m again file None is small few = refl
-turns n m again file (Some (body, rest)) is small few =
-    let less = shorter file body rest is in ap (λ (l : List (List ℕ)). body ∷ l) (again rest (omega arith) (omega arith))
-
--- as many turns as the file has bytes are enough
-pub fuel : (n m : ℕ) (file : List ℕ) → length file ≤ n → length file ≤ m → bodies_in n file ≡ bodies_in m file
-fuel zero zero file small few = refl
-fuel zero (suc m) [] small few = refl
-fuel zero (suc m) (x ∷ file) small few = absurd (omega arith)
-fuel (suc n) zero [] small few = refl
-fuel (suc n) zero (x ∷ file) small few = absurd (omega arith)
-fuel (suc n) (suc m) file small few = turns n m (fuel n m) file (first_record file) refl small few
-
--- a file with no record at its front holds none
-none_in : (n : ℕ) (file : List ℕ) → first_record file ≡ None → bodies_in n file ≡ []
-none_in zero file none = refl
-none_in (suc n) file none = ap (body_and (λ rest. bodies_in n rest)) none
-
-pub records_none : (file : List ℕ) → first_record file ≡ None → records_of file ≡ []
-unfolding records_of
-records_none file none = none_in (length file) file none
-
-one_more : (n : ℕ) (file body rest : List ℕ) → length file ≤ n → first_record file ≡ Some (body, rest) → bodies_in n file ≡ body ∷ bodies_in (length rest) rest
-one_more zero [] body rest long is = absurd (cc)
-one_more zero (x ∷ file) body rest long is = absurd (omega arith)
-one_more (suc n) file body rest long is =
-    let less = shorter file body rest is in
-    ap (body_and (λ rest. bodies_in n rest)) is ∙ ap (λ (l : List (List ℕ)). body ∷ l) (fuel n (length rest) rest (omega arith) (omega arith))
-
--- a record at the front is the first, and those in what is behind it follow
-pub records_more : (file body rest : List ℕ) → first_record file ≡ Some (body, rest) → records_of file ≡ body ∷ records_of rest
-unfolding records_of
-records_more file body rest is = one_more (length file) file body rest (omega arith) is
 
 -- a closed gate
 pub first_closed : (gate : ℕ) (tail : List ℕ) → gate ≢ 1 → first_record (gate ∷ tail) ≡ None
@@ -115,19 +62,22 @@ first_whole body rest short behind =
     ap (λ (b : Bool). cond b (Some (take (from_be_bytes w64 (take 8 tail)) (drop 8 tail), drop (8 + from_be_bytes w64 (take 8 tail)) tail)) None) test
     ∙ ap (λ (p : List ℕ × List ℕ). Some p) (λ i. (body_is i, rest_is i))
 
--- what is spelled is read, with what follows in the rest
-pub records_chain : (bodies : List (List ℕ)) (rest : List ℕ) → AreShort bodies → 0 < length rest → records_of (chain_of bodies ++ rest) ≡ bodies ++ records_of rest
-records_chain [] rest short behind = refl
-records_chain (body ∷ bodies) rest short behind =
-    let long : 0 < length (chain_of bodies ++ rest) = omega (arith, length-append (chain_of bodies) rest) in
-    ap records_of (append_assoc (record_of body) (chain_of bodies) rest)
-    ∙ records_more _ body (chain_of bodies ++ rest) (first_whole body (chain_of bodies ++ rest) short.0 long)
-    ∙ ap (λ (l : List (List ℕ)). body ∷ l) (records_chain bodies rest short.1 behind)
+-- so its records are those of a chain
+is_chain : IsChain record_of first_record IsShort records_of
+unfolding records_of
+is_chain = record { shorter = shorter; whole = first_whole; closed = first_closed; read = λ file. refl }
 
--- up to a closed gate the records are these, whatever stands behind it
+pub records_none : (file : List ℕ) → first_record file ≡ None → records_of file ≡ []
+records_none = chains.records_none record_of first_record IsShort records_of is_chain
+
+pub records_more : (file body rest : List ℕ) → first_record file ≡ Some (body, rest) → records_of file ≡ body ∷ records_of rest
+records_more = chains.records_more record_of first_record IsShort records_of is_chain
+
+pub records_chain : (bodies : List (List ℕ)) (rest : List ℕ) → AreShort bodies → 0 < length rest → records_of (chain_of bodies ++ rest) ≡ bodies ++ records_of rest
+records_chain = chains.records_chain record_of first_record IsShort records_of is_chain
+
 pub records_closed : (bodies : List (List ℕ)) (gate : ℕ) (rest : List ℕ) → AreShort bodies → gate ≢ 1 → records_of (chain_of bodies ++ gate ∷ rest) ≡ bodies
-records_closed bodies gate rest short shut =
-    records_chain bodies (gate ∷ rest) short (omega arith) ∙ ap (λ (l : List (List ℕ)). bodies ++ l) (records_none (gate ∷ rest) (first_closed gate rest shut)) ∙ append-nil bodies
+records_closed = chains.records_closed record_of first_record IsShort records_of is_chain
 
 -- the bytes of a record at the front are those that spell its body
 pub record Spelled (file body rest : List ℕ) : Type 0 where
@@ -178,24 +128,11 @@ spelled_in gate tail body rest head_fits is =
 pub spelled_by : (file body rest : List ℕ) → IsBytes file → first_record file ≡ Some (body, rest) → Spelled file body rest
 spelled_by [] body rest fits is = absurd (cc)
 spelled_by (gate ∷ tail) body rest fits is =
-    let b = begins gate tail body rest is in
-    let head = take 8 tail in
-    let size = from_be_bytes w64 head in
-    let enough = b.fits in
-    let eight : length head ≡ 8 = length-take-le 8 tail (omega arith) in
     let tail_fits : IsBytes tail = λ i. fits (suc i) in
-    let head_fits : IsBytes head = bytes_take 8 tail tail_fits in
-    let below : size < 2 ^ 64 = bytes_below head eight head_fits in
-    let count : length body ≡ size = ap length (sym b.body_is) ∙ length-take-le size (drop 8 tail) (omega (arith, length-drop 8 tail)) in
-    let head_is : to_be_bytes w64 (length body) ≡ head = be_bytes_8 head (length body) eight head_fits count in
-    let tail_is : tail ≡ head ++ body ++ rest =
-    sym (take-append-drop 8 tail) ∙ ap (λ (l : List ℕ). head ++ l) (sym (take-append-drop size (drop 8 tail)))
-    ∙ ap (λ (l : List ℕ). head ++ (l ++ drop size (drop 8 tail))) b.body_is
-    ∙ ap (λ (l : List ℕ). head ++ (body ++ l)) (drop-drop size 8 tail ∙ b.rest_is)
-    ∙ sym (append_assoc head body rest) in
+    let there = spelled_in gate tail body rest (bytes_take 8 tail tail_fits) is in
     record {
-      spelled = ap (λ (n : ℕ). n ∷ tail) b.is_open ∙ ap (λ (l : List ℕ). 1 ∷ l) tail_is ∙ ap (λ (l : List ℕ). 1 ∷ (l ++ body ++ rest)) (sym head_is);
-      short = omega (arith, count, below);
-      behind = omega (arith, ap length b.rest_is, length-drop (8 + size) tail);
-      bytes = subst IsBytes b.rest_is (bytes_drop (8 + size) tail tail_fits);
+      spelled = there.spelled;
+      short = there.short;
+      behind = there.behind;
+      bytes = subst IsBytes (begins gate tail body rest is).rest_is (bytes_drop (8 + from_be_bytes w64 (take 8 tail)) tail tail_fits);
     }

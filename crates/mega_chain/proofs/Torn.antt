@@ -1,7 +1,7 @@
 -- Writes that follow one another.
-use Rattle.std.proofs.Common.{◌≡◌, ℕ, ◌+◌, ◌-◌, ◌≤◌, List, [], ◌++◌, length, take, drop, sym, ◌∙◌, ap, arith, append_assoc, length-append, length-take-le, length-drop, take-append-drop}
+use Rattle.std.proofs.Common.{◌≡◌, ℕ, ◌+◌, ◌-◌, ◌≤◌, List, ◌++◌, length, take, drop, sym, ◌∙◌, ap, arith, append_assoc, length-append, length-take-le, length-drop}
 use Rattle.std.specs.Prelude.{slice_range}
-use Rattle.std.proofs.lemmas.List.{take_at, drop_at, drop-drop, take-take, take_all, append-nil}
+use Rattle.std.proofs.lemmas.List.{take_at, drop_at, drop-drop, take-take}
 use Rattle.std.proofs.Math.Seq.{take-add}
 use Rattle.mega_disk.specs.Images.{overwritten, Torn}
 
@@ -16,16 +16,6 @@ torn_within at done k n file mid new le first second = record {
   where
     later : (l : List ℕ) → drop (at + n) l ≡ drop (n - (done + k)) (drop (at + done + k) l)
     later l = ap (λ (m : ℕ). drop m l) (omega arith) ∙ sym (drop-drop (n - (done + k)) (at + done + k) l)
-
--- nothing was written yet
-pub written_none : (at : ℕ) (bytes file : List ℕ) → at ≤ length file → file ≡ overwritten at (take 0 bytes) file
-written_none at bytes file le = sym (ap (λ (l : List ℕ). l ++ drop (at + 0) file) (append_nil_of (take at file)) ∙ whole)
-  where
-    append_nil_of : (l : List ℕ) → l ++ [] ≡ l
-    append_nil_of l = append-nil l
-
-    whole : take at file ++ drop (at + 0) file ≡ file
-    whole = ap (λ (m : ℕ). take at file ++ drop m file) (omega arith) ∙ take-append-drop at file
 
 -- the next piece
 pub written_more : (at done k : ℕ) (bytes file seen : List ℕ) → at ≤ length file → done + k ≤ length bytes → seen ≡ overwritten at (take done bytes) file
@@ -70,14 +60,6 @@ written_more at done k bytes file seen le room is =
         ∙ ap (drop k) (drop_at x y (at + done) (omega (arith, x_long)))
         ∙ drop-drop k (at + length (take done bytes)) file
         ∙ ap (λ (m : ℕ). drop m file) (omega (arith, front_long, both_long))
-
-pub length-overwritten : (at done : ℕ) (bytes file seen : List ℕ) → at ≤ length file → done ≤ length bytes → seen ≡ overwritten at (take done bytes) file → at + done ≤ length seen
-length-overwritten at done bytes file seen le room is =
-    omega (arith, ap length is, length-append (take at file ++ take done bytes) (drop (at + length (take done bytes)) file), length-append (take at file) (take done bytes), length-take-le at file le, length-take-le done bytes room)
-
--- all pieces were written
-pub written_all : (at done : ℕ) (bytes file seen : List ℕ) → length bytes ≤ done → seen ≡ overwritten at (take done bytes) file → seen ≡ overwritten at bytes file
-written_all at done bytes file seen le is = is ∙ ap (λ (l : List ℕ). overwritten at l file) (take_all done bytes le)
 
 pub piece_torn : (at done count : ℕ) (bytes file mid new : List ℕ) → done + count ≤ length bytes → Torn at (length bytes) file mid → Torn (at + done) (length (take (done + count - done) (drop done bytes))) mid new → Torn at (length bytes) file new
 piece_torn at done count bytes file mid new room first second =

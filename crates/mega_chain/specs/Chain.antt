@@ -1,7 +1,8 @@
 -- The file of runs: a chain of records, each a gate, the length of its body, the body; the next gate follows.
-use Rattle.std.specs.Prelude.{◌+◌, ◌<◌, ◌^◌, ℕ, zero, suc, List, [], ◌∷◌, ◌++◌, length, take, drop, Option, Some, None, if◌then◌else◌, ◌==◌, ◌&&◌, nat_lt}
+use Rattle.std.specs.Prelude.{◌+◌, ◌<◌, ◌^◌, ℕ, List, [], ◌∷◌, ◌++◌, length, take, drop, Option, Some, None, if◌then◌else◌, ◌==◌, ◌&&◌, nat_lt}
 use Rattle.std.specs.Int.{from_be_bytes, to_be_bytes, w64}
 use Rattle.std.specs.List.{flat_map, AllByRecursion}
+use Rattle.mega_disk.specs.Chains.{bodies_by}
 
 -- a record with an open gate
 abbrev pub record_of : List ℕ → List ℕ
@@ -18,19 +19,9 @@ first_record (gate ∷ rest) =
     let size = from_be_bytes w64 (take 8 rest) in
     if (gate == 1) && nat_lt (8 + size) (length rest) then Some (take size (drop 8 rest), drop (8 + size) rest) else None
 
--- the body, and those in what is behind it
-abbrev pub body_and : (List ℕ → List (List ℕ)) → Option (List ℕ × List ℕ) → List (List ℕ)
-body_and bodies None = []
-body_and bodies (Some (body, rest)) = body ∷ bodies rest
-
--- the bodies of the records before the first closed gate, of at most so many records
-abbrev pub bodies_in : ℕ → List ℕ → List (List ℕ)
-bodies_in zero file = []
-bodies_in (suc n) file = body_and (λ rest. bodies_in n rest) (first_record file)
-
 -- the bodies of the records that a file holds
 unfoldable pub records_of : List ℕ → List (List ℕ)
-records_of file = bodies_in (length file) file
+records_of file = bodies_by first_record (length file) file
 
 -- each body is short enough for its length to be written
 abbrev pub IsShort : List ℕ → Type 0

@@ -5,10 +5,10 @@ use Rattle.std.proofs.Math.Nat.{div-add-mod, mod-lt}
 use Rattle.std.proofs.lemmas.Bool.Decides.{nat_tests}
 use Rattle.std.proofs.lemmas.List.{get_or-take, get_or-drop, ext_get_or}
 use Rattle.std.proofs.lemmas.List.FromFn.{get_or-map-range_with_len, length-map-range_with_len}
+use Rattle.std.proofs.lemmas.Bool.{and_parts}
 use Rattle.byteorder.specs.Endian.{big_from, big_bytes}
 use Rattle.byteorder.specs.Numbers.{big_number-reads_back}
 use Rattle.mega_journal.specs.Chain.{records_of}
-use Rattle.mega_journal.proofs.Records.{both}
 use Rattle.mega_areas.specs.declared.area.Area.{Area}
 use Rattle.mega_areas.specs.declared.area.Area.TheVariants.{Odd, Even}
 use Rattle.mega_areas.specs.Pages.{first_page, other_of, offset, pages_in, length_of_pages, space, is_open, generation_of, chain_in, outranks, counts, is_marked, is_areas}
@@ -91,7 +91,7 @@ same_mark old new same =
 
 pub areas_parts : (file : List ℕ) → is_areas file ≡ true → (12288 ≤ length file) × (is_marked file ≡ true)
 areas_parts file is =
-    let parts = both (nat_le 12288 (length file)) (is_marked file) is in
+    let parts = and_parts (nat_le 12288 (length file)) (is_marked file) is in
     ((let e : nat_le 12288 (length file) ≡ true = parts.0 in grind (arith, nat_tests)), parts.1)
 
 pub areas_whole : (file : List ℕ) → 12288 ≤ length file → is_marked file ≡ true → is_areas file ≡ true
@@ -154,7 +154,7 @@ generation_put area file generation rest fits there =
     ∙ big_number-reads_back 8 generation rest fits
 
 pub counts_open : (area : Area) (file : List ℕ) → counts area file ≡ true → is_open area file ≡ true
-counts_open area file is = (both (is_open area file) (not (is_open (other_of area) file) || outranks area (generation_of area file) (generation_of (other_of area) file)) is).0
+counts_open area file is = (and_parts (is_open area file) (not (is_open (other_of area) file) || outranks area (generation_of area file) (generation_of (other_of area) file)) is).0
 
 -- an area with the one open gate counts
 pub counts_alone : (area : Area) (file : List ℕ) → is_open area file ≡ true → is_open (other_of area) file ≡ false → counts area file ≡ true

@@ -9,6 +9,3 @@ pages_fit n = let a = div-add-mod (n + 4095) 4096 in let b : (n + 4095) % 4096 <
 
 pub most_fit : (pages n all some : ℕ) → some ≡ pages_for n → all ≡ max pages some → (n ≤ 4096 * all) × (pages ≤ all)
 most_fit pages n all some is most = let f = pages_fit n in let e = f.0 in (omega (arith, e, is, most), omega (arith, most))
-
-pub most_few : (pages n all some : ℕ) → some ≡ pages_for n → all ≡ max pages some → (bound : ℕ) → pages < bound → n ≤ 4096 * bound → 4096 ≤ 4096 * bound → all ≤ bound
-most_few pages n all some is most bound few small one = let f = pages_fit n in let e = f.1 in omega (arith, e, is, most, few, small)

@@ -1,6 +1,5 @@
 -- A list that is made place by place.
-use Rattle.std.proofs.Common.{◌≡◌, ℕ, zero, suc, ◌+◌, ◌∙◌, add-one, ◌<◌, ◌≤◌, List, [], ◌∷◌, ◌++◌, map, length, take, drop, set, get_or, refl, ap, arith, Bool, true, false, cond}
-use Rattle.std.specs.Prelude.{Option, Some, unwrap_or}
+use Rattle.std.proofs.Common.{◌≡◌, ℕ, zero, suc, ◌+◌, ◌∙◌, add-one, ◌<◌, ◌≤◌, List, [], ◌∷◌, ◌++◌, map, length, take, drop, set, get_or, refl, ap, arith}
 
 -- the first i elements of xs under f, and then those of zs
 abbrev pub so_far : {A B : Type 0} → (A → B) → List A → List B → ℕ → List B
@@ -25,8 +24,3 @@ so_far_all f (y ∷ xs) zs zero le same = absurd (omega arith)
 so_far_all f [] [] (suc i) le same = refl
 so_far_all f (y ∷ xs) [] (suc i) le same = absurd (omega arith)
 so_far_all f (y ∷ xs) (z ∷ zs) (suc i) le same = ap (λ vs. f y ∷ vs) (so_far_all f xs zs i (omega arith) (omega arith))
-
--- a value or else another, by a test
-pub unwrapped : {A : Type 0} (test : Bool) (x d : A) (o : Option A) → unwrap_or (cond test (Some x) o) d ≡ cond test x (unwrap_or o d)
-unwrapped true x d o = refl
-unwrapped false x d o = refl

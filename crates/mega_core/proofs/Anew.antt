@@ -51,7 +51,7 @@ use Rattle.mega_node_events.specs.Represents.{Represents}
 use Rattle.mega_actions.specs.of_view.Small.{IsSmall}
 use Rattle.mega_core.specs.Restarting.{HaveFollowed, applied_at_start}
 use Rattle.mega_core.proofs.Alike.{IsApart, all_apart_alike, alike_tells}
-use Rattle.mega_step_parts.proofs.Groups.{has, no_log}
+use Rattle.mega_rules.proofs.Groups.{has, no_log}
 use Rattle.mega_core.proofs.Silent.{IsMute, IsQuiet, mute_begun, mute_told, mute_undecided}
 
 -- ---- what is owed

@@ -37,7 +37,7 @@ use Rattle.mega_step_parts.specs.declared.applying.Before.{Before}
 use Rattle.mega_step_parts.specs.Positions.{before_at}
 use Rattle.mega_step_parts.specs.Behind.{is_behind}
 use Rattle.mega_step_parts.specs.Touching.{asked_groups, touched}
-use Rattle.mega_step_parts.proofs.Groups.{has}
+use Rattle.mega_rules.proofs.Groups.{has}
 use Rattle.mega_core.specs.Acted.{Acted}
 use Rattle.mega_node_events.specs.Beginning.{at_begin, has_begun}
 use Rattle.mega_lag.specs.Lagging.{KnowsLagging, KnowsOthers, is_watched}

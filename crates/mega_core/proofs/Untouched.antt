@@ -32,7 +32,8 @@ use Rattle.mega_node_events.specs.Taking.{has_taken}
 use Rattle.mega_node_events.specs.Ticking.{has_ticked}
 use Rattle.mega_step_parts.specs.Behind.{is_behind}
 use Rattle.mega_step_parts.specs.Touching.{asked_groups, begun_by, begun_groups, behind, named, reaches, roams, told_groups, touched, with_reach}
-use Rattle.mega_step_parts.proofs.Groups.{all_noted, has, has_with, no_log, none_applied, since_is}
+use Rattle.mega_rules.proofs.Groups.{has, has_with, no_log}
+use Rattle.mega_step_parts.proofs.Groups.{all_noted, none_applied, since_is}
 use Rattle.mega_node_events.proofs.Deciding.{told_on}
 use Rattle.mega_node_events.proofs.Plain.{plain_undecided, told_plain}
 use Rattle.mega_core.proofs.Silent.{IsMute, mute_undecided, validate_mute}

@@ -8,11 +8,11 @@ ghost use Rattle.mega_rules.specs.Logs.{log_of};
 ghost use Rattle.mega_rules.specs.Operations.{Node as RuleNode};
 ghost use Rattle.mega_rules.specs.Members.{kind_of};
 ghost use Rattle.mega_rules.specs.Steps.{Begin, at_open, begins, missing_kind, refusal, unless_refused};
-ghost use Rattle.mega_replica.specs.Used.{StoreUsed};
 ghost use Rattle.mega_actions.specs.of_answers.declared.fault.ActFault.TheVariants.{Unserved};
 ghost use Rattle.mega_actions.specs.of_step_work.Servable.{is_served};
 ghost use Rattle.mega_actions.specs.of_answers.Faults.{failed_by};
 ghost use Rattle.mega_actions.specs.IsAt.{setting_of};
+ghost use Rattle.mega_actions.specs.Leaves.{LeavesRest};
 ghost use Rattle.mega_core.specs.Acted.{ActedAt};
 ghost use Rattle.mega_node_events.specs.Beginning.{has_begun};
 ghost use Rattle.mega_node_events.specs.Standing.{StandsWith};
@@ -43,15 +43,12 @@ impl<R: Records, V: Versions> Node<R, V> {
             ActedAt V.version h self.new.replica self.new.begun work
             (acted_on (setting_of self.old.replica h) node (Begin request text)) (has_begun (setting_of self.old.replica h) node request text)) }
         ensures handlers { H.meant handlers.new ≡ H.meant handlers.old }
-        ensures members { self.new.replica.members ≡ self.old.replica.members }
-        ensures me { self.new.replica.me ≡ self.old.replica.me }
+        ensures leaves { LeavesRest V.Versions (failed_by result) self.old.replica self.new.replica }
         ensures unserved { result ≡ Err Unserved → is_served request ≡ false }
         ensures built { OnOk result ((h : Meanings) (node : RuleNode) →
             StandsWith V.version h self.old.replica self.old.open self.old.begun node →
             refusal (setting_of self.old.replica h) node request ≡ None → is_served request ≡ true) }
-        ensures voter { self.new.replica.voter ≡ self.old.replica.voter }
         ensures lagging { self.new.lagging ≡ self.old.lagging }
-        ensures used { StoreUsed V.Versions (failed_by result) self.old.replica.rows.rows self.new.replica.rows.rows }
     {
         let op = next_op(&self.replica.voter, self.replica.me, self.begun);
         let kind = kind_of(self.replica.members.cluster(), self.replica.me);

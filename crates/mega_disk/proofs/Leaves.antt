@@ -1,5 +1,5 @@
 -- How runs of calls go on: what a crash at any moment leaves.
-use Rattle.std.proofs.Common.{◌≡◌, inl, inr, ⊎_elim, ℕ, subst, arith}
+use Rattle.std.proofs.Common.{inl, inr, ⊎_elim, ℕ, arith}
 use Rattle.mega_disk.specs.Images.{Elapses, LeavesOnly}
 
 module _ {D X : Type 0} (moment : D → ℕ) (left_since : D → ℕ → X → Type 0) where
@@ -31,17 +31,3 @@ module _ {D X : Type 0} (moment : D → ℕ) (left_since : D → ℕ → X → T
     each = λ c left. p c (run.each c left);
     before = λ t c le left. ⊎_elim inl (λ x. inr (p c x)) (run.before t c le left);
   }
-
--- the same of what the images open to
-pub opened_leaves : {D S X Y : Type 0} (moment : D → ℕ) (left_since : D → ℕ → X → Type 0) (store_moment : S → ℕ) (opened_since : S → ℕ → Y → Type 0) (opens_to : X → Y → Type 0) (P : Y → Type 0) (old new : D) (before after : S)
-    → store_moment before ≡ moment old → store_moment after ≡ moment new
-    → ((t : ℕ) (y : Y) → opened_since after t y → (c : X) × left_since new t c × opens_to c y)
-    → ((t : ℕ) (y : Y) (c : X) → left_since old t c → opens_to c y → opened_since before t y)
-    → LeavesOnly moment left_since old new (λ c. (y : Y) → opens_to c y → P y) → LeavesOnly store_moment opened_since before after P
-opened_leaves moment left_since store_moment opened_since opens_to P old new before after is_old is_new into back run = record {
-  later = omega (arith, run.later, is_old, is_new);
-  each = λ y found. let from = into (store_moment before) y found in run.each from.0 (subst (λ (t : ℕ). left_since new t from.0) is_old from.1) y from.2;
-  before = λ t y le found.
-      let from = into t y found in
-      ⊎_elim (λ past. inl (back t y from.0 past from.2)) (λ p. inr (p y from.2)) (run.before t from.0 (omega (arith, le, is_old)) from.1);
-}

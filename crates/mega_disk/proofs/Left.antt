@@ -52,9 +52,6 @@ synced content c (inl now) = now
 synced content c (inr (inl full)) = full
 synced content c (inr (inr image)) = image
 
-pub synced_within : (changes : List Change) (content : List ℕ) → Within (MayLeave changes content) (MayLeave [] content)
-synced_within changes content c left = inl (synced content c left)
-
 picked : (P : List ℕ → Type 0) (first second : Bool) (x y z : List ℕ) → P x → P y → P z → P (if first then x else (if second then y else z))
 picked P true second x y z px py pz = px
 picked P false true x y z px py pz = py

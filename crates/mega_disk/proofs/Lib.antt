@@ -1,9 +1,11 @@
 mod Best
+pub mod Chains
 mod Changed
 mod Filled
 pub mod Leaves
 mod Left
 mod Moments
+pub mod Outcomes
 mod Rows
 mod Scanned
 pub mod Steps

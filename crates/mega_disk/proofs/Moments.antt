@@ -23,10 +23,6 @@ module _ {A X : Type 0} (leaves : A → X → Type 0) where
   drop_push (suc t) [] state le = absurd (omega arith)
   drop_push (suc t) (first ∷ past) state le = drop_push t past state (omega arith)
 
-  -- nothing has changed
-  pub passes_same : (state : A) (past : List A) → TimePasses leaves state past state past
-  passes_same state past = record { later = omega arith; nothing_else = λ t c le left. inl left; keeps = λ t c le left. left }
-
   was : (old : A) (past : List A) (t : ℕ) (c : X) → MightHaveLeft leaves (drop t past) c ⊎ leaves old c → LeftSince leaves old past t c
   was old past t c (inl had) = inr had
   was old past t c (inr now) = inl now

@@ -58,15 +58,9 @@ adds rows others key row place is put = subst (λ (l : Pairs). AddsRow rows key 
   has = (row, its_row rows place (key, row));
 })
 
-pub adds_none : (rows others : Pairs) (key : List ℕ) (row : Row) → HasKey rows key → others ≡ rows → AddsRow rows key row others
-adds_none rows others key row has same = subst (λ (l : Pairs). AddsRow rows key row l) (sym same) (record { ordered = λ asc. asc; nothing_else = λ k r it. inl it; kept = λ k r it. it; has = has })
-
 -- the rows so far have smaller keys
 abbrev pub AreBelow : Pairs → List ℕ → ℕ → Type 0
 AreBelow rows key i = (m : ℕ) → IsPlaceFor (drop i rows) key m → IsPlaceFor rows key (i + m)
-
-pub below_none : (rows : Pairs) (key : List ℕ) → AreBelow rows key 0
-below_none rows key m is = subst (IsPlaceFor rows key) (let e : m ≡ 0 + m = omega arith in e) is
 
 pub below_more : (rows : Pairs) (key : List ℕ) (i : ℕ) (one : List ℕ × Row) → i < length rows → one ≡ get_or rows i one → slice_cmp nat_cmp one.0 key ≡ Less → AreBelow rows key i → AreBelow rows key (i + 1)
 below_more rows key i one lt item less below m is =

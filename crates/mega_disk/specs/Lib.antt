@@ -1,3 +1,4 @@
+pub mod Chains
 pub mod Changes
 pub mod Fuse
 pub mod Images

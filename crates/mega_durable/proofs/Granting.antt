@@ -14,8 +14,8 @@ use Rattle.mega_locks.specs.declared.lock.Lock.TheVariants.{Free, Held, Ended}
 use Rattle.mega_locks.specs.declared.lock.Term.{Term}
 use Rattle.mega_locks.specs.Rule.{after_lapse as after_gone, after_answer, answer, asked, is_above, is_over, is_same, lapse, opened, reopened, ticked}
 use Rattle.mega_locks.specs.History.{Call, Asks, Reopens, Ticks as CellTicks, first_term, lapse_for, lock_of, nodes, renewal}
-use Rattle.mega_locks.proofs.Marks.{same_is}
-use Rattle.mega_wal.specs.History.{after_grant, after_lapse, is_epoch_below, is_same_epoch}
+use Rattle.mega_locks.proofs.Marks.{not_above_self, same_is, same_self}
+use Rattle.mega_wal.specs.History.{after_grant, after_lapse, is_epoch_below}
 use Rattle.mega_rules.specs.Met.{Met, Starts, Crashes, Ticks, Begins, Takes, Sends, Unsends, Grants, Lapses, Counts, Forgets, Serves, Loses, Validates, Invalidates, Decides, Applies, Answers}
 use Rattle.mega_coordinator.specs.declared.answers.Counted.{Counted}
 use Rattle.mega_coordinator.specs.declared.answers.Counted.TheVariants.{No, Yes, Serving}
@@ -34,9 +34,6 @@ use Rattle.mega_durable.specs.Granted.{KeepsGrants, grant_in, is_among}
 -- ---- epochs
 below_is : (e g : Epoch) → is_epoch_below g e ≡ is_above e g
 below_is e g = grind (arith, nat_tests)
-
-same_self : (e : Epoch) → is_same_epoch e e ≡ true
-same_self e = grind (arith, nat_tests)
 
 -- ---- one lock, and what was granted
 abbrev pub granted_after : Asked → Epoch → Option (Epoch × Bool) → Option (Epoch × Bool)
@@ -88,12 +85,6 @@ opened_keeps (Ended g) e = by (is_above e g) refl
     by true is = sym (ap (λ test. cond test (Some (e, true)) (Some (g, false))) (below_is e g ∙ is))
     by false is = sym (ap (λ test. cond test (Some (e, true)) (Some (g, false))) (below_is e g ∙ is))
 
-not_above_self : (e : Epoch) → is_above e e ≡ false
-not_above_self e = grind (arith, nat_tests)
-
-same_epoch_self : (e : Epoch) → is_same e e ≡ true
-same_epoch_self e = grind (arith, nat_tests)
-
 is_held : Option (Epoch × Bool) → Bool
 is_held None = false
 is_held (Some last) = last.1
@@ -103,7 +94,7 @@ unfolding is_held
 ended_keeps Free e held = absurd (false≢true (ap is_held held))
 ended_keeps (Ended g) e held = absurd (false≢true (ap is_held held))
 ended_keeps (Held g r) e held = subst (λ (one : Epoch). grant_in (reopened (Held g r) one false) ≡ after_lapse (Some (g, true)) one) is
-    ((λ i. grant_in (cond (not_above_self g i) (opened g false) (cond (same_epoch_self g i && true) (Ended g) (Held g r)))) ∙ sym (ap (λ test. cond test (Some (g, false)) (Some (g, true))) (same_self g)))
+    ((λ i. grant_in (cond (not_above_self g i) (opened g false) (cond (same_self g i && true) (Ended g) (Held g r)))) ∙ sym (ap (λ test. cond test (Some (g, false)) (Some (g, true))) (same_self g)))
   where
     epoch_in : Option (Epoch × Bool) → Epoch
     epoch_in None = g

@@ -12,6 +12,7 @@ use crate::fault::UpFault;
 use crate::keeping::is_cut;
 use crate::up::Up;
 use mega_base::Items;
+use mega_core::mega_step_parts::is_to_compact;
 use mega_disk::{Records, Versions};
 use mega_wal::{LogFault, Logs};
 use mega_well_formed::are_items;
@@ -58,15 +59,6 @@ fn summed<R: Records>(alloc: Global, logs: &mut Logs<R>) -> Result<(), UpFault>
     }
 }
 
-/// Whether a log is due to be compacted, and nothing is staged.
-fn is_due<R: Records>(logs: &Logs<R>) -> bool
-    ensures due { result ≡ true → R.is_due logs.now.records ≡ true }
-    ensures flushed { result ≡ true → logs.now.staged.items ≡ [] }
-    ensures not_due { result ≡ false → R.is_due logs.now.records ≡ true → logs.now.staged.items ≡ [] → ⊥ }
-{
-    logs.due() && logs.staged().is_empty()
-}
-
 /// Puts one record of what logs keep in place of all, where these are due.
 fn compacted<R: Records>(alloc: Global, logs: &mut Logs<R>) -> Result<(), UpFault>
     ensures kept { logs.new.kept ≡ logs.old.kept }
@@ -80,7 +72,7 @@ fn compacted<R: Records>(alloc: Global, logs: &mut Logs<R>) -> Result<(), UpFaul
     ensures owed { IfErr result (λ refused. OwesNothing refused) }
     ensures proceeds { LogCompacts R.Records (log_failed_by result) logs.old.records logs.new.records }
 {
-    if !is_due(logs) {
+    if !is_to_compact(logs) {
         return Ok(());
     }
     match summed(alloc, logs) {

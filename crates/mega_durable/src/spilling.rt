@@ -17,6 +17,7 @@ use crate::fault::UpFault;
 use crate::up::Up;
 use mega_base::{GroupId, Items, NoMemory, Position};
 use mega_core::StepFault;
+use mega_core::mega_step_parts::is_to_spill;
 use mega_disk::{Records, StoreError, Versions};
 use mega_replica::StoredRows;
 use mega_voter::Voter;
@@ -113,7 +114,7 @@ pub(crate) fn spilled<R: Records, V: Versions>(
     ensures bad { (n : ℕ) → result ≡ Err (StoreError.BadRecord n) → V.is_bad rows.old.rows n }
     ensures used { SpillUsed V.Versions (result_err result) rows.old.rows rows.new.rows }
 {
-    if !rows.rows.full() {
+    if !is_to_spill(rows) {
         return Ok(());
     }
     match spill_all(alloc, voter, rows) {

@@ -4,7 +4,7 @@ use Rattle.mega_base.specs.Reading.{Place, place, Read, ◌>>=◌}
 use Rattle.mega_base.specs.Faults.{Reads}
 use Rattle.mega_base.specs.declared.fault.FieldFault.{FieldFault}
 use Rattle.mega_base.specs.declared.fault.FieldFault.TheVariants.{Malformed, NoMemory}
-use Rattle.mega_base.proofs.Loops.{with_front, begins_any}
+use Rattle.mega_base.proofs.Loops.{with_front}
 use Rattle.mega_entry.specs.Entries.{cut_in, least_part, cuts_of, IsCutIn}
 use Rattle.mega_entry.specs.EntryLaws.{cut_codec, least_part-le}
 use Rattle.mega_entry.specs.declared.content.Cut.{Cut}
@@ -13,9 +13,6 @@ use Rattle.mega_entry.specs.declared.content.Cut.{Cut}
 pub record Coming (k low writes sends : ℕ) (cuts : List Cut) (p : Place) (whole : Read (List Cut)) : Type 0 where
   pub read : with_front cuts (cuts_of k low writes sends p) ≡ whole
   pub room : low + k ≤ 16
-
-pub cuts_begin : (k low writes sends : ℕ) (p : Place) → low + k ≤ 16 → Coming k low writes sends [] p (cuts_of k low writes sends p)
-cuts_begin k low writes sends p h = record { read = begins_any (cuts_of k low writes sends p); room = h }
 
 goes_on : (k low writes sends : ℕ) (front : List Cut) (p : Place) (x : Cut) (q : Place) → cut_in low (15 - k) (least_part k writes) writes (least_part k sends) sends p ≡ Ok (x, q)
     → with_front front (cuts_of (suc k) low writes sends p) ≡ with_front (front ++ x ∷ []) (cuts_of k (x.index + 1) (writes - x.writes) (sends - x.sends) q)

@@ -14,14 +14,14 @@ use Rattle.mega_wire.specs.declared.message.Body.TheVariants.{Accepted, Promise}
 use Rattle.mega_wire.specs.Messages.{IsBody}
 use Rattle.mega_wal.specs.Acceptor.{Act, Promised, Vote, Voted, best, greater_ballot, greater_vote, is_ballot_below, shown}
 use Rattle.mega_wal.specs.Same.{same_group}
-use Rattle.mega_voter.specs.of_rules.Met.{Met, Starts, Ticks, Sends, Unsends, Decides}
+use Rattle.mega_voter.specs.of_rules.Met.{Met, Starts, Sends, Unsends, Decides}
 use Rattle.mega_voter.specs.of_rules.Members.{full_nodes, is_full, is_voter, nodes, voters}
-use Rattle.mega_voter.specs.of_rules.Clock.{clock_of, start_of}
+use Rattle.mega_voter.specs.of_rules.Clock.{start_of}
 use Rattle.mega_voter.specs.of_rules.Voting.{act_if, act_in, act_made, acts, made_of}
 use Rattle.mega_voter.specs.of_rules.Logs.{accepted_at, decided, decided_from, first_of, groups_of, is_group_before, log_of, newest_of, prefix_of, then_more, top_of, with_group}
 use Rattle.mega_format_laws.specs.Rounds.{Each, IsMember, IsPlace, IsShort, IsVote}
 use Rattle.mega_format_laws.specs.Reads.{IsTop}
-use Rattle.mega_format_laws.specs.Histories.{IsClock, IsCluster, IsItem, IsMet}
+use Rattle.mega_format_laws.specs.Histories.{IsCluster, IsItem, IsMet}
 use Rattle.mega_format_laws.proofs.Each.{each_filter, each_numbered, either}
 use Rattle.mega_format_laws.proofs.Rounds.{zero_is_ballot}
 
@@ -42,12 +42,6 @@ pub start_formed : (met : List Met) → IsMet met → IsU32 (start_of met)
 start_formed [] h = (omega arith, omega arith)
 start_formed (Starts start ∷ before) h = h.0
 start_formed (_ ∷ before) h = start_formed before h.1
-
-pub clock_formed : (met : List Met) → IsMet met → IsClock (clock_of met)
-clock_formed [] h = (omega arith, omega arith)
-clock_formed (Starts start ∷ before) h = (omega arith, omega arith)
-clock_formed (Ticks now ∷ before) h = h.0
-clock_formed (_ ∷ before) h = clock_formed before h.1
 
 -- ---- the entries that are decided, and their positions
 

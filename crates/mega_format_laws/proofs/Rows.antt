@@ -50,9 +50,6 @@ pub after_rows : (log : List Content) (rows : Rows) → Each IsShort log → Are
 after_rows [] rows e h = h
 after_rows (entry ∷ log) rows e h = after_rows log (written entry.writes rows) e.1 (written_rows entry.writes rows (writes_of entry e.0) h)
 
-abbrev IsOne : List ℕ × Row → Type 0
-IsOne one = IsSpelledRow one.1
-
 insert_listed : (es : Listed) (k : List ℕ) (v : Row) → AreListed es → IsSpelledRow v → AreListed (insert_entry key_cmp es k v)
 insert_listed [] k v h r = (r, tt)
 insert_listed (e ∷ es) k v h r = go (key_cmp k e.0) (insert_listed es k v h.1 r)

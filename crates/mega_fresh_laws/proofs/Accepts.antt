@@ -17,7 +17,7 @@ use Rattle.mega_leased_laws.specs.of_settled_laws.of_run_laws.of_tape_laws.of_pr
 use Rattle.mega_leased_laws.specs.of_settled_laws.of_run_laws.of_tape_laws.of_promises.of_rules.of_read.of_propose.declared.round.Round.TheVariants.{Asking, Preparing, Accepting, Covering, Settled, Waiting}
 use Rattle.mega_leased_laws.specs.of_settled_laws.of_run_laws.of_tape_laws.of_promises.of_rules.of_read.of_propose.declared.round.Proposal.{Proposal}
 use Rattle.mega_leased_laws.specs.of_settled_laws.of_run_laws.of_tape_laws.of_promises.of_rules.of_read.of_propose.declared.round.Move.{Move as RoundMove}
-use Rattle.mega_leased_laws.specs.of_settled_laws.of_run_laws.of_tape_laws.of_promises.of_rules.of_read.of_propose.Rounds.{accept_to, accepted, asks, cell_numbers, completes, dead_to, due, greatest_vote, invalidate_to, invalidated, is_due, is_here, is_sent, last_round, next_ballot, picked, prepare_to, prepares, presses, promised, proposes, refused, same_ballot, takes, uncovered, unheld, vote_round}
+use Rattle.mega_leased_laws.specs.of_settled_laws.of_run_laws.of_tape_laws.of_promises.of_rules.of_read.of_propose.Rounds.{accept_to, accepted, cell_numbers, completes, dead_to, due, greatest_vote, invalidate_to, invalidated, is_due, is_here, is_sent, last_round, next_ballot, picked, prepare_to, prepares, presses, promised, proposes, refused, same_ballot, takes, uncovered, unheld, vote_round}
 use Rattle.mega_leased_laws.specs.of_settled_laws.of_run_laws.of_tape_laws.of_promises.of_rules.of_read.declared.reading.Reader.{Reader}
 use Rattle.mega_leased_laws.specs.of_settled_laws.of_run_laws.of_tape_laws.of_promises.of_rules.of_read.declared.reading.Search.{Search}
 use Rattle.mega_leased_laws.specs.of_settled_laws.of_run_laws.of_tape_laws.of_promises.of_rules.of_read.declared.reading.Search.TheVariants.{Fetching, Filling}
@@ -25,7 +25,7 @@ use Rattle.mega_leased_laws.specs.of_settled_laws.of_run_laws.of_tape_laws.of_pr
 use Rattle.mega_leased_laws.specs.of_settled_laws.of_run_laws.of_tape_laws.of_promises.of_rules.of_read.declared.reading.Stage.TheVariants.{Polling, Catching}
 use Rattle.mega_leased_laws.specs.of_settled_laws.of_run_laws.of_tape_laws.of_promises.of_rules.of_read.declared.reading.Reading.{Reading}
 use Rattle.mega_leased_laws.specs.of_settled_laws.of_run_laws.of_tape_laws.of_promises.of_rules.of_read.declared.reading.Move.{Move as ReadMove}
-use Rattle.mega_leased_laws.specs.of_settled_laws.of_run_laws.of_tape_laws.of_promises.of_rules.of_read.Catching.{asked_by, denied, falls_due, fetch_to, fetches, fills, hears, helpers, is_position, local_read, move, no_op, polled_read, searched, seeks, site, topped, where_to}
+use Rattle.mega_leased_laws.specs.of_settled_laws.of_run_laws.of_tape_laws.of_promises.of_rules.of_read.Catching.{asked_by, denied, falls_due, fetch_to, fetches, fills, hears, helpers, is_position, move, no_op, polled_read, searched, seeks, site, topped, where_to}
 use Rattle.mega_leased_laws.specs.of_settled_laws.of_run_laws.Justified.{Each}
 use Rattle.mega_leased_laws.proofs.of_settled_laws.of_run_laws.Events.{each_append as each_both}
 
@@ -86,9 +86,6 @@ module _ (s : Site) (own : Content) where
   either : (t : Bool) (one other : RoundMove) → Each Ends one.sends → Each Ends other.sends → Each Ends (cond t one other).sends
   either true one other h k = h
   either false one other h k = k
-
-  pub asks_zero : (leader now : ℕ) → Each Ends (asks s leader own now).sends
-  asks_zero leader now = ((λ is. ((refl, refl), (refl, refl))), tt)
 
   prepares_ends : (p : Proposal) (now : ℕ) → Each Ends (prepares s p now).sends
   prepares_ends p now = either (nat_le last_round p.seen) _ _ tt (to_each Ends (prepare_to s (next_ballot s p)) (λ n. tt) s.voters)
@@ -200,9 +197,6 @@ module _ (who : Reader) where
   read_either : (t : Bool) (one other : ReadMove) → Each ReadEnds one.sends → Each ReadEnds other.sends → Each ReadEnds (cond t one other).sends
   read_either true one other h k = h
   read_either false one other h k = k
-
-  pub local_never : (asked : List ℕ) (top : ℕ) → Each ReadEnds (local_read asked top).sends
-  local_never asked top = tt
 
   pub polled_never : (noted : Option Epoch) (asked : List ℕ) (now : ℕ) → Each ReadEnds (polled_read who noted asked now).sends
   polled_never noted asked now = to_each ReadEnds (where_to who) (λ n. tt) who.voters

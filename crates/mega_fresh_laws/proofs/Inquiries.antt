@@ -218,9 +218,3 @@ offers_inquired c op group n k ms tape offers heard law = comes c (Offers op gro
     by from (Where asking g) t of h = absurd of
     by from (Accept o g m b e) t of h = λ zero id. let at = of zero id in coe 1 0 (i. HasHeard c t (at.0 i) ((at.1).0 i) (((at.1).1 i) - 1)) h
     by from _ t of h = tt
-
--- what is allowed on a tape is so on one beside it
-pub inquired_beside : (c : Cluster) (old new : List Item) → ((x : OpId) → Beside x old new) → (from : ℕ) (body : Body) → IsInquiredBody c old from body → IsInquiredBody c new from body
-inquired_beside c old new beside from (Where op group) h = (h.0, (beside op).unoffered h.1)
-inquired_beside c old new beside from (Accept op group n b e) h = λ zero id. heard_stood c old new op group (n.0 - 1) (beside op).stood (λ none. (beside op).polled group none) (h zero id)
-inquired_beside c old new beside from _ h = tt

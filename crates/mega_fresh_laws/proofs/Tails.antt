@@ -68,10 +68,6 @@ module _ (c : Cluster) (group : GroupId) where
     pub among : In (Validates one position) notes
     pub same : same_group one group ≡ true
 
-  first_of : (a b : Bool) → (a && b) ≡ true → a ≡ true
-  first_of true b h = refl
-  first_of false b h = cc
-
   validates_or : (g : GroupId) (p : ℕ) (met : List Met) → Holds (Validates g p ∷ met) → (is_group g group ≡ true) ⊎ Holds met
   validates_or g p met h = by (serving (start_of met) c.cells (coordinator_calls c met)) h
     where

@@ -1,5 +1,5 @@
 -- A page that is filled with one list of lines and then with another.
-use Rattle.std.proofs.Common.{◌≡◌, ℕ, zero, suc, ◌+◌, ◌-◌, ◌<◌, List, [], ◌∷◌, ◌++◌, length, take, refl, sym, ap, ◌∙◌, arith, append_assoc, append-nil, length-append, Option, None}
+use Rattle.std.proofs.Common.{◌≡◌, ℕ, zero, suc, ◌+◌, ◌-◌, ◌<◌, List, [], ◌∷◌, ◌++◌, length, take, refl, sym, ap, ◌∙◌, arith, append_assoc, length-append, Option, None}
 use Rattle.std.proofs.lemmas.Grind.{flat_map-append}
 use Rattle.mega_gen.specs.declared.page.Page.{Page}
 use Rattle.mega_gen.specs.Lines.{tick_line, drain_line}
@@ -22,17 +22,6 @@ fill_more page xs ys =
     ∙ ap (λ t. page.bytes ++ t) (sym (text_both (take page.left xs) (take (page.left - length xs) ys)) ∙ ap text_of (sym (take_both page.left xs ys))) in
     let left : page.left - length xs - length ys ≡ page.left - length (xs ++ ys) = omega (arith, length-append xs ys) in
     λ i. record { bytes = bytes i; left = left i }
-
-pub fill_none : (page : Page) → fill page [] ≡ page
-fill_none page =
-    let none : text_of (take page.left []) ≡ [] = ap text_of (nothing page.left) in
-    let bytes : page.bytes ++ text_of (take page.left []) ≡ page.bytes = ap (λ t. page.bytes ++ t) none ∙ append-nil page.bytes in
-    let left : page.left - 0 ≡ page.left = omega arith in
-    λ i. record { bytes = bytes i; left = left i }
-  where
-    nothing : (n : ℕ) → take {A = List ℕ} n [] ≡ []
-    nothing zero = refl
-    nothing (suc n) = refl
 
 -- one line more, where one is left to be added
 pub ticks_more : (now node left : ℕ) → 0 < left → ticks now node left ≡ tick_line node now ∷ ticks now (node + 1) (left - 1)

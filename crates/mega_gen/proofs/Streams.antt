@@ -52,10 +52,6 @@ block_first (suc left) nodes now state lt =
 pub less_left : (left nodes now state : ℕ) → 0 < left → left - length (block nodes now state) < left
 less_left left nodes now state lt = omega (arith, lt, block_some nodes now state)
 
-pub none_left : (left nodes now state : ℕ) → left ≡ 0 → to_write left nodes now state ≡ []
-none_left zero nodes now state e = refl
-none_left (suc left) nodes now state e = absurd (omega (arith, e))
-
 -- ---- how far a text was written
 shorter : {A : Type 0} (k : ℕ) (xs : List A) → take (min k (length xs)) xs ≡ take k xs
 shorter zero [] = refl

@@ -24,18 +24,8 @@ breaks_six least input lines (Some schedule) whole front = read_long least (text
 long_breaks : (least : ℕ) (input : List ℕ) → 262144 < length input → 262144 < length (text_before (lines_of input)) → cluster_in least input ≡ Err 6
 long_breaks least input whole front = breaks_six least input (lines_of input) (lines_behind (lines_of input)) whole front
 
-longer : (text rest : List ℕ) → 262144 < length text → 262144 < length (text ++ rest)
-longer text rest long = omega (arith, long, length-append text rest)
-
 longer_rest : (text rest : List ℕ) → 262144 < length rest → 262144 < length (text ++ rest)
 longer_rest text rest long = omega (arith, long, length-append text rest)
-
-pub front_long : (least : ℕ) (first left : Option (List ℕ)) (text : List ℕ) → HasFront first left text → 262144 < length text → Breaks least first 6
-front_long least None left text front long = tt
-front_long least (Some first) None text front long = absurd front
-front_long least (Some first) (Some left) text front long =
-    long_breaks least first (subst (λ (all : List ℕ). 262144 < length all) (sym front.0) (longer text left long))
-    (subst (λ (all : List ℕ). 262144 < length all) (sym front.1) (longer text (text_before (lines_of left)) long))
 
 -- the line `---` is short
 mark_short : (line : List ℕ) → 4 < length line → is_mark line ≡ false
@@ -152,27 +142,6 @@ long_part least (Some old) (Some new) line text reads (Some first) front =
     (subst (λ (all : List ℕ). 262144 < length all) (sym front.1) (longer_rest text (text_before (lines_of old)) some))
 
 -- ---- the whole
-
-pub nothing_read : (first : Option (List ℕ)) (text : List ℕ) → text ≡ [] → HasFront first first text
-nothing_read None text none = tt
-nothing_read (Some first) text none =
-    (ap (λ (front : List ℕ). front ++ first) (sym none), ap (λ (front : List ℕ). front ++ text_before (lines_of first)) (sym none), refl, subst IsOfHeader (sym none) (λ more. (refl, refl)))
-
--- the text of the header is what was read of it
-header_is : (first : List ℕ) (behind : Option (List (List ℕ))) (text : List ℕ) (left : List (List ℕ)) → text_before (lines_of first) ≡ text → behind ≡ Some left → header_before first (lines_of first) behind ≡ text
-header_is first None text left is marked = absurd (let none : ◌≡◌ {A = Option (List (List ℕ))} None (Some left) = marked in cc)
-header_is first (Some behind) text left is marked = is
-
-pub header_breaks : (least : ℕ) (first left : Option (List ℕ)) (text : List ℕ) (rule : ℕ) → HasHeader first left text → read_of least text ≡ Err rule → Breaks least first rule
-header_breaks least None left text rule header reads = tt
-header_breaks least (Some first) None text rule header reads = absurd header
-header_breaks least (Some first) (Some left) text rule header reads =
-    ap (read_of least) (header_is first (lines_behind (lines_of first)) text (lines_of left) header.0.0 header.0.1) ∙ reads
-
-pub all_breaks : (least : ℕ) (first : Option (List ℕ)) (text : List ℕ) (rule : ℕ) → HasNoMark first text → read_of least text ≡ Err rule → Breaks least first rule
-all_breaks least None text rule none reads = tt
-all_breaks least (Some first) text rule none reads =
-    ap (λ (behind : Option (List (List ℕ))). read_of least (header_before first (lines_of first) behind)) none.1 ∙ ap (read_of least) none.0 ∙ reads
 
 -- the source failed before the line `---`
 pub header_fails : (first now left : Option (List ℕ)) (text line waiting : List ℕ) → HasFront first now text → BreaksOff now waiting left line → HeaderFails first left

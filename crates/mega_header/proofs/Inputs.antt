@@ -4,7 +4,7 @@ use Rattle.std.proofs.lemmas.Bool.Decides.{nat_tests}
 use Rattle.std.proofs.lemmas.List.Elements.{All-head, All-tail}
 use Rattle.mega_io.specs.declared.lines.Ended.TheVariants.{Feed, Input}
 use Rattle.mega_io.specs.TextLines.{IsUnbroken, ReadsLine, close_line, ended_after, ended_lines, lines_after, lines_of}
-use Rattle.mega_header.specs.Known.{Ends, Follows}
+use Rattle.mega_header.specs.Known.{Follows}
 
 pub other_byte : (byte : ℕ) → byte ≢ 10 → (byte == 10) ≡ false
 other_byte byte other = grind (arith, nat_tests)
@@ -63,11 +63,6 @@ last_follows None new line most reads some = tt
 last_follows (Some old) None line most reads some = reads.0
 last_follows (Some old) (Some new) line most reads some =
     (ap lines_of reads.0 ∙ lines_on [] line new reads.2 ∙ ap (lines_after line) reads.1 ∙ close_line-some line some ∙ ap (λ rest. line ∷ lines_of rest) (sym reads.1), (line, reads.0, inr reads.1))
-
-pub nothing_left : (old new : Option (List ℕ)) (line : List ℕ) (most : ℕ) → ReadsLine most old new line Input → line ≡ [] → Ends old
-nothing_left None new line most reads none = tt
-nothing_left (Some old) None line most reads none = absurd reads.0
-nothing_left (Some old) (Some new) line most reads none = ap lines_of (reads.0 ∙ ap (λ xs. xs ++ new) none ∙ reads.1)
 
 -- the first line of an input of which more was read than this
 pub long_line : (most : ℕ) (old : List ℕ) (line more new : List ℕ) → old ≡ (line ++ more) ++ new → IsUnbroken line → most < length line

@@ -5,6 +5,7 @@ use Rattle.std.specs.Ordering.{is_eq}
 use Rattle.std.specs.List.{list_any, list_all}
 use Rattle.std.specs.Map.{lookup}
 use Rattle.std.specs.BTreeMap.{get}
+use Rattle.std.proofs.lemmas.Bool.{and_parts, and_from, or_right}
 use Rattle.mega_base.specs.declared.values.Row.{Row}
 use Rattle.mega_schema.specs.declared.schema.Schema.{Schema}
 use Rattle.mega_index.specs.declared.hints.Place.{Place}
@@ -14,7 +15,8 @@ use Rattle.mega_index.specs.Marks.{Marks, held_rows}
 use Rattle.mega_index.specs.Hints.{Hints, is_place, is_among, is_hinted, global_keys, row_is_hinted, rows_are_hinted, all_hinted}
 use Rattle.mega_index.specs.Keeping.{marks_in}
 use Rattle.mega_index.specs.Forgetting.{is_row_of, are_only, DropsHint, keys_of_row, Spares, OnlyRow, OnlyRows, row_in}
-use Rattle.mega_index.proofs.Ordered.{Below, Ascends, by_test, both_true, true_both}
+use Rattle.mega_index.proofs.KeyLists.{same_self}
+use Rattle.mega_index.proofs.Ordered.{Below, Ascends, by_test}
 use Rattle.mega_row_writes.proofs.Turning.{same_key-Decides}
 
 true-false : {P : Type 0} (b : Bool) → b ≡ true → b ≡ false → P
@@ -27,12 +29,12 @@ true-false b t f = absurd (differ (sym t ∙ f))
 one_place : (group key g k : List ℕ) (places : List Place) → list_all (is_place group key) places ≡ true → list_any (is_place g k) places ≡ true → is_row_of group key g k ≡ true
 one_place group key g k [] all any = cc
 one_place group key g k (p ∷ ps) all any =
-    let parts : (is_place group key p ≡ true) × (list_all (is_place group key) ps ≡ true) = both_true (is_place group key p) (list_all (is_place group key) ps) all in
+    let parts : (is_place group key p ≡ true) × (list_all (is_place group key) ps ≡ true) = and_parts (is_place group key p) (list_all (is_place group key) ps) all in
     by_test (is_place g k p) _
     (λ here.
-    let a : (same_key group p.group ≡ true) × (same_key key p.key ≡ true) = both_true (same_key group p.group) (same_key key p.key) parts.0 in
-    let b : (same_key g p.group ≡ true) × (same_key k p.key ≡ true) = both_true (same_key g p.group) (same_key k p.key) here in
-    true_both (same_key g group) (same_key k key)
+    let a : (same_key group p.group ≡ true) × (same_key key p.key ≡ true) = and_parts (same_key group p.group) (same_key key p.key) parts.0 in
+    let b : (same_key g p.group ≡ true) × (same_key k p.key ≡ true) = and_parts (same_key g p.group) (same_key k p.key) here in
+    and_from (same_key g group) (same_key k key)
     ((same_key-Decides g group).1 ((same_key-Decides g p.group).0 b.0 ∙ sym ((same_key-Decides group p.group).0 a.0)))
     ((same_key-Decides k key).1 ((same_key-Decides k p.key).0 b.1 ∙ sym ((same_key-Decides key p.key).0 a.1))))
     (λ other. one_place group key g k ps parts.1 (sym (ap (λ b. b || list_any (is_place g k) ps) other) ∙ any))
@@ -48,7 +50,7 @@ dropped old new entry group key only updated e g k among other =
     by_test (same_key entry e) (is_hinted new e g k ≡ true)
     (λ same.
     let here : is_row_of group key g k ≡ true = only_place group key g k (get key_cmp old entry) only (ap (λ q. is_among g k (get key_cmp old q)) ((same_key-Decides entry e).0 same) ∙ among) in
-    true-false (same_key entry e && is_row_of group key g k) (true_both (same_key entry e) (is_row_of group key g k) same here) other)
+    true-false (same_key entry e && is_row_of group key g k) (and_from (same_key entry e) (is_row_of group key g k) same here) other)
     (λ apart. ap (is_among g k) (updated e ∙ ap (λ b. cond b None (get key_cmp old e)) apart) ∙ among)
 
 -- a hint of an entry that is not among these keys may be let go
@@ -59,33 +61,20 @@ spared entry group key keys old new gone drops e g k among spare =
     by : (b : Bool) → (same_key entry e && is_row_of group key g k) ≡ b → (same_key entry e && is_row_of group key g k) ≡ false
     by false h = h
     by true h =
-        let parts : (same_key entry e ≡ true) × (is_row_of group key g k ≡ true) = both_true (same_key entry e) (is_row_of group key g k) h in
+        let parts : (same_key entry e ≡ true) × (is_row_of group key g k ≡ true) = and_parts (same_key entry e) (is_row_of group key g k) h in
         true-false (list_any (same_key entry) keys) (ap (λ q. list_any (same_key q) keys) ((same_key-Decides entry e).0 parts.0) ∙ spare parts.1) gone
-
-pub spares_on : (group key : List ℕ) (keys : List (List ℕ)) (a b d : Hints) → Spares group key keys a b → Spares group key keys b d → Spares group key keys a d
-spares_on group key keys a b d first second e g k among spare = second e g k (first e g k among spare) spare
-
-pub spares_same : (group key : List ℕ) (keys : List (List ℕ)) (a : Hints) → Spares group key keys a a
-spares_same group key keys a e g k among spare = among
-
-same-same : (k : List ℕ) → same_key k k ≡ true
-same-same k = (same_key-Decides k k).1 refl
 
 turn : (a b : List ℕ) → same_key a b ≡ true → same_key b a ≡ true
 turn a b h = (same_key-Decides b a).1 (sym ((same_key-Decides a b).0 h))
-
-or_right : (a b : Bool) → b ≡ true → (a || b) ≡ true
-or_right true b h = refl
-or_right false b h = h
 
 -- what holds of all keys and implies another of each of them
 all_within : (keys : List (List ℕ)) (p q : List ℕ → Bool) → list_all p keys ≡ true
     → ((x : List ℕ) → list_any (same_key x) keys ≡ true → p x ≡ true → q x ≡ true) → list_all q keys ≡ true
 all_within [] p q all imply = refl
 all_within (k ∷ ks) p q all imply =
-    let parts : (p k ≡ true) × (list_all p ks ≡ true) = both_true (p k) (list_all p ks) all in
-    true_both (q k) (list_all q ks)
-    (imply k (ap (λ b. b || list_any (same_key k) ks) (same-same k)) parts.0)
+    let parts : (p k ≡ true) × (list_all p ks ≡ true) = and_parts (p k) (list_all p ks) all in
+    and_from (q k) (list_all q ks)
+    (imply k (ap (λ b. b || list_any (same_key k) ks) (same_self k)) parts.0)
     (all_within ks p q parts.1 (λ x h. imply x (or_right (same_key x k) (list_any (same_key x) ks) h)))
 
 row_spared : (s : Schema) (old new : Hints) (group key g : List ℕ) (now : Option Row) (e : List ℕ × Row) → Spares group key (keys_of_row s key now) old new
@@ -95,7 +84,7 @@ row_spared s old new group key g now e spares only hinted =
     (λ entry own among.
     spares entry g e.0 among
     (λ here.
-    let parts : (same_key g group ≡ true) × (same_key e.0 key ≡ true) = both_true (same_key g group) (same_key e.0 key) here in
+    let parts : (same_key g group ≡ true) × (same_key e.0 key ≡ true) = and_parts (same_key g group) (same_key e.0 key) here in
     let is : Some e.1 ≡ now = only (turn g group parts.0) (turn e.0 key parts.1) in
     ap (λ o. list_any (same_key entry) (keys_of_row s key o)) (sym is)
     ∙ ap (λ k. list_any (same_key entry) (global_keys s k e.1)) (sym ((same_key-Decides e.0 key).0 parts.1)) ∙ own))
@@ -104,8 +93,8 @@ rows_spared : (s : Schema) (old new : Hints) (group key g : List ℕ) (now : Opt
     → (same_key group g ≡ true → OnlyRow key now rows) → rows_are_hinted s old g rows ≡ true → rows_are_hinted s new g rows ≡ true
 rows_spared s old new group key g now [] spares only hinted = refl
 rows_spared s old new group key g now (e ∷ rows) spares only hinted =
-    let parts : (row_is_hinted s old g e ≡ true) × (rows_are_hinted s old g rows ≡ true) = both_true (row_is_hinted s old g e) (rows_are_hinted s old g rows) hinted in
-    true_both (row_is_hinted s new g e) (rows_are_hinted s new g rows)
+    let parts : (row_is_hinted s old g e ≡ true) × (rows_are_hinted s old g rows ≡ true) = and_parts (row_is_hinted s old g e) (rows_are_hinted s old g rows) hinted in
+    and_from (row_is_hinted s new g e) (rows_are_hinted s new g rows)
     (row_spared s old new group key g now e spares (λ here. (only here).0) parts.0)
     (rows_spared s old new group key g now rows spares (λ here. (only here).1) parts.1)
 
@@ -113,8 +102,8 @@ pub all_spared : (s : Schema) (old new : Hints) (group key : List ℕ) (now : Op
     → OnlyRows group key now marks → all_hinted s old marks ≡ true → all_hinted s new marks ≡ true
 all_spared s old new group key now [] spares only hinted = refl
 all_spared s old new group key now (m ∷ marks) spares only hinted =
-    let parts : (rows_are_hinted s old m.0 m.1.rows ≡ true) × (all_hinted s old marks ≡ true) = both_true (rows_are_hinted s old m.0 m.1.rows) (all_hinted s old marks) hinted in
-    true_both (rows_are_hinted s new m.0 m.1.rows) (all_hinted s new marks)
+    let parts : (rows_are_hinted s old m.0 m.1.rows ≡ true) × (all_hinted s old marks ≡ true) = and_parts (rows_are_hinted s old m.0 m.1.rows) (all_hinted s old marks) hinted in
+    and_from (rows_are_hinted s new m.0 m.1.rows) (all_hinted s new marks)
     (rows_spared s old new group key m.0 now m.1.rows spares only.0 parts.0)
     (all_spared s old new group key now marks spares only.1 parts.1)
 

@@ -22,10 +22,11 @@ use Rattle.mega_keys.specs.Fit.{misplaced}
 use Rattle.mega_index.specs.Keeping.{values_in}
 use Rattle.mega_keys.specs.Spelling.{spell_all, index_bytes}
 use Rattle.std.proofs.lemmas.Bool.Decides.{nat_tests}
+use Rattle.std.proofs.lemmas.Bool.{and_parts}
 use Rattle.mega_index.specs.Marks.{Marks, rows_marked}
 use Rattle.mega_index.specs.Hints.{Hints, table_keys, row_keys, global_keys, global_keys_of, global_keys_in, is_hinted, row_is_hinted, rows_are_hinted, all_hinted}
 use Rattle.mega_index.specs.Wanted.{Wanted, is_wanted, begins, front_keys, with_front, with_front_in, with_fronts, all_wanted}
-use Rattle.mega_index.proofs.Ordered.{Below, Ascends, insert-ascends, insert-front, by_order, by_test, both_true, equal_keys, below-trans}
+use Rattle.mega_index.proofs.Ordered.{Below, Ascends, insert-ascends, insert-front, by_order, by_test, equal_keys, below-trans}
 use Rattle.mega_index.proofs.Wanting.{below-filter}
 
 abbrev Es : Type 0
@@ -147,7 +148,7 @@ none_begin : (front g k : List ℕ) (hints : Hints) (keys : List (List ℕ)) →
     → ((entry : List ℕ) → is_hinted hints entry g k ≡ true → begins front entry ≡ true → ⊥) → filter (begins front) keys ≡ []
 none_begin front g k hints [] all none = refl
 none_begin front g k hints (entry ∷ keys) all none =
-    let parts : (is_hinted hints entry g k ≡ true) × (list_all (λ entry. is_hinted hints entry g k) keys ≡ true) = both_true (is_hinted hints entry g k) (list_all (λ entry. is_hinted hints entry g k) keys) all in
+    let parts : (is_hinted hints entry g k ≡ true) × (list_all (λ entry. is_hinted hints entry g k) keys ≡ true) = and_parts (is_hinted hints entry g k) (list_all (λ entry. is_hinted hints entry g k) keys) all in
     by_test (begins front entry) _
     (λ begin. absurd (none entry parts.0 begin))
     (λ other. ap (λ b. cond b (entry ∷ filter (begins front) keys) (filter (begins front) keys)) other ∙ none_begin front g k hints keys parts.1 none)
@@ -163,13 +164,13 @@ one_index : (p : List ℕ → Bool) (s : Schema) (xs : List Index) (m i : ℕ) (
 one_index p s [] m i x k row there global all = cc
 one_index p s (y ∷ ys) m zero x k row there global all =
     let parts : (list_all p (global_keys_of s m y k row) ≡ true) × (list_all p (global_keys_in s (m + 1) ys k row) ≡ true) =
-    both_true (list_all p (global_keys_of s m y k row)) (list_all p (global_keys_in s (m + 1) ys k row)) (sym (list_all-append p (global_keys_of s m y k row) (global_keys_in s (m + 1) ys k row)) ∙ all) in
+    and_parts (list_all p (global_keys_of s m y k row)) (list_all p (global_keys_in s (m + 1) ys k row)) (sym (list_all-append p (global_keys_of s m y k row) (global_keys_in s (m + 1) ys k row)) ∙ all) in
     let same : y ≡ x = cc in
     let count : m + zero ≡ m = omega arith in
     ap (λ n. list_all p (row_keys s n x k row)) count ∙ here_index p s m x k row x.global global (ap (λ (y : Index). list_all p (global_keys_of s m y k row)) (sym same) ∙ parts.0)
 one_index p s (y ∷ ys) m (suc i) x k row there global all =
     let parts : (list_all p (global_keys_of s m y k row) ≡ true) × (list_all p (global_keys_in s (m + 1) ys k row) ≡ true) =
-    both_true (list_all p (global_keys_of s m y k row)) (list_all p (global_keys_in s (m + 1) ys k row)) (sym (list_all-append p (global_keys_of s m y k row) (global_keys_in s (m + 1) ys k row)) ∙ all) in
+    and_parts (list_all p (global_keys_of s m y k row)) (list_all p (global_keys_in s (m + 1) ys k row)) (sym (list_all-append p (global_keys_of s m y k row) (global_keys_in s (m + 1) ys k row)) ∙ all) in
     let count : m + suc i ≡ (m + 1) + i = omega arith in
     ap (λ n. list_all p (row_keys s n x k row)) count ∙ one_index p s ys (m + 1) i x k row there global parts.1
 
@@ -212,7 +213,7 @@ group_adds : (front : List ℕ) (s : Schema) (n : ℕ) (x : Index) (hints : Hint
     → with_fronts front s n x es (filter (λ (e : List ℕ × Row). is_wanted wanted g e.0) rows) ≡ with_fronts front s n x es rows
 group_adds front s n x hints wanted g [] es there global covered hinted = refl
 group_adds front s n x hints wanted g (e ∷ rows) es there global covered hinted =
-    let parts : (row_is_hinted s hints g e ≡ true) × (rows_are_hinted s hints g rows ≡ true) = both_true (row_is_hinted s hints g e) (rows_are_hinted s hints g rows) hinted in
+    let parts : (row_is_hinted s hints g e ≡ true) × (rows_are_hinted s hints g rows ≡ true) = and_parts (row_is_hinted s hints g e) (rows_are_hinted s hints g rows) hinted in
     by_test (is_wanted wanted g e.0) _
     (λ yes. ap (λ b. with_fronts front s n x es (cond b (e ∷ filter (λ (e : List ℕ × Row). is_wanted wanted g e.0) rows) (filter (λ (e : List ℕ × Row). is_wanted wanted g e.0) rows))) yes
     ∙ group_adds front s n x hints wanted g rows (with_front front s n x es e) there global covered parts.1)
@@ -229,7 +230,7 @@ wanted_add : (front : List ℕ) (s : Schema) (n : ℕ) (x : Index) (hints : Hint
     → with_fronts front s n x es (all_wanted wanted marks) ≡ with_fronts front s n x es (rows_marked marks)
 wanted_add front s n x hints wanted [] es there global covered hinted = refl
 wanted_add front s n x hints wanted (m ∷ marks) es there global covered hinted =
-    let parts : (rows_are_hinted s hints m.0 m.1.rows ≡ true) × (all_hinted s hints marks ≡ true) = both_true (rows_are_hinted s hints m.0 m.1.rows) (all_hinted s hints marks) hinted in
+    let parts : (rows_are_hinted s hints m.0 m.1.rows ≡ true) × (all_hinted s hints marks ≡ true) = and_parts (rows_are_hinted s hints m.0 m.1.rows) (all_hinted s hints marks) hinted in
     fronts-append front s n x es (filter (λ (e : List ℕ × Row). is_wanted wanted m.0 e.0) m.1.rows) (all_wanted wanted marks)
     ∙ ap (λ es. with_fronts front s n x es (all_wanted wanted marks)) (group_adds front s n x hints wanted m.0 m.1.rows es there global covered parts.0)
     ∙ wanted_add front s n x hints wanted marks (with_fronts front s n x es m.1.rows) there global covered parts.1
@@ -247,7 +248,7 @@ as_long : (front k : List ℕ) → begins front k ≡ true → length front ≤ 
 as_long [] k h = omega arith
 as_long (f ∷ fs) [] h = cc
 as_long (f ∷ fs) (x ∷ xs) h =
-    let parts : (nat_eq f x ≡ true) × (begins fs xs ≡ true) = both_true (nat_eq f x) (begins fs xs) h in
+    let parts : (nat_eq f x ≡ true) × (begins fs xs ≡ true) = and_parts (nat_eq f x) (begins fs xs) h in
     let rest : length fs ≤ length xs = as_long fs xs parts.1 in
     omega arith
 

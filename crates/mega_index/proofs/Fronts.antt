@@ -4,9 +4,10 @@ use Rattle.std.specs.Prelude.{nat_eq}
 use Rattle.std.specs.declared.cmp.Ordering.TheVariants.{Less, Equal, Greater}
 use Rattle.std.specs.Ordering.{is_le, nat_cmp, ordering_then}
 use Rattle.std.proofs.lemmas.Bool.Decides.{nat_tests}
+use Rattle.std.proofs.lemmas.Bool.{and_parts, and_from}
 use Rattle.mega_row_writes.specs.Rows.{key_cmp}
 use Rattle.mega_index.specs.Wanted.{begins}
-use Rattle.mega_index.proofs.Ordered.{by_order, both_true, true_both}
+use Rattle.mega_index.proofs.Ordered.{by_order}
 
 nat_same : (f x : ℕ) → nat_eq f x ≡ true → nat_cmp f x ≡ Equal
 nat_same f x h = grind (arith, nat_tests)
@@ -19,7 +20,7 @@ at_or_after [] [] h = refl
 at_or_after [] (x ∷ xs) h = refl
 at_or_after (f ∷ fs) [] h = cc
 at_or_after (f ∷ fs) (x ∷ xs) h =
-    let parts : (nat_eq f x ≡ true) × (begins fs xs ≡ true) = both_true (nat_eq f x) (begins fs xs) h in
+    let parts : (nat_eq f x ≡ true) × (begins fs xs ≡ true) = and_parts (nat_eq f x) (begins fs xs) h in
     ap (λ o. is_le (ordering_then o (key_cmp fs xs))) (nat_same f x parts.0) ∙ at_or_after fs xs parts.1
 
 pub between : (front k q : List ℕ) → begins front q ≡ true → is_le (key_cmp front k) ≡ true → key_cmp k q ≡ Less → begins front k ≡ true
@@ -27,11 +28,11 @@ between [] k q h after before = refl
 between (f ∷ fs) k [] h after before = cc
 between (f ∷ fs) [] (x ∷ xs) h after before = cc
 between (f ∷ fs) (y ∷ ys) (x ∷ xs) h after before =
-    let parts : (nat_eq f x ≡ true) × (begins fs xs ≡ true) = both_true (nat_eq f x) (begins fs xs) h in
+    let parts : (nat_eq f x ≡ true) × (begins fs xs ≡ true) = and_parts (nat_eq f x) (begins fs xs) h in
     let same : nat_cmp f x ≡ Equal = nat_same f x parts.0 in
     by_order (nat_cmp f y) _
     (λ less. absurd (later y x ys xs (nat_later f y x less parts.0) before))
-    (λ equal. true_both (nat_eq f y) (begins fs ys) (nat_alike f y equal)
+    (λ equal. and_from (nat_eq f y) (begins fs ys) (nat_alike f y equal)
     (between fs ys xs parts.1 (sym (ap (λ o. is_le (ordering_then o (key_cmp fs ys))) equal) ∙ after)
     (sym (ap (λ o. ordering_then o (key_cmp ys xs)) (nat_level f y x equal parts.0)) ∙ before)))
     (λ greater. absurd (never (sym (ap (λ o. is_le (ordering_then o (key_cmp fs ys))) greater) ∙ after)))

@@ -1,18 +1,15 @@
 -- Hints are added and none is lost.
-use Rattle.std.proofs.Common.{◌≡◌, ◌∙◌, ap, sym, refl, ℕ, Bool, true, false, cond, List, [], ◌∷◌, ◌++◌, ◌||◌, ◌&&◌}
+use Rattle.std.proofs.Common.{◌≡◌, ◌∙◌, ap, sym, refl, ℕ, true, false, cond, List, [], ◌∷◌, ◌++◌, ◌||◌, ◌&&◌}
 use Rattle.std.specs.Prelude.{Option, Some, None}
 use Rattle.std.specs.List.{list_any}
 use Rattle.std.specs.BTreeMap.{get}
 use Rattle.std.proofs.lemmas.List.Folds.{list_any-append}
+use Rattle.std.proofs.lemmas.Bool.{or_right}
 use Rattle.mega_index.specs.declared.hints.Place.{Place}
 use Rattle.mega_row_writes.specs.Rows.{key_cmp, same_key}
 use Rattle.mega_index.specs.Hints.{Hints, is_place, is_among, is_hinted, KeepsHints}
 use Rattle.mega_index.proofs.Ordered.{by_test}
 use Rattle.mega_row_writes.proofs.Turning.{same_key-Decides}
-
-or_true : (a b : Bool) → b ≡ true → (a || b) ≡ true
-or_true true b h = refl
-or_true false b h = h
 
 same_place : (group key : List ℕ) → is_place group key (record { group = group; key = key }) ≡ true
 same_place group key = ap (λ b. b && same_key key key) ((same_key-Decides group group).1 refl) ∙ (same_key-Decides key key).1 refl
@@ -20,7 +17,7 @@ same_place group key = ap (λ b. b && same_key key key) ((same_key-Decides group
 pub place_pushed : (group key : List ℕ) (places : List Place) → list_any (is_place group key) (places ++ record { group = group; key = key } ∷ []) ≡ true
 place_pushed group key places =
     list_any-append (is_place group key) places (record { group = group; key = key } ∷ [])
-    ∙ or_true (list_any (is_place group key) places) _ (ap (λ b. b || false) (same_place group key))
+    ∙ or_right (list_any (is_place group key) places) _ (ap (λ b. b || false) (same_place group key))
 
 pub hint_kept : (old new : Hints) (entry : List ℕ) (was now : List Place) → get key_cmp old entry ≡ Some was
     → ((q : List ℕ) → get key_cmp new q ≡ cond (same_key entry q) (Some now) (get key_cmp old q))

@@ -6,6 +6,7 @@ use Rattle.std.specs.Ordering.{match_ordering}
 use Rattle.std.specs.List.{list_all}
 use Rattle.std.specs.Map.{lookup, remove_entry}
 use Rattle.std.specs.BTreeMap.{insert_entry}
+use Rattle.std.proofs.lemmas.Bool.{and_parts, and_from}
 use Rattle.mega_base.specs.declared.values.Row.{Row}
 use Rattle.mega_row_writes.specs.of_entry.declared.content.Write.{Write}
 use Rattle.mega_row_writes.specs.of_entry.declared.content.Content.{Content}
@@ -14,7 +15,7 @@ use Rattle.mega_row_writes.specs.Rows.{Listed, key_cmp, same_key, list_changed, 
 use Rattle.mega_index.specs.Marks.{Marked, Marks, unmarked, marked_in, advanced, writes_of}
 use Rattle.mega_index.specs.Hints.{Hints, KeepsHints, is_hinted, global_keys, row_is_hinted, rows_are_hinted, all_hinted, write_is_hinted, writes_are_hinted}
 use Rattle.mega_index.specs.Keeping.{moved}
-use Rattle.mega_index.proofs.Ordered.{by_order, by_test, equal_keys, both_true, true_both, all_imply}
+use Rattle.mega_index.proofs.Ordered.{by_order, by_test, equal_keys, all_imply}
 use Rattle.mega_row_writes.proofs.Turning.{same_key-Decides}
 
 pub row_more : (s : Schema) (old new : Hints) (g : List ℕ) (e : List ℕ × Row) → KeepsHints old new → row_is_hinted s old g e ≡ true → row_is_hinted s new g e ≡ true
@@ -35,23 +36,23 @@ marks_more s old new marks kept =
 
 module _ {X : Type 0} (p : List ℕ × X → Bool) where
   all-insert : (es : List (List ℕ × X)) (k : List ℕ) (v : X) → list_all p es ≡ true → p (k, v) ≡ true → list_all p (insert_entry key_cmp es k v) ≡ true
-  all-insert [] k v all one = true_both (p (k, v)) true one refl
+  all-insert [] k v all one = and_from (p (k, v)) true one refl
   all-insert (e ∷ es) k v all one =
-      let parts : (p e ≡ true) × (list_all p es ≡ true) = both_true (p e) (list_all p es) all in
+      let parts : (p e ≡ true) × (list_all p es ≡ true) = and_parts (p e) (list_all p es) all in
       by_order (key_cmp k e.0) _
-      (λ h. ap (λ o. list_all p (match_ordering o ((k, v) ∷ e ∷ es) ((e.0, v) ∷ es) (e ∷ insert_entry key_cmp es k v))) h ∙ true_both (p (k, v)) (list_all p (e ∷ es)) one all)
+      (λ h. ap (λ o. list_all p (match_ordering o ((k, v) ∷ e ∷ es) ((e.0, v) ∷ es) (e ∷ insert_entry key_cmp es k v))) h ∙ and_from (p (k, v)) (list_all p (e ∷ es)) one all)
       (λ h. ap (λ o. list_all p (match_ordering o ((k, v) ∷ e ∷ es) ((e.0, v) ∷ es) (e ∷ insert_entry key_cmp es k v))) h
-      ∙ true_both (p (e.0, v)) (list_all p es) (ap (λ k. p (k, v)) (sym (equal_keys k e.0 h)) ∙ one) parts.1)
+      ∙ and_from (p (e.0, v)) (list_all p es) (ap (λ k. p (k, v)) (sym (equal_keys k e.0 h)) ∙ one) parts.1)
       (λ h. ap (λ o. list_all p (match_ordering o ((k, v) ∷ e ∷ es) ((e.0, v) ∷ es) (e ∷ insert_entry key_cmp es k v))) h
-      ∙ true_both (p e) (list_all p (insert_entry key_cmp es k v)) parts.0 (all-insert es k v parts.1 one))
+      ∙ and_from (p e) (list_all p (insert_entry key_cmp es k v)) parts.0 (all-insert es k v parts.1 one))
 
   all-remove : (es : List (List ℕ × X)) (test : List ℕ → Bool) → list_all p es ≡ true → list_all p (remove_entry test es) ≡ true
   all-remove [] test all = refl
   all-remove (e ∷ es) test all =
-      let parts : (p e ≡ true) × (list_all p es ≡ true) = both_true (p e) (list_all p es) all in
+      let parts : (p e ≡ true) × (list_all p es ≡ true) = and_parts (p e) (list_all p es) all in
       by_test (test e.0) _
       (λ h. ap (λ b. list_all p (cond b es (e ∷ remove_entry test es))) h ∙ parts.1)
-      (λ h. ap (λ b. list_all p (cond b es (e ∷ remove_entry test es))) h ∙ true_both (p e) (list_all p (remove_entry test es)) parts.0 (all-remove es test parts.1))
+      (λ h. ap (λ b. list_all p (cond b es (e ∷ remove_entry test es))) h ∙ and_from (p e) (list_all p (remove_entry test es)) parts.0 (all-remove es test parts.1))
 
 changed-hinted : (s : Schema) (h : Hints) (g : List ℕ) (rows : Listed) (k : List ℕ) (o : Option Row) → rows_are_hinted s h g rows ≡ true
     → write_is_hinted s h g (record { key = k; row = o }) ≡ true → rows_are_hinted s h g (list_changed rows (record { key = k; row = o })) ≡ true
@@ -62,13 +63,13 @@ written-hinted : (s : Schema) (h : Hints) (g : List ℕ) (ws : List Write) (rows
     → writes_are_hinted s h g ws ≡ true → rows_are_hinted s h g (list_written ws rows) ≡ true
 written-hinted s h g [] rows all more = all
 written-hinted s h g (w ∷ ws) rows all more =
-    let parts : (write_is_hinted s h g w ≡ true) × (writes_are_hinted s h g ws ≡ true) = both_true (write_is_hinted s h g w) (writes_are_hinted s h g ws) more in
+    let parts : (write_is_hinted s h g w ≡ true) × (writes_are_hinted s h g ws ≡ true) = and_parts (write_is_hinted s h g w) (writes_are_hinted s h g ws) more in
     written-hinted s h g ws (list_changed rows w) (changed-hinted s h g rows w.key w.row all parts.0) parts.1
 
 marked-hinted : (s : Schema) (h : Hints) (marks : Marks) (g : List ℕ) → all_hinted s h marks ≡ true → rows_are_hinted s h g (marked_in marks g).rows ≡ true
 marked-hinted s h [] g all = refl
 marked-hinted s h (m ∷ marks) g all =
-    let parts : (rows_are_hinted s h m.0 m.1.rows ≡ true) × (all_hinted s h marks ≡ true) = both_true (rows_are_hinted s h m.0 m.1.rows) (all_hinted s h marks) all in
+    let parts : (rows_are_hinted s h m.0 m.1.rows ≡ true) × (all_hinted s h marks ≡ true) = and_parts (rows_are_hinted s h m.0 m.1.rows) (all_hinted s h marks) all in
     by_test (same_key g m.0) _
     (λ is. ap (λ b. rows_are_hinted s h g (unwrap_or (cond b (Some m.1) (lookup (same_key g) marks)) unmarked).rows) is
     ∙ ap (λ g. rows_are_hinted s h g m.1.rows) ((same_key-Decides g m.0).0 is) ∙ parts.0)

@@ -1,10 +1,10 @@
 pub mod SameLemmas
 pub use Rattle.mega_row_writes.proofs.Turning
 pub mod Ordered
+pub mod KeyLists
 pub mod Ascending
 pub mod Slots
 pub mod Hinting
-pub mod Places
 pub mod Fronts
 pub mod Wanting
 pub mod Joined

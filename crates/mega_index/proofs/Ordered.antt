@@ -1,5 +1,5 @@
 -- Entries in order of key, and what an insertion makes of them.
-use Rattle.std.proofs.Common.{◌≡◌, ◌∙◌, ap, refl, ℕ, Bool, true, false, cond, List, [], ◌∷◌, ◌&&◌}
+use Rattle.std.proofs.Common.{◌≡◌, ◌∙◌, ap, refl, ℕ, Bool, true, false, cond, List, [], ◌∷◌}
 use Rattle.std.specs.Prelude.{Some, None}
 use Rattle.std.specs.declared.cmp.Ordering.{Ordering}
 use Rattle.std.specs.declared.cmp.Ordering.TheVariants.{Less, Equal, Greater}
@@ -11,6 +11,7 @@ use Rattle.std.specs.BTreeMap.{insert_entry}
 use Rattle.std.specs.Cmp.Lexicographic.{nat_list_cmp_total}
 use Rattle.std.proofs.lemmas.Map.Keys.{sorted_head, sorted_tail}
 use Rattle.std.proofs.lemmas.Map.Lookups.{exact_bytes}
+use Rattle.std.proofs.lemmas.Bool.{and_parts, and_from}
 use Rattle.mega_row_writes.specs.Rows.{key_cmp, same_key}
 
 pub turn_less : (k q : List ℕ) → key_cmp k q ≡ Greater → key_cmp q k ≡ Less
@@ -81,18 +82,9 @@ by_test false P on_true on_false = on_false refl
 pub equal_keys : (k q : List ℕ) → key_cmp k q ≡ Equal → k ≡ q
 equal_keys k q h = exact_bytes k q h
 
--- two tests that hold
-pub both_true : (a b : Bool) → (a && b) ≡ true → (a ≡ true) × (b ≡ true)
-both_true true b h = (refl, h)
-both_true false b h = cc
-
-pub true_both : (a b : Bool) → a ≡ true → b ≡ true → (a && b) ≡ true
-true_both true b h k = k
-true_both false b h k = cc
-
 -- a test that implies another, of all
 pub all_imply : {X : Type 0} (p q : X → Bool) (xs : List X) → ((x : X) → p x ≡ true → q x ≡ true) → list_all p xs ≡ true → list_all q xs ≡ true
 all_imply p q [] imply h = refl
 all_imply p q (x ∷ xs) imply h =
-    let parts : (p x ≡ true) × (list_all p xs ≡ true) = both_true (p x) (list_all p xs) h in
-    true_both (q x) (list_all q xs) (imply x parts.0) (all_imply p q xs imply parts.1)
+    let parts : (p x ≡ true) × (list_all p xs ≡ true) = and_parts (p x) (list_all p xs) h in
+    and_from (q x) (list_all q xs) (imply x parts.0) (all_imply p q xs imply parts.1)

@@ -21,23 +21,10 @@ slot-is_some (e ∷ es) k = by_test (same_key k e.0) _
     (λ h. ap (λ b. b || has_slot es k) h ∙ sym (ap (λ b. is_some (cond b (Some e.1) (lookup (same_key k) es))) h))
     (λ h. ap (λ b. b || has_slot es k) h ∙ slot-is_some es k ∙ sym (ap (λ b. is_some (cond b (Some e.1) (lookup (same_key k) es))) h))
 
--- an entry of no row is not seen
-held_cons : List ℕ × Option Row → Listed → Listed
-held_cons e listed = by e.1
-  where
-    by : Option Row → Listed
-    by None = listed
-    by (Some row) = (e.0, row) ∷ listed
-
 pub below-held : (k : List ℕ) (es : Slots) → Below k es → Below k (held_rows es)
 below-held k [] below = tt
 below-held k ((q, None) ∷ es) below = below-held k es below.1
 below-held k ((q, Some row) ∷ es) below = (below.0, below-held k es below.1)
-
-pub ascends-held : (es : Slots) → Ascends es → Ascends (held_rows es)
-ascends-held [] up = tt
-ascends-held ((q, None) ∷ es) up = ascends-held es up.1
-ascends-held ((q, Some row) ∷ es) up = (below-held q es up.0, ascends-held es up.1)
 
 -- what a set does to the first of these
 set_here : (k : List ℕ) (e : List ℕ × Option Row) (es : Slots) (v : Option Row) → key_cmp k e.0 ≡ Equal → set_value (same_key k) (e ∷ es) v ≡ (e.0, v) ∷ es

@@ -7,11 +7,12 @@ use Rattle.std.specs.Map.{lookup}
 use Rattle.std.specs.BTreeMap.{get}
 use Rattle.std.specs.BTreeSet.{BTreeSet, contains}
 use Rattle.std.proofs.lemmas.Map.Entries.{lookup-filter-keys}
+use Rattle.std.proofs.lemmas.Bool.{and_parts}
 use Rattle.mega_index.specs.declared.hints.Place.{Place}
 use Rattle.mega_row_writes.specs.Rows.{key_cmp, same_key}
 use Rattle.mega_index.specs.Hints.{is_place, is_among}
 use Rattle.mega_index.specs.Wanted.{Wanted, is_in, is_wanted, begins, KeepsWanted, PlacesWanted}
-use Rattle.mega_index.proofs.Ordered.{Below, Ascends, by_test, both_true}
+use Rattle.mega_index.proofs.Ordered.{Below, Ascends, by_test}
 use Rattle.mega_index.proofs.Fronts.{at_or_after, between}
 use Rattle.mega_row_writes.proofs.Turning.{same_key-Decides}
 
@@ -53,19 +54,9 @@ set_kept old new key updated k h = updated k ∙ by (same_key key k)
 pub place_wanted : (wanted : Wanted) (place : Place) → is_wanted wanted place.group place.key ≡ true
     → (group key : List ℕ) → is_place group key place ≡ true → is_wanted wanted group key ≡ true
 place_wanted wanted place h group key is =
-    let parts : (same_key group place.group ≡ true) × (same_key key place.key ≡ true) = both_true (same_key group place.group) (same_key key place.key) is in
+    let parts : (same_key group place.group ≡ true) × (same_key key place.key ≡ true) = and_parts (same_key group place.group) (same_key key place.key) is in
     ap (λ g. is_wanted wanted g key) ((same_key-Decides group place.group).0 parts.0)
     ∙ ap (is_wanted wanted place.group) ((same_key-Decides key place.key).0 parts.1) ∙ h
-
--- one more of some places
-pub one_more : (old new : Wanted) (places : List Place) (place : Place) → KeepsWanted old new
-    → ((group key : List ℕ) → is_place group key place ≡ true → is_wanted new group key ≡ true)
-    → PlacesWanted places old
-    → (group key : List ℕ) → (list_any (is_place group key) places || is_place group key place) ≡ true → is_wanted new group key ≡ true
-one_more old new places place kept there before group key h =
-    by_test (list_any (is_place group key) places) _
-    (λ among. kept group key (before group key among))
-    (λ none. there group key (sym (ap (λ b. b || is_place group key place) none) ∙ h))
 
 abbrev pub Left : Type 0
 Left = List (List ℕ × List Place)
@@ -85,21 +76,6 @@ true-false b t f = differ (sym t ∙ f)
   where
     differ : true ≡ false → ⊥
     differ e = cc
-
-not_wanted : (old new : Wanted) → KeepsWanted old new → (g k : List ℕ) → is_wanted new g k ≡ false → is_wanted old g k ≡ false
-not_wanted old new kept g k h = by (is_wanted old g k) refl
-  where
-    by : (b : Bool) → is_wanted old g k ≡ b → is_wanted old g k ≡ false
-    by false e = e
-    by true e = absurd (true-false (is_wanted new g k) (kept g k e) h)
-
-pub wants_on : (front : List ℕ) (all : Left) (old new : Wanted) (e : List ℕ × List Place) (left : Left) → KeepsWanted old new → PlacesWanted e.1 new
-    → LeftWants front all old (e ∷ left) → LeftWants front all new left
-wants_on front all old new e left kept there wants entry g k among begin none =
-    let was : is_among g k (lookup (same_key entry) (e ∷ left)) ≡ true = wants entry g k among begin (not_wanted old new kept g k none) in
-    by_test (same_key entry e.0) _
-    (λ same. absurd (true-false (is_wanted new g k) (there g k (sym (ap (λ b. is_among g k (cond b (Some e.1) (lookup (same_key entry) left))) same) ∙ was)) none))
-    (λ apart. sym (ap (λ b. is_among g k (cond b (Some e.1) (lookup (same_key entry) left))) apart) ∙ was)
 
 -- an entry after one that does not begin so is no entry that begins so
 past : (front : List ℕ) (e : List ℕ × List Place) (entry g k : List ℕ) (left : Left) → Below e.0 left → is_le (key_cmp front e.0) ≡ true → begins front e.0 ≡ false → begins front entry ≡ true

@@ -1,4 +1,5 @@
 pub use Rattle.mega_row_writes.specs.Rows
+pub use Rattle.mega_row_writes.specs.Pending
 pub mod Cells
 pub mod Fits
 pub mod Entries

@@ -35,6 +35,7 @@ pub use laws::local_writes_turn_entries;
 pub use listed::find_over;
 pub use long::{has_place, long_key, row_fits};
 pub use mega_keys;
+pub use mega_row_writes;
 pub use mega_row_writes::mega_entry;
 pub use mega_schema;
 pub use mega_schema::mega_syntax;

@@ -1,11 +1,11 @@
 -- How a line is cut off the bytes that were read.
-use Rattle.std.proofs.Common.{◌≡◌, ◌≢◌, ℕ, ◌+◌, ◌<◌, ◌≤◌, Bool, true, false, Option, Some, None, List, [], ◌∷◌, ◌++◌, length, take, drop, slice_index, refl, sym, ◌∙◌, ap, subst, suc, add-one, append_assoc, append-nil, arith}
-use Rattle.std.specs.Io.KnownBytes.{prepend_known, Consumes, Keeps, IsAtEnd}
-use Rattle.std.proofs.KnownBytes.{Consumes-nil, Consumes-kept, Consumes-trans, prepend_known-nil}
+use Rattle.std.proofs.Common.{◌≡◌, ◌≢◌, ℕ, ◌+◌, ◌<◌, ◌≤◌, Bool, true, false, Option, Some, None, List, [], ◌∷◌, ◌++◌, length, take, drop, slice_index, refl, sym, ◌∙◌, ap, subst, suc, add-one, append_assoc, append-nil}
+use Rattle.std.specs.Io.KnownBytes.{prepend_known, Consumes, Keeps}
+use Rattle.std.proofs.KnownBytes.{Consumes-kept, Consumes-trans, prepend_known-nil}
 use Rattle.std.proofs.lemmas.List.{take-append-drop, drop-drop}
 use Rattle.std.proofs.lemmas.List.Elements.{All-append}
 use Rattle.std.proofs.Math.Seq.{drop-cons}
-use Rattle.mega_io.specs.declared.lines.Ended.TheVariants.{Feed, Input, Long}
+use Rattle.mega_io.specs.declared.lines.Ended.TheVariants.{Long}
 use Rattle.mega_io.specs.TextLines.{BreaksOff, IsUnbroken, ReadsLine, ReadsPart}
 
 pub at_feed : (rest : List ℕ) (n : ℕ) → n < length rest → slice_index rest n ≡ 10 → rest ≡ take n rest ++ 10 ∷ drop (n + 1) rest
@@ -27,10 +27,6 @@ pub record HasRead (first now : Option (List ℕ)) (line : List ℕ) (most : ℕ
   pub unbroken : IsUnbroken line
   pub within : length line ≤ most
 
-pub nothing_read : (known : Option (List ℕ)) (line : List ℕ) (most : ℕ) → line ≡ [] → HasRead known known line most
-nothing_read known line most empty =
-    subst (λ xs. HasRead known known xs most) (sym empty) (record { consumed = Consumes-nil known; unbroken = λ k d small bad. omega arith; within = omega arith })
-
 pub read_on : (first now next : Option (List ℕ)) (line : List ℕ) (most : ℕ) → HasRead first now line most → Keeps now next → HasRead first next line most
 read_on first now next line most has kept = record { consumed = Consumes-kept first now next line has.consumed kept; unbroken = has.unbroken; within = has.within }
 
@@ -39,36 +35,10 @@ pub front_consumed : (known : Option (List ℕ)) (old new bytes : List ℕ) → 
 front_consumed None old new bytes is = tt
 front_consumed (Some xs) old new bytes is = ap (λ ys. ys ++ xs) is ∙ append_assoc bytes new xs
 
-pub input_ends : (first left : Option (List ℕ)) (line : List ℕ) (most : ℕ) (waiting : List ℕ) → HasRead first (prepend_known waiting left) line most → waiting ≡ [] → IsAtEnd left
-    → ReadsLine most first (prepend_known waiting left) line Input
-input_ends first left line most waiting has empty end =
-    (has.consumed, subst (λ xs. IsAtEnd (prepend_known xs left)) (sym empty) (subst IsAtEnd (sym (prepend_known-nil left)) end), has.unbroken, has.within)
-
 -- a fault comes: nothing waits
 pub breaks_off : (first left : Option (List ℕ)) (line : List ℕ) (most : ℕ) (waiting : List ℕ) → HasRead first (prepend_known waiting left) line most → waiting ≡ [] → BreaksOff first waiting left line
 breaks_off first left line most waiting has none =
     (subst (λ (now : Option (List ℕ)). Consumes first now line) (ap (λ (xs : List ℕ). prepend_known xs left) none ∙ prepend_known-nil left) has.consumed, has.unbroken, none)
-
-pub line_ends : (first left : Option (List ℕ)) (old new before after : List ℕ) (most : ℕ) → HasRead first (prepend_known old left) before most → ReadsPart old new before after true → length after ≤ most
-    → ReadsLine most first (prepend_known new left) after Feed
-line_ends first left old new before after most has part within =
-    let moved = Consumes-trans first (prepend_known old left) (prepend_known new left) before (part.0 ++ 10 ∷ []) has.consumed
-    (front_consumed left old new (part.0 ++ 10 ∷ []) (part.2 ∙ sym (append_assoc part.0 (10 ∷ []) new))) in (
-      subst (Consumes first (prepend_known new left)) (sym (append_assoc before part.0 (10 ∷ [])) ∙ ap (λ xs. xs ++ 10 ∷ []) (sym part.1)) moved,
-      subst IsUnbroken (sym part.1) (All-append (λ byte. byte ≢ 10) before part.0 has.unbroken part.3),
-      within,
-    )
-
-pub line_goes_on : (first left : Option (List ℕ)) (old new before after : List ℕ) (most : ℕ) → HasRead first (prepend_known old left) before most → ReadsPart old new before after false → length after ≤ most
-    → HasRead first (prepend_known new left) after most
-line_goes_on first left old new before after most has part within =
-    let moved = Consumes-trans first (prepend_known old left) (prepend_known new left) before old has.consumed
-    (front_consumed left old new old (sym (append-nil old) ∙ ap (λ xs. old ++ xs) (sym part.1))) in
-    record {
-      consumed = subst (Consumes first (prepend_known new left)) (sym part.0) moved;
-      unbroken = subst IsUnbroken (sym part.0) (All-append (λ byte. byte ≢ 10) before old has.unbroken part.2);
-      within = within;
-    }
 
 pub line_is_long : (first left : Option (List ℕ)) (old new before after : List ℕ) (most : ℕ) (broken : Bool) → HasRead first (prepend_known old left) before most → ReadsPart old new before after broken → most < length after
     → ReadsLine most first (prepend_known new left) after Long

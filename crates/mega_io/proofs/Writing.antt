@@ -1,5 +1,5 @@
 -- How far a write of all bytes has come.
-use Rattle.std.proofs.Common.{◌≡◌, ℕ, Option, List, [], ◌++◌, length, take, drop, refl, sym, ◌∙◌, ap, append_assoc, append-nil, subst}
+use Rattle.std.proofs.Common.{◌≡◌, ℕ, Option, List, [], ◌++◌, length, take, drop, refl, sym, ◌∙◌, ap, append_assoc, subst}
 use Rattle.std.specs.Io.KnownBytes.{Appends, Keeps}
 use Rattle.std.proofs.KnownBytes.{Appends-trans, Appends-kept, Appends-nil}
 use Rattle.std.proofs.lemmas.List.{take-append-drop}
@@ -21,9 +21,6 @@ went_on a b c bytes rest n w more = record {
   appends = Appends-trans a b c w.front (take n rest) w.appends more;
   whole = w.whole ∙ ap (λ xs. w.front ++ xs) (sym (take-append-drop n rest)) ∙ sym (append_assoc w.front (take n rest) (drop n rest));
 }
-
-pub all_written : (a b : Option (List ℕ)) (bytes rest : List ℕ) → Written a b bytes rest → rest ≡ [] → Appends a b bytes
-all_written a b bytes rest w none = let e : bytes ≡ w.front = w.whole ∙ ap (λ xs. w.front ++ xs) none ∙ append-nil w.front in subst (Appends a b) (sym e) w.appends
 
 pub refused : (a b c : Option (List ℕ)) (bytes rest : List ℕ) → Written a b bytes rest → Keeps b c → AppendsFront a c bytes
 refused a b c bytes rest w kept =

@@ -1,4 +1,3 @@
-pub mod Outcomes
 mod Pieces
 pub mod Reading
 pub mod Records

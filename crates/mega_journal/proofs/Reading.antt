@@ -3,7 +3,8 @@ use Rattle.std.proofs.Common.{◌≡◌, ℕ, ◌+◌, ◌-◌, ◌<◌, ◌≤�
 use Rattle.std.specs.Prelude.{Some, None}
 use Rattle.std.proofs.lemmas.List.{append-nil, flat_map_more, drop_at}
 use Rattle.mega_journal.specs.Chain.{record_of, chain_of, first_record, records_of, AreShort}
-use Rattle.mega_journal.proofs.Records.{IsBytes, bytes_drop, spelled_by, records_more, records_none}
+use Rattle.mega_disk.proofs.Chains.{IsBytes, bytes_drop}
+use Rattle.mega_journal.proofs.Records.{spelled_by, records_more, records_none}
 
 -- the records so far and those of the rest are those of the bytes
 pub record Reading (bytes : List ℕ) (records : List (List ℕ)) (rest : List ℕ) : Type 0 where

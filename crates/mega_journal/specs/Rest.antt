@@ -1,5 +1,6 @@
 -- A journal's file between two calls.
-use Rattle.std.specs.Prelude.{◌≡◌, ◌≢◌, ◌<◌, ◌++◌, drop, None, ℕ, List, length, take, get_or, Bool, not, nat_lt, ◌==◌, ◌&&◌}
+use Rattle.std.specs.Prelude.{◌≡◌, ◌≢◌, ◌<◌, ◌++◌, drop, None, ℕ, List, length, take, get_or}
+pub use Rattle.mega_disk.specs.Chains.{is_shut}
 use Rattle.mega_disk.specs.Images.{Only}
 use Rattle.mega_journal.specs.Chain.{chain_of, first_record, records_of, AreShort}
 
@@ -18,10 +19,6 @@ pub record IsSettled (file : List ℕ) (may_leave : List ℕ → Type 0) (end : 
 -- the file holds the records of one of these images
 abbrev pub HoldsAs : (List ℕ → Type 0) → List ℕ → Type 0
 HoldsAs images file = (image : List ℕ) × images image × (records_of file ≡ records_of image)
-
--- a file of more than one byte has a closed gate there
-abbrev pub is_shut : List ℕ → ℕ → Bool
-is_shut file end = nat_lt 1 (length file) && not (get_or file end 1 == 1)
 
 -- a file that was read up to its last gate
 pub record IsRead (file : List ℕ) (end : ℕ) : Type 0 where

@@ -129,9 +129,6 @@ front_ok : (b : ℕ) (r : Read (List ℕ)) (t rest : List ℕ) → with_front (b
 front_ok b (Ok x) t rest h = let parts = ok_parts h in (x.0, ap (λ y. Ok (x.0, y)) parts.1, sym parts.0)
 front_ok b (Err n) t rest h = absurd (cc)
 
-Undone : List ℕ → List ℕ → List ℕ → Type 0
-Undone bytes t rest = unescaped bytes ≡ Ok (t, rest) → bytes ≡ escaped t ++ rest
-
 zero_undone : (b d : Bool) (c : ℕ) (bytes t rest : List ℕ) → eqb c 255 ≡ b → eqb c 1 ≡ d → ((more : List ℕ) → unescaped bytes ≡ Ok (more, rest) → bytes ≡ escaped more ++ rest) → cond {A = Read (List ℕ)} b (with_front (0 ∷ []) (unescaped bytes)) (cond d (Ok ([], bytes)) (Err (suc (length bytes)))) ≡ Ok (t, rest) → 0 ∷ c ∷ bytes ≡ escaped t ++ rest
 zero_undone true d c bytes t rest e f ih h =
     let w = front_ok 0 (unescaped bytes) t rest h in

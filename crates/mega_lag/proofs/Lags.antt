@@ -15,7 +15,7 @@ use Rattle.mega_replica.specs.Applying.{applied}
 use Rattle.mega_rules.specs.Logs.{groups_of}
 use Rattle.mega_rules.specs.Met.{Met}
 use Rattle.mega_step_parts.specs.Behind.{is_behind}
-use Rattle.mega_step_parts.proofs.Groups.{has, no_log}
+use Rattle.mega_rules.proofs.Groups.{has, no_log}
 use Rattle.mega_step_parts.proofs.of_voter.Grouped.{groups_sorted, sorted_same}
 use Rattle.mega_lag.specs.Lagging.{lags}
 
@@ -34,13 +34,6 @@ took_out test group other old new is made = by (is_group group other) refl made
     by : (t : Bool) → is_group group other ≡ t → new ≡ cond t false old → new ≡ cond t (test other) old
     by true e made = made ∙ (sym is ∙ ap test (is_group_equal group other e))
     by false e made = made
-
--- one of those that are watched, and then the rest
-pub one_watched : (one rest test old mid new : Bool) → mid ≡ cond one test old → new ≡ cond rest test mid → new ≡ cond (one || rest) test old
-one_watched true true test old mid new first then' = then'
-one_watched true false test old mid new first then' = then' ∙ first
-one_watched false true test old mid new first then' = then'
-one_watched false false test old mid new first then' = then' ∙ first
 
 -- ---- those that are behind are among the set's
 

@@ -1,12 +1,13 @@
 -- The operations of a node act one after another: each that noted an epoch began its poll while that epoch served, and asked no group before that it
 -- did not read.
-use Rattle.std.proofs.Common.{ℕ, ◌≡◌, ◌⊎◌, inl, inr, zero, suc, ◌+◌, ◌==◌, ◌||◌, ◌≤◌, ◌<◌, nat_le, nat_lt, Bool, true, false, cond, List, [], ◌∷◌, ◌++◌, length, map, fold, Option, Some, None, refl, sym, ap, ◌∙◌, subst, arith}
+use Rattle.std.proofs.Common.{ℕ, ◌≡◌, ◌⊎◌, inl, inr, zero, suc, ◌+◌, ◌||◌, ◌≤◌, ◌<◌, nat_le, nat_lt, Bool, true, false, cond, List, [], ◌∷◌, ◌++◌, length, map, fold, Option, Some, None, refl, sym, ap, ◌∙◌, subst, arith}
 use Rattle.std.proofs.lemmas.Bool.Decides.{nat_tests}
 use Rattle.std.specs.List.{list_any}
-use Rattle.std.proofs.lemmas.Bool.{or_parts, and_parts, or_from, and_left, and_right}
+use Rattle.std.proofs.lemmas.Bool.{or_parts, or_from, and_left, and_right}
 use Rattle.mega_base.specs.declared.names.Epoch.{Epoch}
 use Rattle.mega_base.specs.declared.names.GroupId.{GroupId}
 use Rattle.mega_base.specs.declared.names.OpId.{OpId}
+use Rattle.mega_locks.proofs.Marks.{same_is}
 use Rattle.mega_cluster.specs.declared.cluster.Cluster.{Cluster}
 use Rattle.mega_coordinator.specs.Groups.{is_same, refusal as not_valid}
 use Rattle.mega_coordinator.specs.History.{beaten, serving}
@@ -45,7 +46,7 @@ use Rattle.mega_lease_laws.proofs.of_run_laws.Events.{each_append as each_both}
 use Rattle.mega_valid_laws.proofs.of_settled_laws.Tapes.{earlier_stood, then_later}
 use Rattle.mega_valid_laws.proofs.of_settled_laws.Turns.{numbers_apart}
 use Rattle.mega_valid_laws.specs.Leases.{asks_end, has_polled, serving_on}
-use Rattle.mega_leased_laws.proofs.Polls.{ReadPolls, StagePolls, due_polls, hears_polls, no_tops, polled_on, seeks_polls, tops_on}
+use Rattle.mega_leased_laws.proofs.Polls.{StagePolls, due_polls, hears_polls, no_tops, polled_on, seeks_polls, tops_on}
 use Rattle.mega_valid_laws.proofs.of_settled_laws.Walk.{Walks, begun_it, caught, goes_on_it}
 use Rattle.mega_leased_laws.proofs.Wheres.{EndsBody, EndsOf, falls_due_ends, hears_ends, polled_ends, seeks_ends, takes_ends, asks_ends, due_ends}
 
@@ -188,9 +189,6 @@ pub polled_through : (c : Cluster) (tape : List Item) (me : ℕ) (op : OpId) (vi
 polled_through c tape me op visited group None p n h = (n, tt)
 polled_through c tape me op visited group (Some epoch) p n h = (n, h)
 
-abbrev pub ReadKnows : Cluster → List Item → ℕ → OpId → List GroupId → GroupId → ReadMove → Type 0
-ReadKnows c tape me op visited group t = ReadPolls c tape op group (NotedAt tape me op visited group) (Through c tape me op visited group) (polled_through c tape me op visited group) t
-
 abbrev pub PhaseKnows : Cluster → List Item → ℕ → OpId → List GroupId → Phase → Type 0
 PhaseKnows c tape me op visited (Reads group r) = StagePolls c tape op group (NotedAt tape me op visited group) (Through c tape me op visited group) (polled_through c tape me op visited group) r.noted r.stage
 PhaseKnows c tape me op visited (Proposes group n asked proposal promised) = Unit {0}
@@ -255,12 +253,6 @@ validate_same c base met group p h = record { serves = serves_by (serves_at c me
 record Lawful (now : Option Epoch) (least p : ℕ) (noted : Epoch) : Type 0 where
   serves : now ≡ Some noted
   above : least ≤ p
-
-pub same_is : (a b : Epoch) → is_same a b ≡ true → a ≡ b
-same_is a b h = let parts = and_parts (a.start == b.start) (a.count == b.count) h in λ i. record { start = is_number a.start b.start parts.0 i; count = is_number a.count b.count parts.1 i }
-  where
-    is_number : (x y : ℕ) → (x == y) ≡ true → x ≡ y
-    is_number x y k = grind (arith, nat_tests)
 
 not_less : (p least : ℕ) → nat_lt p least ≡ false → least ≤ p
 not_less p least h = grind (arith, nat_tests)

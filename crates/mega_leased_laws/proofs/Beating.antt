@@ -264,10 +264,6 @@ step_unchanged s node event = let parts = step_parts s node event in
 
 -- ---- what a message and a tick change
 
-left_of : (a b : Bool) → (a && b) ≡ true → a ≡ true
-left_of true b h = refl
-left_of false b h = h
-
 module _ (s : Setting) (full : is_full s.cluster s.me ≡ true) (met : List Met) (b : Beats s.cluster met) where
   abbrev calls : List Call
   calls = coordinator_calls s.cluster met

@@ -18,6 +18,7 @@ use Rattle.mega_coordinator.proofs.Epochs.{serves_alone}
 use Rattle.mega_locks.specs.declared.asked.Asked.{Asked}
 use Rattle.mega_locks.specs.declared.asked.Asked.TheVariants.{Granted, Renewed, GreaterHeld, Over}
 use Rattle.mega_locks.specs.History.{lapse_for, nodes as lock_nodes}
+use Rattle.mega_locks.proofs.Marks.{same_is}
 use Rattle.mega_wal.specs.History.{is_same_epoch}
 use Rattle.mega_wire.specs.declared.message.Message.{Message}
 use Rattle.mega_wire.specs.declared.message.Body.{Body}
@@ -41,7 +42,6 @@ use Rattle.mega_lease_laws.specs.of_run_laws.Justified.{Each}
 use Rattle.mega_lease_laws.proofs.of_run_laws.Events.{each_append as each_both, onto_append}
 use Rattle.mega_valid_laws.specs.Leases.{counted_on}
 use Rattle.mega_valid_laws.proofs.Folds.{IsOwn, IsOwnNote, TapeFold, with_told, same_if}
-use Rattle.mega_valid_laws.proofs.Orders.{epoch_is}
 use Rattle.mega_leased_laws.proofs.Tails.{fronts}
 use Rattle.mega_leased_laws.proofs.Notes.{IsRest, step_parts}
 use Rattle.mega_leased_laws.proofs.TapeIsMet.{step_met}
@@ -287,7 +287,7 @@ counted_next : (G : ℕ → Epoch → Type 0) (one : Met) (met : List Met) (cell
 counted_next G (Counts other e) met cell epoch h = by (other == cell && is_same_epoch e epoch) refl
   where
     by : (t : Bool) → (other == cell && is_same_epoch e epoch) ≡ t → cond t true (counted_met met cell epoch) ≡ true → G cell epoch ⊎ (counted_met met cell epoch ≡ true)
-    by true at k = inl (coe 0 1 (i. G (number_is other cell (first_true (other == cell) (is_same_epoch e epoch) at) i) (epoch_is e epoch (second_true (other == cell) (is_same_epoch e epoch) at) i)) h)
+    by true at k = inl (coe 0 1 (i. G (number_is other cell (first_true (other == cell) (is_same_epoch e epoch) at) i) (same_is e epoch (second_true (other == cell) (is_same_epoch e epoch) at) i)) h)
     by false at k = inr k
 counted_next G (Forgets other e) met cell epoch h = by (other == cell && is_same_epoch e epoch)
   where

@@ -754,9 +754,6 @@ module _ (c : Cluster) (few : length c.nodes ≤ 9) (h : Meanings) (now : Standi
   abbrev second : Item → Event → List Item
   second item event = with_items c (nodes' event) (item ∷ now.tape) (items event)
 
-  second_later : (item : Item) (event : Event) → Earlier now.tape (second item event)
-  second_later item event = then_later now.tape (item ∷ now.tape) (second item event) (one_later now.tape now.tape item (now_is now.tape)) (items_later c (nodes' event) (items event) (item ∷ now.tape))
-
   -- the epoch that a tick asks for
   asked_reached : (clock : ℕ) (e : Epoch) → epoch_after (start_of met) c.cells (TickCall clock ∷ coordinator_calls c met) ≡ Some e → EpochReached c ((made (Tick clock)).node).met e
   asked_reached clock e is = reached_grown c (Ticks clock ∷ met) ((made (Tick clock)).node).met e

@@ -10,7 +10,7 @@ use Rattle.mega_locks.specs.declared.lock.Lock.TheVariants.{Free, Held, Ended}
 use Rattle.mega_locks.specs.declared.lock.Term.{Term}
 use Rattle.mega_locks.specs.Rule.{after_answer, after_lapse as lock_lapsed, answer, is_above, is_over, is_same, lapse, opened, reopened, ticked}
 use Rattle.mega_locks.specs.History.{Call, Reopens, lock_of, nodes}
-use Rattle.mega_locks.proofs.Marks.{same_is, same_self}
+use Rattle.mega_locks.proofs.Marks.{not_above_self, same_is, same_self}
 use Rattle.mega_wal.specs.History.{after_grant, after_lapse, is_epoch_below, is_same_epoch}
 use Rattle.mega_lease_laws.specs.of_run_laws.of_tape_laws.of_promises.of_rules.Met.{Met, Starts, Crashes, Ticks, Begins, Takes, Unsends, Grants, Lapses, Decides, Applies}
 use Rattle.mega_lease_laws.specs.of_run_laws.of_tape_laws.of_promises.of_rules.Clock.{is_opening}
@@ -19,7 +19,6 @@ use Rattle.mega_lease_laws.specs.of_run_laws.of_tape_laws.of_promises.of_rules.S
 use Rattle.mega_lease_laws.specs.of_run_laws.of_tape_laws.Places.{In}
 use Rattle.mega_lease_laws.proofs.of_run_laws.of_tape_laws.Ballots.{number_is, number_self}
 use Rattle.mega_lease_laws.specs.of_run_laws.Justified.{Each}
-use Rattle.mega_valid_laws.proofs.Orders.{below_self}
 
 -- what is kept is the last grant
 abbrev pub Matches : Lock → Option (Epoch × Bool) → Type 0
@@ -43,9 +42,6 @@ same_order a b = by (a == b) refl (b == a) refl
 
 above_below : (e g : Epoch) → is_above e g ≡ is_epoch_below g e
 above_below e g = ap (λ t. nat_lt g.start e.start || (t && nat_lt g.count e.count)) (same_order e.start g.start)
-
-above_self : (e : Epoch) → is_above e e ≡ false
-above_self e = above_below e e ∙ below_self e
 
 raised : (last : Epoch × Bool) (g e : Epoch) (t : Bool) → last.0 ≡ g → is_above e g ≡ t → is_epoch_below last.0 e ≡ t
 raised last g e t same above = ap (λ x. is_epoch_below x e) same ∙ sym (above_below e g) ∙ above
@@ -125,7 +121,7 @@ closes_match (Held e was) (Held g again) (Some last) first now h k = by (is_over
   where
     closed : (x : Epoch) → e ≡ x → Matches (reopened (Held x again) e false) (after_lapse (Some last) e)
     closed x same = subst (λ y. Matches (reopened (Held y again) e false) (after_lapse (Some last) e)) same
-        (subst (λ t. Matches (cond t (Ended e) (cond (is_same e e && not false) (Ended e) (Held e again))) (after_lapse (Some last) e)) (sym (above_self e))
+        (subst (λ t. Matches (cond t (Ended e) (cond (is_same e e && not false) (Ended e) (Held e again))) (after_lapse (Some last) e)) (sym (not_above_self e))
         (subst (λ t. Matches (cond (t && not false) (Ended e) (Held e again)) (after_lapse (Some last) e)) (sym (same_self e))
         (subst (λ t. Matches (Ended e) (cond t (Some (last.0, false)) (Some last))) (sym (lapse_same last e h.0)) (h.0, refl))))
 

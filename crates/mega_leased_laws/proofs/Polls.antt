@@ -15,7 +15,7 @@ use Rattle.mega_lease_laws.specs.of_run_laws.of_tape_laws.of_promises.of_rules.o
 use Rattle.mega_lease_laws.specs.of_run_laws.of_tape_laws.of_promises.of_rules.of_read.declared.reading.Search.TheVariants.{Fetching, Filling}
 use Rattle.mega_lease_laws.specs.of_run_laws.of_tape_laws.of_promises.of_rules.of_read.declared.reading.Stage.{Stage}
 use Rattle.mega_lease_laws.specs.of_run_laws.of_tape_laws.of_promises.of_rules.of_read.declared.reading.Stage.TheVariants.{Polling, Catching}
-use Rattle.mega_lease_laws.specs.of_run_laws.of_tape_laws.of_promises.of_rules.of_read.Catching.{asked_by, falls_due, fetch_to, fills, hears, helpers, is_position, local_read, move, polled_read, searched, seeks, topped}
+use Rattle.mega_lease_laws.specs.of_run_laws.of_tape_laws.of_promises.of_rules.of_read.Catching.{asked_by, falls_due, fetch_to, fills, hears, helpers, is_position, move, polled_read, searched, seeks, topped}
 use Rattle.mega_wal.specs.Same.{same_group, same_op}
 use Rattle.mega_wal.proofs.Sames.{same_group_equal, same_op_equal}
 use Rattle.mega_wire.specs.declared.message.Body.{Body}
@@ -174,9 +174,6 @@ module _ (c : Cluster) (tape : List Item) (op : OpId) (group : GroupId) where
 
     pub polled_begins : (noted : Option Epoch) (asked : List ℕ) (now : ℕ) → N noted → ReadPolls (polled_read (who c op group) noted asked now)
     polled_begins noted asked now n = (n, no_tops)
-
-    pub local_begins : (asked : List ℕ) (top : ℕ) → K None top → ReadPolls (local_read asked top)
-    local_begins asked top k = k
 
 -- ---- on a longer tape
 

@@ -1,7 +1,8 @@
 -- As long as leases are safe no node counts a cell under an epoch that the cell lapsed.
 use Rattle.std.proofs.Common.{◌≡◌, ◌⊎◌, inl, inr, ℕ, zero, suc, ◌+◌, ◌-◌, ◌==◌, ◌&&◌, ◌||◌, ◌≤◌, ◌<◌, not, Bool, true, false, cond, List, [], ◌∷◌, ◌++◌, flat_map, get_or, map, Some, None, is_some, refl, sym, ap, ◌∙◌, subst, arith}
-use Rattle.std.proofs.lemmas.Bool.{and_from, false_from_ne_true}
+use Rattle.std.proofs.lemmas.Bool.{false_from_ne_true}
 use Rattle.mega_base.specs.declared.names.Epoch.{Epoch}
+use Rattle.mega_locks.proofs.Marks.{same_is, same_self}
 use Rattle.mega_cluster.specs.declared.cluster.Cluster.{Cluster}
 use Rattle.mega_coordinator.specs.Groups.{is_same}
 use Rattle.mega_coordinator.specs.Lease.{counted_by}
@@ -34,7 +35,6 @@ use Rattle.mega_leased_laws.proofs.TapeIsMet.{cuts_told, falls_told, marks_told,
 use Rattle.mega_leased_laws.proofs.Locks.{IsOwed}
 use Rattle.mega_leased_laws.proofs.Cells.{by_node, occurs_own, own_noted, sends_still, start_owed, step_still}
 use Rattle.mega_leased_laws.proofs.EpochReached.{Grown, IsWithin, EpochReached, asked_present, grown_onto, present_before, present_reached, reached_grown, reached_start}
-use Rattle.mega_leased_laws.proofs.Asking.{same_is}
 use Rattle.mega_valid_laws.proofs.NoCalls.{Uncalled, uncalled_all}
 use Rattle.mega_leased_laws.proofs.Counting.{CountNote, Counting, CountsAt, CountsNow, counted_met, counted_then, lease_at, next_counted, none_slot, present_at, step_counted, step_counts, tells_counted}
 use Rattle.mega_leased_laws.proofs.Validating.{Ruled, owed_no_call}
@@ -50,9 +50,6 @@ lapsed_on node epoch (_ ∷ before) cell = lapsed_on node epoch before cell
 abbrev next_lapsed : ℕ → Epoch → Met → Bool → Bool
 next_lapsed node epoch (Lapses to e) x = (to == node && is_same e epoch) || x
 next_lapsed node epoch _ x = x
-
-same_self : (e : Epoch) → is_same e e ≡ true
-same_self e = and_from (e.start == e.start) (e.count == e.count) (number_self e.start) (number_self e.count)
 
 module _ (node : ℕ) (epoch : Epoch) where
   pub lapse_stands : (cell : ℕ) (tape : List Item) → Stands (Lapse cell (number node) epoch) tape → lapsed_on node epoch tape cell ≡ true

@@ -11,6 +11,7 @@ use Rattle.mega_locks.specs.declared.lock.Lock.{Lock}
 use Rattle.mega_locks.specs.declared.lock.Lock.TheVariants.{Free, Held, Ended}
 use Rattle.mega_locks.specs.Rule.{is_above, is_same, opened, reopened}
 use Rattle.mega_locks.specs.History.{Call, Reopens, Represents as Locks, first_tick, lock_of, nodes}
+use Rattle.mega_locks.proofs.Marks.{same_self, not_above_self}
 use Rattle.mega_coordinator.specs.declared.coordinator.Coordinator.{Coordinator}
 use Rattle.mega_coordinator.specs.History.{Represents as Coordinates}
 use Rattle.mega_wal.specs.History.{after_grant, after_lapse, is_epoch_below}
@@ -49,13 +50,6 @@ grant_opens (Some last) epoch = held_or_not last.1
     held_or_not : (held : Bool) → reopened (opened last.0 held) epoch true ≡ opened_with (cond (is_epoch_below last.0 epoch) (Some (epoch, true)) (Some (last.0, held)))
     held_or_not true = ap (λ test. cond test (Held epoch None) (cond (is_same epoch last.0 && false) (Ended epoch) (Held last.0 None))) below ∙ kept (is_same epoch last.0) (is_epoch_below last.0 epoch)
     held_or_not false = ap (λ test. cond test (Held epoch None) (Ended last.0)) below ∙ over (is_epoch_below last.0 epoch)
-
--- so does a lapse of what is held
-same_self : (epoch : Epoch) → is_same epoch epoch ≡ true
-same_self epoch = grind (arith, nat_tests)
-
-not_above_self : (epoch : Epoch) → is_above epoch epoch ≡ false
-not_above_self epoch = grind (arith, nat_tests)
 
 lapse_opens : (epoch : Epoch) → reopened (Held epoch None) epoch false ≡ opened_with (after_lapse (Some (epoch, true)) epoch)
 lapse_opens epoch =

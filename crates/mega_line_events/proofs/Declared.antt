@@ -15,4 +15,4 @@ cells_few n (inr (inl three)) = omega (arith, three)
 cells_few n (inr (inr five)) = omega (arith, five)
 
 pub is_cluster : (c : Cluster) → CanStart c → IsCluster c
-is_cluster c can = record { nodes = can.few; cells = cells_few c.cells can.cells; limit = can.limit }
+is_cluster c can = record { nodes = can.served.few; cells = cells_few c.cells can.served.cells; limit = can.served.limit }

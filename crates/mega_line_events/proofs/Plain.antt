@@ -48,7 +48,7 @@ pub opening_held : (c : Cluster) → CanStart c → All HoldsItem (stood c []).t
 opening_held c can =
     let starts = first_starts (length c.nodes) in
     let twice = newest_twice starts in
-    subst (All HoldsItem) (opening_tape c built_in (newest starts) twice) (subst (All HoldsItem) (sym twice) (starts_held (length c.nodes) can.few))
+    subst (All HoldsItem) (opening_tape c built_in (newest starts) twice) (subst (All HoldsItem) (sym twice) (starts_held (length c.nodes) can.served.few))
 
 -- ---- events of the format
 

@@ -78,18 +78,18 @@ fits_turned c (line ∷ lines) (one ∷ events) rest happen fits =
 -- local reads, behind each event
 reads_all : (c : Cluster) (events : List Happening) → CanStart c → ReadsAll c (stood c events)
 reads_all c events can =
-    subst (ReadsAll c) (turned c events []) (run_fresh c built_in (in_turn events []) (goes_on c by_fuse (opening c built_in) (in_turn events [])).tape can.few (cells_few c.cells can.cells) (record { cuts = by_fuse; tape_is = refl }))
+    subst (ReadsAll c) (turned c events []) (run_fresh c built_in (in_turn events []) (goes_on c by_fuse (opening c built_in) (in_turn events [])).tape can.served.few (cells_few c.cells can.served.cells) (record { cuts = by_fuse; tape_is = refl }))
 
 all_read_all : (c : Cluster) (events : List Happening) → CanStart c → AllReadAll c events
 all_read_all c [] can = reads_all c [] can
 all_read_all c (one ∷ earlier) can = (all_read_all c earlier can, reads_all c (one ∷ earlier) can)
 
 joint : (c : Cluster) (events : List Happening) → CanStart c → HoldsSettled c (stood c events)
-joint c events can = subst (HoldsSettled c) (turned c events []) (run_joint c built_in (in_turn events []) can.few (cells_few c.cells can.cells))
+joint c events can = subst (HoldsSettled c) (turned c events []) (run_joint c built_in (in_turn events []) can.served.few (cells_few c.cells can.served.cells))
 
 calm_complete : (c : Cluster) (events : List Happening) → CanStart c → Fits (usage c.schema) (in_turn events []) → IsCalmComplete c built_in by_fuse (stood c events)
 calm_complete c events can fits =
-    subst (IsCalmComplete c built_in by_fuse) (turned c events []) (run_is_calm_complete c (usage c.schema) by_fuse built_in built_in (in_turn events []) can.few (cells_few c.cells can.cells) can.housed fits)
+    subst (IsCalmComplete c built_in by_fuse) (turned c events []) (run_is_calm_complete c (usage c.schema) by_fuse built_in built_in (in_turn events []) can.served.few (cells_few c.cells can.served.cells) can.served.housed fits)
 
 pub replayed : (c : Cluster) (lines : List (List ℕ)) (events : List Happening) → CanStart c → AllHappen c lines events → All HoldsItem (stood c events).tape → Replayed c lines events
 replayed c lines events can happen held =
@@ -112,9 +112,9 @@ replayed c lines events can happen held =
       rows = rows_fit c (usage c.schema) tape writes declared values;
       local = all_read_all c events can;
       joint = joint c events can;
-      fresh = run_is_fresh c (usage c.schema) built_in (in_turn events []) tape can.few (cells_few c.cells can.cells) run fits;
+      fresh = run_is_fresh c (usage c.schema) built_in (in_turn events []) tape can.served.few (cells_few c.cells can.served.cells) run fits;
       settled = run_settled c (usage c.schema) built_in (in_turn events []) tape run fits;
-      leased = run_leased c built_in (in_turn events []) tape can.few run;
+      leased = run_leased c built_in (in_turn events []) tape can.served.few run;
       complete = calm_complete c events can fits;
       plain = plain;
       told = told_by c.schema tape plain;

@@ -14,6 +14,7 @@ use Rattle.mega_cluster.specs.Header.{◌>>=◌, cells_of, default_cells, docume
 use Rattle.mega_format_laws.proofs.Headers.{cluster_formed}
 use Rattle.mega_member_laws.proofs.Headers.{OkIs, cells_few, kept, needed_ok, then_any, then_ok}
 use Rattle.mega_line_laws.specs.Clusters.{CanStart}
+use Rattle.mega_line_laws.proofs.Small.{parsed_small}
 
 -- ---- cells
 
@@ -106,12 +107,15 @@ can_start least text c e =
     let formed = cluster_formed least text c e in
     let open_is = subst (OkIs IsOpen) e (read_opens least text) in
     record {
-      few = formed.nodes;
-      cells = open_is.cells;
-      housed = cells_few least text c e;
-      lease = open_is.lease;
-      fits = omega (arith, open_is.lease, open_is.margin);
-      limit = formed.limit;
+      served = record {
+        few = formed.nodes;
+        cells = open_is.cells;
+        housed = cells_few least text c e;
+        lease = open_is.lease;
+        fits = omega (arith, open_is.lease, open_is.margin);
+        limit = formed.limit;
+        small = parsed_small open_is.declared.text c.schema open_is.declared.read;
+      };
       schema_text = open_is.declared.text;
       schema_read = open_is.declared.read;
     }

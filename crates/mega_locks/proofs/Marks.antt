@@ -21,6 +21,9 @@ above_apart a b h = grind (arith, nat_tests)
 pub same_self : (a : Epoch) → is_same a a ≡ true
 same_self a = grind (arith, nat_tests)
 
+pub not_above_self : (a : Epoch) → is_above a a ≡ false
+not_above_self a = grind (arith, nat_tests)
+
 pub same_is : (a b : Epoch) → is_same a b ≡ true → a ≡ b
 same_is a b h = λ i. record { start = starts i; count = counts i }
   where

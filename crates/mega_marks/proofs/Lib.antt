@@ -1,4 +1,3 @@
-mod Left
 mod Taking
 mod Applied
 mod Onward

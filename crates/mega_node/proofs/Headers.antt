@@ -32,10 +32,6 @@ pub headed : (least : ℕ) (first : Option (List ℕ)) (c : Cluster) → IfKnown
 headed least None c told fits = tt
 headed least (Some first) c told fits = ap (λ r. r >>= addressed) told ∙ fits
 
-pub unaddressed : (least : ℕ) (first : Option (List ℕ)) (c : Cluster) → IfKnown first (λ bytes. cluster_in least bytes ≡ Ok c) → addressed c ≡ Err 8 → IsBroken least first 8
-unaddressed least None c told breaks = tt
-unaddressed least (Some first) c told breaks = ap (λ r. r >>= addressed) told ∙ breaks
-
 pub broken : (least : ℕ) (first : Option (List ℕ)) (rule : ℕ) → Breaks least first rule → IsBroken least first rule
 broken least None rule breaks = tt
 broken least (Some first) rule breaks = ap (λ r. r >>= addressed) breaks

@@ -11,7 +11,6 @@ use Rattle.mega_server.specs.of_core.Served.{IsServed}
 use Rattle.mega_rules.specs.Members.{is_node}
 use Rattle.mega_line_laws.proofs.Starting.{can_start}
 use Rattle.mega_node.specs.Headers.{IsRead}
-use Rattle.mega_line_laws.proofs.Small.{parsed_small}
 
 -- what is read is so, unless a rule is broken
 abbrev OkIs : {A : Type 0} → (A → Type 0) → Result A ℕ → Type 0
@@ -81,14 +80,4 @@ pub is_member : (number : ℕ) (c : Cluster) → 1 ≤ number → IsRead number 
 is_member number c least read = both (nat_le 1 number) (nat_le number (length c.nodes)) (from_one number least) (subst (OkIs (HasEnough number)) read.1 (read_enough number read.0))
 
 pub is_served : (number : ℕ) (c : Cluster) → IsRead number c → IsServed c
-is_served number c read =
-    let can = can_start number read.0 c read.1 in
-    record {
-      few = can.few;
-      cells = can.cells;
-      housed = can.housed;
-      lease = can.lease;
-      fits = can.fits;
-      limit = can.limit;
-      small = parsed_small can.schema_text c.schema can.schema_read;
-    }
+is_served number c read = (can_start number read.0 c read.1).served

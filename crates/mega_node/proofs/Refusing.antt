@@ -1,5 +1,5 @@
 -- Why a node did not start, or is served no longer, and what it leaves then.
-use Rattle.std.proofs.Common.{◌≡◌, ◌≢◌, ℕ, ◌<◌, ◌≤◌, ◌^◌, inl, inr, Option, Some, None, refl, sym, subst, ◌∙◌, arith}
+use Rattle.std.proofs.Common.{◌≡◌, ◌≢◌, ℕ, ◌<◌, ◌≤◌, ◌^◌, Option, Some, None, refl, sym, subst, ◌∙◌, arith}
 use Rattle.std.specs.Prelude.{option_map}
 use Rattle.mega_base.specs.Causes.{Rose}
 use Rattle.mega_disk.specs.declared.records.Records.{Ghosts}
@@ -16,10 +16,9 @@ use Rattle.mega_voter.specs.Used.{LogUsed}
 use Rattle.mega_wal.specs.declared.answers.LogFault.{LogFault}
 use Rattle.mega_wal.specs.declared.answers.LogFault.TheVariants as log
 use Rattle.mega_node.specs.declared.stop.Stop.{Stop}
-use Rattle.mega_node.specs.declared.stop.Stop.TheVariants.{BadRecord, Device, Full, Header, Link, NoMemory, Sink, Source, StartsFull, Unformed}
+use Rattle.mega_node.specs.declared.stop.Stop.TheVariants.{BadRecord, Full, NoMemory, StartsFull, Unformed}
 use Rattle.mega_node.specs.Serving.{IsDue, serve_stop}
 use Rattle.mega_node.specs.Starting.{HandsBack, fault_stop, left_of, start_stop}
-use Rattle.mega_node.specs.Stops.{IsStartStop}
 
 -- ---- a node that did not start
 
@@ -88,33 +87,6 @@ mapped below faults before stop (Some records) back = record {
     raised : (now : _) × (Some records ≡ Some now) × Rose before (faults (below now)) → Rose before (faults (below records))
     raised is = let one : is.0 ≡ records = (let same = is.1 in cc) in subst (λ (r : _). Rose before (faults (below r))) one is.2
 
--- it started too often
-pub often : {R : Type 0} (store : Ghosts R) (voter : Voter R) (one : NotStarted R) → IsRefused store voter one → start_stop one ≡ StartsFull → voter.logs.kept.starts ≡ 4294967295
-often store voter (refused.StartsFull records) is same = is.0
-often store voter (refused.Cut records) is same = absurd (cc)
-often store voter (refused.Log fault records) is same = absurd (of fault same)
-  where
-    of : (fault : LogFault) → fault_stop fault ≡ StartsFull → ⊥
-    of log.DiskFault same = cc
-    of (log.Full n) same = cc
-    of log.Spent same = cc
-    of (log.BadRecord n) same = cc
-    of log.NoMemory same = cc
-often store voter refused.NoMemory is same = absurd (cc)
-
-of_fault : (fault : LogFault) → IsStartStop (fault_stop fault)
-of_fault log.DiskFault = tt
-of_fault (log.Full n) = tt
-of_fault log.Spent = tt
-of_fault (log.BadRecord n) = tt
-of_fault log.NoMemory = tt
-
-pub only_these : {R : Type 0} (one : NotStarted R) → IsStartStop (start_stop one)
-only_these (refused.StartsFull records) = tt
-only_these (refused.Cut records) = tt
-only_these (refused.Log fault records) = of_fault fault
-only_these refused.NoMemory = tt
-
 -- ---- a node that is served no longer
 
 node_due : (fault : NodeFault) (before now : Devices) (sink more : ℕ) → IsCaused (serve.Node fault) before now sink more → IsDue (serve_stop (serve.Node fault)) before now sink more
@@ -129,29 +101,3 @@ pub due : (fault : ServeFault) (before now : Devices) (sink more : ℕ) → IsCa
 due (serve.Node fault) before now sink more is = node_due fault before now sink more is
 due serve.SinkFault before now sink more is = is
 due serve.NoMemory before now sink more is = tt
-
--- a sink that failed later failed from before on
-pub due_later : (stop : Stop) (before now : Devices) (x y z : ℕ) → x ≤ y → IsDue stop before now y z → IsDue stop before now x z
-due_later Device before now x y z le is = is
-due_later (Full length) before now x y z le is = is
-due_later Sink before now x y z le is = omega (arith, le, is)
-due_later Unformed before now x y z le is = tt
-due_later NoMemory before now x y z le is = tt
-due_later (Header rule) before now x y z le is = absurd is
-due_later Source before now x y z le is = absurd is
-due_later Link before now x y z le is = absurd is
-due_later StartsFull before now x y z le is = absurd is
-due_later (BadRecord number) before now x y z le is = absurd is
-
--- the device of a node whose rows are in memory is handed back
-pub due_back : {X : Type 0} (faults : X → ℕ) (before mid : ℕ) (stop : Stop) (kept : X) (x y : ℕ) → before ≤ mid → mid ≤ faults kept → IsDue stop (mid, 0) (faults kept, 0) x y → HandsBack faults before stop (Some kept)
-due_back faults before mid stop kept x y from le is = record {
-  device = λ same. (kept, refl, failed (subst (λ (s : Stop). IsDue s (mid, 0) (faults kept, 0) x y) same is));
-  full = λ n same. subst (λ (s : Stop). IsDue s (mid, 0) (faults kept, 0) x y) same is;
-  lost = λ same. absurd (cc);
-  later = λ now same. let one : kept ≡ now = cc in subst (λ (d : _). before ≤ faults d) one (omega (arith, from, le));
-}
-  where
-    failed : IsDue Device (mid, 0) (faults kept, 0) x y → Rose before (faults kept)
-    failed (inl rose) = omega (arith, from, rose)
-    failed (inr rose) = absurd (omega (arith, rose))

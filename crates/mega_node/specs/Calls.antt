@@ -11,6 +11,7 @@ use Rattle.mega_meanings.specs.Means.{Means}
 use Rattle.mega_node_laws.specs.Own.{HasOwnRows}
 use Rattle.mega_promises.specs.Runs.{setting}
 use Rattle.mega_promises.specs.Served.{Served, Turn, served, served_start}
+use Rattle.mega_reply_laws.specs.Requests.{AreReplied}
 use Rattle.mega_rules.specs.Clock.{start_of}
 use Rattle.mega_rules.specs.Logs.{log_of}
 use Rattle.mega_rules.specs.Operations.{Setting}
@@ -45,7 +46,7 @@ abbrev pub KeepsMet : {D : Type 0} → DiskGhosts D → D → Served → Type 0
 KeepsMet disks log now = disks.is_told ≡ true → HoldsMet (list_of (disks.seen log)) (start_of now.node.met) now.node.met
 
 -- the node of this number started over what its log held and made so many turns, those that clock and link tell: its record is held, what stands
--- there was sent, and its log holds what it met
+-- there was sent, its log holds what it met, and each request of a client got one reply at most
 pub record Ran {D : Type 0} (disks : DiskGhosts D) (h : Meanings) (c : Cluster) (number turns : ℕ) (log left : D) (before after : Outside) : Type 0 where
   pub found : List (List ℕ)
   pub are_found : AreFound disks log found
@@ -53,6 +54,7 @@ pub record Ran {D : Type 0} (disks : DiskGhosts D) (h : Meanings) (c : Cluster) 
   pub turned : HasTurned turns before.readings after.readings before.taken after.taken given
   pub recorded : IfOwn h c number found given (λ now. GoesOn c.schema before.held after.held before.sent after.sent now.lines)
   pub kept : IfOwn h c number found given (KeepsMet disks left)
+  pub replied : AreReplied c number (wish_of c.schema number) (served_over (setting c h number) found (turns_of h given))
 
 -- it started, began turns, and ended on its way: a front of its record is held, and what was sent stands in it
 pub record Halted {D : Type 0} (disks : DiskGhosts D) (h : Meanings) (c : Cluster) (number : ℕ) (log : D) (before after : Outside) : Type 0 where

@@ -7,7 +7,6 @@ ghost use Rattle.mega_rules.specs.Met.{Met};
 ghost use Rattle.mega_rules.specs.Operations.{Node as RuleNode, Now};
 ghost use Rattle.mega_rules.specs.Members.{kind_of};
 ghost use Rattle.mega_rules.specs.Steps.{at_first, at_open, begins, missing_kind, new_operation, op_of, refusal, unless_refused};
-ghost use Rattle.mega_replica.specs.Used.{StoreUsed};
 ghost use Rattle.mega_step_parts.specs.of_voter.Telling.{Tells};
 ghost use Rattle.mega_actions.specs.of_answers.declared.fault.ActFault.TheVariants.{Unserved};
 ghost use Rattle.mega_actions.specs.of_step_work.Servable.{is_served};
@@ -15,6 +14,7 @@ ghost use Rattle.mega_actions.specs.of_answers.Faults.{failed_by};
 ghost use Rattle.mega_actions.specs.of_marks.AreMarked.{AreMarked, IsIndexed};
 ghost use Rattle.mega_actions.specs.of_answers.Indexing.{marks_then};
 ghost use Rattle.mega_actions.specs.IsAt.{IsAt, setting_of};
+ghost use Rattle.mega_actions.specs.Leaves.{LeavesRest};
 ghost use Rattle.mega_actions.specs.of_step_work.Settings.{setting};
 ghost use Rattle.mega_actions.specs.of_step_work.Working.{work_of};
 ghost use Rattle.mega_node_events.specs.Beginning.{marks_unless};
@@ -96,15 +96,12 @@ fn serves<R: Records, V: Versions, H: QueueHandlers>(
         IsAt V.version h replica.old now.met now.stored → IsIndexed (replica.old.members).schema replica.old.indexed now.met →
         work.old ≡ work_of now → work.new ≡ work_of (begins (setting_of replica.old h) now (new_operation op request (clock_of now.met)))) }
     ensures handlers { H.meant handlers.new ≡ H.meant handlers.old }
-    ensures members { replica.new.members ≡ replica.old.members }
-    ensures me { replica.new.me ≡ replica.old.me }
-    ensures voter { replica.new.voter ≡ replica.old.voter }
+    ensures leaves { LeavesRest V.Versions (failed_by result) replica.old replica.new }
     ensures indexed { OnOk result ((h : Meanings) (now : Now) → V.is_told ≡ true →
         IsAt V.version h replica.old now.met now.stored → IsIndexed (replica.old.members).schema replica.old.indexed now.met →
         AreMarked (replica.old.members).schema replica.new.indexed now.met (marks_then now request)) }
     ensures built { OnOk result (is_served request ≡ true) }
     ensures unserved { result ≡ Err Unserved → is_served request ≡ false }
-    ensures used { StoreUsed V.Versions (failed_by result) replica.old.rows.rows replica.new.rows.rows }
 {
     if !is_served(&request) {
         return Err(ActFault::Unserved);
@@ -131,15 +128,12 @@ pub fn unless_refused<R: Records, V: Versions, H: QueueHandlers>(
         IsAt V.version h replica.old now.met now.stored → IsIndexed (replica.old.members).schema replica.old.indexed now.met →
         work.old ≡ work_of now → work.new ≡ work_of (unless_refused (setting_of replica.old h) now (new_operation op request (clock_of now.met)) refusal)) }
     ensures handlers { H.meant handlers.new ≡ H.meant handlers.old }
-    ensures members { replica.new.members ≡ replica.old.members }
-    ensures me { replica.new.me ≡ replica.old.me }
-    ensures voter { replica.new.voter ≡ replica.old.voter }
+    ensures leaves { LeavesRest V.Versions (failed_by result) replica.old replica.new }
     ensures indexed { OnOk result ((h : Meanings) (now : Now) → V.is_told ≡ true →
         IsAt V.version h replica.old now.met now.stored → IsIndexed (replica.old.members).schema replica.old.indexed now.met →
         AreMarked (replica.old.members).schema replica.new.indexed now.met (marks_unless now request refusal)) }
     ensures built { OnOk result (refusal ≡ None → is_served request ≡ true) }
     ensures unserved { result ≡ Err Unserved → is_served request ≡ false }
-    ensures used { StoreUsed V.Versions (failed_by result) replica.old.rows.rows replica.new.rows.rows }
 {
     match refusal {
         None => serves(alloc, handlers, replica, work, op, request),

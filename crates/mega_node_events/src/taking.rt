@@ -19,6 +19,7 @@ ghost use Rattle.mega_step_parts.specs.of_voter.Telling.{Tells};
 ghost use Rattle.mega_actions.specs.of_answers.declared.fault.ActFault.TheVariants as act;
 ghost use Rattle.mega_actions.specs.of_answers.Faults.{failed_by as failed_to_act};
 ghost use Rattle.mega_actions.specs.IsAt.{IsAt, setting_of};
+ghost use Rattle.mega_actions.specs.Leaves.{Leaves};
 ghost use Rattle.mega_actions.specs.Turns.{IsServableHeard, IsHeardAbout};
 ghost use Rattle.mega_actions.specs.of_step_work.Working.{work_of};
 ghost use Rattle.mega_node_events.specs.declared.fault.StepFault.TheVariants.{Late, Stranger, Unserved};
@@ -175,13 +176,8 @@ pub fn acts<R: Records, V: Versions, H: QueueHandlers>(
     ensures work { V.is_told ≡ true → IfOk result (λ work. (h : Meanings) (met : List Met) (stored : Group → ℕ) → Means (H.meant handlers.old) h → All IsHeardAbout heard →
         IsAt V.version h replica.old met stored →
         work ≡ work_of (all_act (setting_of replica.old h) (at_first met stored) heard)) }
-    ensures handlers { H.meant handlers.new ≡ H.meant handlers.old }
-    ensures members { replica.new.members ≡ replica.old.members }
-    ensures me { replica.new.me ≡ replica.old.me }
-    ensures voter { replica.new.voter ≡ replica.old.voter }
-    ensures indexed { replica.new.indexed ≡ replica.old.indexed }
+    ensures leaves { Leaves V.Versions (failed_to_act result) (H.meant handlers.old) (H.meant handlers.new) replica.old replica.new }
     ensures unserved { result ≡ Err act.Unserved → All IsServableHeard heard → ⊥ }
-    ensures used { StoreUsed V.Versions (failed_to_act result) replica.old.rows.rows replica.new.rows.rows }
 {
     let mut work = Work::new(alloc, heard.len())?;
     replica.all_act(alloc, handlers, &mut work, heard)?;

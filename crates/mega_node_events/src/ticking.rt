@@ -16,6 +16,7 @@ ghost use Rattle.mega_replica.specs.Used.{StoreUsed};
 ghost use Rattle.mega_actions.specs.of_answers.declared.fault.ActFault.TheVariants as act;
 ghost use Rattle.mega_actions.specs.of_answers.Faults.{failed_by as failed_to_act};
 ghost use Rattle.mega_actions.specs.IsAt.{IsAt, setting_of};
+ghost use Rattle.mega_actions.specs.Leaves.{Leaves};
 ghost use Rattle.mega_actions.specs.Turns.{IsServable};
 ghost use Rattle.mega_actions.specs.of_step_work.Working.{work_of};
 ghost use Rattle.mega_step_parts.specs.Staging.{Stages};
@@ -58,13 +59,8 @@ pub fn acts_ticked<R: Records, V: Versions, H: QueueHandlers>(
     ensures work { V.is_told ≡ true → IfOk result (λ work. (h : Meanings) (met : List Met) (stored : Group → ℕ) → Means (H.meant handlers.old) h → All IsAbout operations →
         IsAt V.version h replica.old met stored →
         work ≡ work_of (fold (ticked (setting_of replica.old h) now) (at_first met stored) operations)) }
-    ensures handlers { H.meant handlers.new ≡ H.meant handlers.old }
-    ensures members { replica.new.members ≡ replica.old.members }
-    ensures me { replica.new.me ≡ replica.old.me }
-    ensures voter { replica.new.voter ≡ replica.old.voter }
-    ensures indexed { replica.new.indexed ≡ replica.old.indexed }
+    ensures leaves { Leaves V.Versions (failed_to_act result) (H.meant handlers.old) (H.meant handlers.new) replica.old replica.new }
     ensures unserved { result ≡ Err act.Unserved → All IsServable operations → ⊥ }
-    ensures used { StoreUsed V.Versions (failed_to_act result) replica.old.rows.rows replica.new.rows.rows }
 {
     let mut work = Work::new(alloc, operations.len())?;
     replica.all_ticked(alloc, handlers, &mut work, now, operations)?;

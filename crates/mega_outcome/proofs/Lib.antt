@@ -1,6 +1,5 @@
 pub mod OneMore
 pub mod Sizes
-pub mod Seen
 pub mod Items
 pub mod Grown
 pub mod GrownChanges

@@ -1,19 +1,12 @@
 -- One look after another.
 use Rattle.std.proofs.Common.{◌≡◌, ◌∙◌, ◌≤◌, subst, sym, inl, inr, ⊎_elim, refl, ℕ, arith}
-use Rattle.std.specs.Prelude.{Option, Some, None}
+use Rattle.std.specs.Prelude.{Option, None}
 use Rattle.mega_base.specs.Causes.{Rose}
 use Rattle.mega_disk.specs.Fuse.{Fuse, Untold, Unset, Left, MayBurn, Burns}
-use Rattle.mega_disk.specs.VersionMaps.{Stored}
 use Rattle.mega_disk.specs.declared.versions.StoreError.{StoreError}
-use Rattle.mega_disk.specs.declared.versions.StoreError.TheVariants.{DiskFault, Full, BadRecord, NoMemory}
 use Rattle.mega_disk.specs.declared.versions.Versions.{Ghosts}
-use Rattle.mega_disk.proofs.Leaves.{started, then_leaves}
+use Rattle.mega_disk.proofs.Leaves.{then_leaves}
 use Rattle.mega_outcome.specs.Looks.{Looked, Looks}
-
-burn_here : (f : Fuse) → MayBurn f f
-burn_here Untold = refl
-burn_here Unset = refl
-burn_here (Left n) = inr (n, refl, omega arith)
 
 burn_then : (f g h : Fuse) → MayBurn f g → MayBurn g h → MayBurn f h
 burn_then Untold g h first second = subst (λ (m : Fuse). MayBurn m h) first second
@@ -36,20 +29,6 @@ burns_then Unset g h first burns = absurd (unset (sym first ∙ burns.was_set.1)
     unset : Unset ≡ Left burns.was_set.0 → ⊥
     unset e = cc
 burns_then (Left n) g h first burns = record { was_set = (n, refl); gone = burns.gone }
-
-pub looked_here : {V : Type 0} (store : Ghosts V) (x : V) → ((c : Stored) → store.opened_since x (store.moment x) c → store.may_open x c) → Looked store x x
-looked_here store x only_now = record {
-  versions = refl;
-  cleaned = refl;
-  marks = refl;
-  full = refl;
-  any_moment = started store.moment store.opened_since x (store.may_open x) only_now;
-  within = λ c now. now;
-  later = omega arith;
-  may_burn = burn_here (store.fuse_left x);
-  by_fuse = λ h. h;
-  bad_stays = λ n h. h;
-}
 
 pub looked_then : {V : Type 0} (store : Ghosts V) (old mid new : V) → Looked store old mid → Looked store mid new → Looked store old new
 looked_then store old mid new first second = record {
@@ -76,34 +55,3 @@ looks_then store failed old mid new first second = record {
   never_full = second.never_full;
   burns = λ h e. burns_then (store.fuse_left old) (store.fuse_left mid) (store.fuse_left new) first.looked.may_burn (second.burns (first.looked.by_fuse h) e);
 }
-
--- looks after which nothing failed but memory
-pub looks_well : {V : Type 0} (store : Ghosts V) (old new : V) → Looked store old new → Looks store None old new
-looks_well store old new looked = record {
-  looked = looked;
-  cause = λ e. absurd (nothing_is DiskFault e);
-  bad = λ n e. absurd (nothing_is (BadRecord n) e);
-  never_full = λ n e. nothing_is (Full n) e;
-  burns = λ h e. absurd (nothing_is DiskFault e);
-}
-  where
-    nothing_is : (fault : StoreError) → None ≡ Some fault → ⊥
-    nothing_is fault e = cc
-
-pub looks_no_memory : {V : Type 0} (store : Ghosts V) (old new : V) → Looked store old new → Looks store (Some NoMemory) old new
-looks_no_memory store old new looked = record {
-  looked = looked;
-  cause = λ e. absurd (other_fault e);
-  bad = λ n e. absurd (other_bad n e);
-  never_full = λ n e. other_full n e;
-  burns = λ h e. absurd (other_fault e);
-}
-  where
-    other_fault : Some NoMemory ≡ Some DiskFault → ⊥
-    other_fault e = cc
-
-    other_bad : (n : ℕ) → Some NoMemory ≡ Some (BadRecord n) → ⊥
-    other_bad n e = cc
-
-    other_full : (n : ℕ) → Some NoMemory ≡ Some (Full n) → ⊥
-    other_full n e = cc

@@ -1,9 +1,8 @@
 -- What the calls answer, over rows that are looked up.
-use Rattle.std.specs.Prelude.{◌≡◌, ℕ, Bool, true, false, List, Option, Some, None, Result, Ok, Err}
-use Rattle.std.specs.BTreeMap.{BTreeMap, get}
-use Rattle.mega_base.specs.declared.values.Row.{Row}
+use Rattle.std.specs.Prelude.{◌≡◌, ℕ, Bool, true, false, Result, Ok, Err}
 use Rattle.mega_disk.specs.VersionMaps.{Versions, row_at}
-use Rattle.mega_index.specs.Rows.{Rows, key_cmp}
+use Rattle.mega_index.specs.Rows.{Rows}
+pub use Rattle.mega_index.specs.Pending.{seen}
 use Rattle.mega_outcome.specs.declared.answer.Turn.{Turn}
 use Rattle.mega_outcome.specs.declared.answer.Turn.TheVariants.{OtherGroup, BadRow, CheckFailed, NoRow, Overflow, TooLarge, DiskFault, Full, BadRecord, NoMemory}
 
@@ -36,15 +35,3 @@ Gives result answer = GivesBy (λ x. x) result answer
 -- the rows of versions at a position
 abbrev pub rows_at : Versions → ℕ → Rows
 rows_at versions p key = row_at versions key p
-
--- rows and deletions that were written since
-abbrev pub Pending : Type 0
-Pending = BTreeMap (List ℕ) (Option Row)
-
-abbrev pub or_row : Option (Option Row) → Option Row → Option Row
-or_row None row = row
-or_row (Some written) row = written
-
--- the rows with those that were written since
-abbrev pub seen : Pending → Rows → Rows
-seen pending rows key = or_row (get key_cmp pending key) (rows key)

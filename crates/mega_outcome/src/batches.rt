@@ -11,12 +11,12 @@ ghost use Rattle.mega_outcome.specs.Answers.{Gives, is_outside, rows_at, seen};
 ghost use Rattle.mega_outcome.specs.Looks.{Looks};
 
 use crate::answer::{Batch, Turn};
-use crate::looking::Pending;
 use crate::running::outcome_in;
 use crate::taking::add_result;
 use crate::transaction::Transaction;
 use mega_base::{GroupId, Items, Position};
 use mega_disk::{StoreError, Versions};
+use mega_index::mega_row_writes::Pending;
 use mega_index::mega_schema::Schema;
 use std::alloc::Global;
 use std::collections::BTreeMap;

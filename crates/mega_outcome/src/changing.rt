@@ -2,7 +2,7 @@
 ghost use Rattle.std.specs.Prelude.{◌≡◌, ◌+◌, ◌<◌, ◌^◌, ◌++◌, true, length, Some, IfOk, OnOk};
 ghost use Rattle.std.specs.Result.{result_err};
 ghost use Rattle.std.specs.Option.{option_copied};
-ghost use Rattle.mega_index.specs.Rows.{Rows, changed, written};
+ghost use Rattle.mega_index.specs.Rows.{Rows, written};
 ghost use Rattle.mega_index.specs.Fits.{numbered};
 ghost use Rattle.mega_outcome.specs.Changes.{change, all_changes};
 ghost use Rattle.mega_outcome.specs.Steps.{IsInside, put_key, changed_key, changed_to};
@@ -11,13 +11,14 @@ ghost use Rattle.mega_outcome.specs.Looks.{Looks};
 
 use crate::adding::add_at;
 use crate::answer::Turn;
-use crate::looking::{Pending, copy_row, look_newest};
+use crate::looking::look_newest;
 use crate::places::key_in;
 use crate::replacing::{append, delete_at, put_at};
 use crate::transaction::Change;
-use mega_base::{Bytes, Copied, Items, NoMemory, Position, Row};
+use mega_base::{Bytes, Items, NoMemory, Position, Row};
 use mega_disk::{StoreError, Versions};
 use mega_index::mega_entry::Write;
+use mega_index::mega_row_writes::{Pending, note};
 use mega_index::mega_schema::Schema;
 use mega_index::{key_values, table_at};
 use std::alloc::Global;
@@ -106,25 +107,6 @@ fn change<V: Versions>(
     };
     let old = look_newest(alloc, newest, earlier, rows, at, &key)?;
     Ok(changed_to(alloc, schema, item, one, &key, old.as_ref())?)
-}
-
-/// Notes writes among those that are pending.
-pub fn note(alloc: Global, pending: &mut Pending, writes: &[Write]) -> Result<(), NoMemory>
-    ensures { OnOk result ((rows : Rows) → seen pending.new rows ≡ written writes.now (seen pending.old rows)) }
-{
-    for write in writes {
-        note_one(alloc, pending, write)?;
-    }
-    Ok(())
-}
-
-fn note_one(alloc: Global, pending: &mut Pending, write: &Write) -> Result<(), NoMemory>
-    ensures { OnOk result ((rows : Rows) → seen pending.new rows ≡ changed (seen pending.old rows) write.now) }
-{
-    let key = write.key.copy(alloc)?;
-    let row = copy_row(alloc, write.row.as_ref())?;
-    pending.insert(key, row)?;
-    Ok(())
 }
 
 /// Notes writes among the newest ones, and adds them at the end.

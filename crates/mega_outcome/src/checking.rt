@@ -9,11 +9,11 @@ ghost use Rattle.mega_outcome.specs.Answers.{rows_at, seen};
 ghost use Rattle.mega_outcome.specs.Looks.{Looks};
 
 use crate::answer::Turn;
-use crate::looking::Pending;
 use crate::places::row_in;
 use crate::transaction::{Check, RowRef};
 use mega_base::{Items, Position, Row, Value};
 use mega_disk::{StoreError, Versions};
+use mega_index::mega_row_writes::Pending;
 use mega_index::mega_schema::{Property, Schema};
 use mega_index::mega_syntax::Need;
 use mega_index::{are_kind, property_at, table_at, values_are};

@@ -1,17 +1,13 @@
 //! The row under a key, as pending writes left it or as it stands.
 ghost use Rattle.std.specs.Prelude.{◌≡◌, true, IfOk};
-ghost use Rattle.std.specs.Option.{option_copied};
 ghost use Rattle.std.specs.Result.{result_err};
 ghost use Rattle.mega_outcome.specs.Answers.{rows_at, seen};
 ghost use Rattle.mega_outcome.specs.Looks.{Looks};
 
-use mega_base::{Bytes, Copied, NoMemory, Position, Row};
+use mega_base::{Bytes, Position, Row};
 use mega_disk::{StoreError, Versions};
+use mega_index::mega_row_writes::{Pending, copy_row};
 use std::alloc::Global;
-use std::collections::BTreeMap;
-
-/// Rows and deletions that were written since a position, by their keys.
-pub type Pending = BTreeMap<Bytes, Option<Row>>;
 
 /// The row under the key at a position.
 fn get<V: Versions>(
@@ -24,16 +20,6 @@ fn get<V: Versions>(
     ensures looks { Looks V.Versions (result_err result) rows.old rows.new }
 {
     rows.get(alloc, key, at)
-}
-
-/// A copy of a row that is there or not.
-pub fn copy_row(alloc: Global, row: Option<&Row>) -> Result<Option<Row>, NoMemory>
-    ensures { IfOk result (λ made. made ≡ option_copied row.entry) }
-{
-    match row {
-        Some(row) => Ok(Some(row.copy(alloc)?)),
-        None => Ok(None),
-    }
 }
 
 /// The row under the key, as it was written since the position or stands there.

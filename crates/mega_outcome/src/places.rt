@@ -9,10 +9,11 @@ ghost use Rattle.mega_outcome.specs.Answers.{rows_at, seen};
 ghost use Rattle.mega_outcome.specs.Looks.{Looks};
 
 use crate::answer::Turn;
-use crate::looking::{Pending, look};
+use crate::looking::look;
 use mega_base::{Bytes, GroupId, NoMemory, Position, Row, Value};
 use mega_disk::{StoreError, Versions};
 use mega_index::mega_keys::KeyFault;
+use mega_index::mega_row_writes::Pending;
 use mega_index::mega_schema::{Schema, Table};
 use mega_index::{group_of, key_of, table_at};
 use std::alloc::Global;

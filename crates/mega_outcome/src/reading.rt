@@ -7,11 +7,11 @@ ghost use Rattle.mega_outcome.specs.Answers.{rows_at, seen};
 ghost use Rattle.mega_outcome.specs.Looks.{Looks};
 
 use crate::answer::{Shown, Turn};
-use crate::looking::Pending;
 use crate::places::row_in;
 use crate::transaction::RowRef;
 use mega_base::{Items, Position, Row};
 use mega_disk::{StoreError, Versions};
+use mega_index::mega_row_writes::Pending;
 use mega_index::mega_schema::Schema;
 use std::alloc::Global;
 

@@ -6,9 +6,9 @@ ghost use Rattle.mega_outcome.specs.Changes.{replaced, delete_at};
 ghost use Rattle.mega_outcome.specs.Steps.{IsInside, put_at};
 
 use crate::answer::Turn;
-use crate::looking::copy_row;
 use mega_base::{Bytes, Copied, Items, NoMemory, Row};
 use mega_index::mega_entry::Write;
+use mega_index::mega_row_writes::copy_row;
 use mega_index::mega_schema::Schema;
 use mega_index::{index_writes, row_fits, table_at};
 use std::alloc::Global;

@@ -11,7 +11,6 @@ use crate::answer::{Done, Shown, Turn};
 use crate::changing::all_changes;
 use crate::checking::all_checks;
 use crate::longest::unless_large;
-use crate::looking::Pending;
 use crate::numbers::{Numbers, numbers_of};
 use crate::reading::all_reads;
 use crate::sending::all_sends;
@@ -19,6 +18,7 @@ use crate::transaction::Transaction;
 use mega_base::{Copied, Items, NoMemory, Position};
 use mega_disk::{StoreError, Versions};
 use mega_index::mega_entry::Write;
+use mega_index::mega_row_writes::Pending;
 use mega_index::mega_schema::Schema;
 use std::alloc::Global;
 

@@ -5,13 +5,12 @@ ghost use Rattle.mega_outcome.specs.Outcome.{left_out, taken, taken_unless_large
 ghost use Rattle.mega_outcome.specs.Answers.{seen};
 
 use crate::answer::{Batch, Done, Turn};
-use crate::changing::note;
 use crate::cutting::{batch_length, cut_of};
 use crate::longest::MOST_BYTES;
-use crate::looking::Pending;
 use crate::replacing::append;
 use mega_base::{Items, NoMemory};
 use mega_index::mega_entry::{Cut, Send};
+use mega_index::mega_row_writes::{Pending, note};
 use std::alloc::Global;
 
 /// Leaves the next transaction out with its refusal.

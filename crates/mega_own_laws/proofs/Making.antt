@@ -20,7 +20,7 @@ use Rattle.mega_outcome.specs.Outcome.{batch_outcome, entry_of_batch, entry_of_d
 use Rattle.mega_run_laws.specs.of_rules.Acting.{handling}
 use Rattle.mega_run_laws.specs.of_rules.Operations.{Setting}
 use Rattle.mega_run_laws.specs.of_tape_laws.Indexed.{IsDeclared}
-use Rattle.mega_run_laws.proofs.of_tape_laws.Placed.{same_self}
+use Rattle.mega_index.proofs.KeyLists.{same_self}
 use Rattle.mega_run_laws.proofs.of_tape_laws.Sending.{to_in}
 use Rattle.mega_run_laws.specs.Justified.{Each}
 use Rattle.mega_run_laws.proofs.Turns.{each_on}

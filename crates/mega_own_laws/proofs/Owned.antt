@@ -13,7 +13,7 @@ use Rattle.mega_outcome.specs.Places.{key_in}
 use Rattle.mega_node_laws.specs.Own.{HasOwnRows}
 use Rattle.mega_run_laws.specs.of_rules.of_replica.Applying.{writes_of}
 use Rattle.mega_run_laws.specs.of_rules.of_replica.Stored.{GroupLogs, last_write}
-use Rattle.mega_run_laws.proofs.of_tape_laws.Placed.{key_is, not_key}
+use Rattle.mega_index.proofs.KeyLists.{key_is, not_key}
 use Rattle.mega_run_laws.specs.Justified.{Each}
 use Rattle.mega_run_laws.proofs.Events.{each_append}
 use Rattle.mega_run_laws.proofs.Turns.{each_on}

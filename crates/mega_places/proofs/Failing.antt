@@ -1,16 +1,12 @@
 -- Why a node of a world does not step: never for its rows, which are in memory.
-use Rattle.std.proofs.Common.{◌≡◌, ◌<◌, ◌^◌, ℕ, true, false, Some, None, inl, inr, refl, subst, sym, ◌∙◌, arith}
-use Rattle.mega_base.specs.Causes.{Rose}
+use Rattle.std.proofs.Common.{◌≡◌, ◌<◌, ◌^◌, ℕ, true, false, Some, inl, inr, refl, subst, sym, ◌∙◌, arith}
 use Rattle.mega_disk.specs.declared.records.Records.{Ghosts as RecordGhosts}
-use Rattle.mega_disk.specs.declared.versions.Versions.{Ghosts}
 use Rattle.mega_leases.specs.Taking.{IsLate}
 use Rattle.mega_voter.specs.Used.{LogUsed}
 use Rattle.mega_wal.specs.declared.answers.LogFault.{LogFault}
 use Rattle.mega_wal.specs.declared.answers.LogFault.TheVariants as log
-use Rattle.mega_replica.specs.Used.{StoreUsed}
 use Rattle.mega_durable.specs.of_core.of_node_events.declared.fault.StepFault.{StepFault}
 use Rattle.mega_durable.specs.of_core.of_node_events.declared.fault.StepFault.TheVariants as fault
-use Rattle.mega_durable.specs.of_core.Faults.{of_store}
 use Rattle.mega_cluster.specs.declared.cluster.Cluster.{Cluster}
 use Rattle.mega_handler.specs.Named.{Meanings}
 use Rattle.mega_rules.specs.Operations.{Node as RuleNode}
@@ -18,17 +14,6 @@ use Rattle.mega_rules.specs.Steps.{Begin, Event, Take, Tick}
 use Rattle.mega_durable.specs.of_core.Stepping.{IsStrange, IsTooLate, IsUnserved}
 use Rattle.mega_places.specs.Faults.{is_strange}
 use Rattle.mega_places.specs.Stepping.{IsNear}
-
--- a device that never fails, and never held anything bad, is not why
-pub no_rows : {V : Type 0} (store : Ghosts V) (why : StepFault) (old new : V) → StoreUsed store (of_store why) old new → ((x : V) → store.faults x ≡ 0) → ((x : V) (n : ℕ) → store.is_bad x n → ⊥) → of_store why ≡ None
-no_rows store fault.DiskFault old new used whole good =
-    let rose : Rose (store.faults old) (store.faults new) = used.cause refl in absurd (omega (arith, rose, whole old, whole new))
-no_rows store (fault.Full n) old new used whole good = absurd (used.never_full n refl)
-no_rows store (fault.BadRecord n) old new used whole good = absurd (good old n (used.bad n refl))
-no_rows store fault.Unserved old new used whole good = refl
-no_rows store fault.Stranger old new used whole good = refl
-no_rows store fault.Late old new used whole good = refl
-no_rows store fault.NoMemory old new used whole good = refl
 
 -- records in memory that are open lack memory alone, where their device did not fail
 pub log_memory : {R : Type 0} (store : RecordGhosts R) (length : ℕ) (why : LogFault) (old new : R) → LogUsed store length (Some why) old new → store.is_spent old ≡ false → length ≡ 0 → (why ≡ log.DiskFault → ⊥) → why ≡ log.NoMemory

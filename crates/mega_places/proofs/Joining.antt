@@ -112,9 +112,6 @@ set_twice [] i v w = refl
 set_twice (x ∷ xs) zero v w = refl
 set_twice (x ∷ xs) (suc i) v w = ap (λ t. x ∷ t) (set_twice xs i v w)
 
-pub length_of_set : {X : Type 0} (xs : List X) (i : ℕ) (v : X) → length (set xs i v) ≡ length xs
-length_of_set xs i v = length_set xs i v
-
 -- at its own number a function was changed, and at no other
 pub at_own : {X : Type 0} (f : ℕ → X) (me : ℕ) (v : X) → set_at f me v me ≡ v
 at_own f me v = let same : (me == me) ≡ true = grind (arith, nat_tests) in ap (λ t. cond t v (f me)) same

@@ -13,7 +13,7 @@ use Rattle.mega_node_laws.specs.Acted.{own_item}
 use Rattle.mega_durable.specs.of_core.of_step_parts.declared.step.Step.{Step}
 use Rattle.mega_durable.specs.declared.cut.Cut.{Cut}
 use Rattle.mega_durable.specs.Replying.{owed_by}
-use Rattle.mega_promises.specs.Runs.{Standing, after_append, appends, is_burning, is_kept, left_by, met_in, owes, replies_in, set_at, setting, whole_step}
+use Rattle.mega_promises.specs.Runs.{Standing, after_append, appends, is_burning, is_kept, left_by, met_in, owes, replies_in, setting, whole_step}
 use Rattle.mega_voter.specs.Holding.{HoldsMet}
 use Rattle.mega_places.specs.declared.fallen.Fallen.{Fallen}
 use Rattle.mega_places.specs.declared.member.Member.{Member}
@@ -43,9 +43,6 @@ stands_at c places now me i place member all at least there up = record {
 }
 
 -- ---- a step that is whole
-set_if : {X : Type 0} (a : Bool) (f : ℕ → X) (me : ℕ) (v : X) → set_at f me (cond a v (f me)) me ≡ cond a v (f me)
-set_if a f me v = at_own f me (cond a v (f me))
-
 pub makes_at : (c : Cluster) (h : Meanings) (now : Standing) (me : ℕ) (event : Event) (places : List Place) (old member : Member) (made : Step) → AreNodes c places now → 1 ≤ me → me ≤ length places → is_up (now.node me).met ≡ true
     → IsSettled old (now.starts me) (now.owed me) (now.node me).met (now.log_fuse me)
     → MadeStep c me (step (setting c h me) (now.node me) event) (now.log_fuse me) member made → Makes c now me (step (setting c h me) (now.node me) event) (set places (me - 1) (Up member)) made

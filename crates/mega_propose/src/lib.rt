@@ -9,13 +9,12 @@ mod members;
 mod moves;
 mod preparing;
 mod round;
-mod same;
 mod sending;
 mod taking;
 mod votes;
 
 pub use due::is_due;
+pub use mega_entry::{is_same_group, is_same_op};
 pub use mega_wire;
 pub use members::{greatest_top, has, is_majority, joined, others, with_node, without};
 pub use round::{Cover, Free, Move, Proposal, Report, Round, Site};
-pub use same::{is_same_group, is_same_op};

@@ -8,11 +8,11 @@ ghost use Rattle.mega_propose.specs.declared.round.Round.TheVariants.{Waiting};
 use crate::members::{has, is_majority};
 use crate::moves::stays;
 use crate::round::{Move, Proposal, Report, Round, Site};
-use crate::same::is_same_ballot;
 use crate::votes::{copy_vote, picked};
 use mega_ballot::Ballot;
 use mega_base::{Copied, Items, NoMemory};
 use mega_entry::Entry;
+use mega_wal::mega_acceptor::is_same;
 use std::alloc::Global;
 
 /// Whether a voter's promise is among the reports.
@@ -27,7 +27,7 @@ impl Site {
     fn counts(&self, from: u8, present: Ballot, ballot: Ballot, reports: &[Report]) -> bool
         ensures { result ≡ (same_ballot present ballot && has from self.now.voters && not (list_any (λ report. report.voter == from) reports.now)) }
     {
-        is_same_ballot(present, ballot)
+        is_same(present, ballot)
             && has(from, self.voters.as_slice())
             && !has_reported(from, reports)
     }

@@ -4,9 +4,9 @@ ghost use Rattle.mega_propose.specs.Rounds.{is_here, sees, takes};
 
 use crate::moves::stays;
 use crate::round::{Move, Proposal, Site};
-use crate::same::{is_same_group, is_same_op};
 use crate::votes::vote_round;
 use mega_base::{GroupId, NoMemory, OpId, Position};
+use mega_entry::{is_same_group, is_same_op};
 use mega_wire::Body;
 use std::alloc::Global;
 

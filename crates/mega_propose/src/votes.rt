@@ -4,25 +4,17 @@ ghost use Rattle.mega_propose.specs.Rounds.{greater_vote, greatest_vote, is_sent
 ghost use Rattle.mega_wal.specs.Acceptor.{is_ballot_below};
 
 use crate::round::Report;
-use crate::same::{is_same_ballot, is_same_entry};
 use mega_ballot::Ballot;
 use mega_base::{Copied, NoMemory};
-use mega_entry::Entry;
+use mega_entry::{Entry, is_same_entry};
+use mega_wal::mega_acceptor::{is_below, is_same};
 use std::alloc::Global;
 
 /// Whether an answer shows the entry that was sent at the present ballot.
 pub(crate) fn is_sent(ballot: Ballot, entry: &Entry, shown: Ballot, accepted: &Entry) -> bool
     ensures { result ≡ is_sent ballot entry.now shown accepted.now }
 {
-    is_same_ballot(ballot, shown) && is_same_entry(entry, accepted)
-}
-
-/// Whether a ballot is below another.
-#[tactic(auto, using(crate::proofs::Agreeing::below_is))]
-fn is_below(ballot: Ballot, other: Ballot) -> bool
-    ensures { result ≡ is_ballot_below ballot other }
-{
-    ballot.is_below(other)
+    is_same(ballot, shown) && is_same_entry(entry, accepted)
 }
 
 /// Of two votes that of the greater ballot, of equal ballots the first.

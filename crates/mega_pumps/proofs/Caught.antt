@@ -20,7 +20,7 @@ use Rattle.mega_rules.specs.Met.{Met}
 use Rattle.mega_queues.specs.declared.queues.Queues.{Queues}
 use Rattle.mega_queues.specs.Boxes.{Logs}
 use Rattle.mega_queues.specs.Followed.{Represents}
-use Rattle.mega_queues.proofs.HaveEntries.{has, no_log}
+use Rattle.mega_rules.proofs.Groups.{has, no_log}
 use Rattle.mega_pumps.specs.Reach.{applied_fronts, fronts, through_at, with_log}
 
 -- the front of one log is another

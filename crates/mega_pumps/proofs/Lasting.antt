@@ -22,7 +22,7 @@ use Rattle.mega_node_laws.proofs.Applied.{applied_within}
 use Rattle.mega_node_laws.proofs.Logs.{log_is, log_more_after}
 use Rattle.mega_queues.specs.Boxes.{Logs}
 use Rattle.mega_queues.specs.Followed.{Represents}
-use Rattle.mega_queues.proofs.HaveEntries.{has, no_log}
+use Rattle.mega_rules.proofs.Groups.{has, no_log}
 use Rattle.mega_pumps.specs.declared.digest.Digest.{Digest}
 use Rattle.mega_pumps.specs.Reach.{fronts, through_at}
 use Rattle.mega_pumps.specs.Notes.{HasNoted, IsNoted, Notes}

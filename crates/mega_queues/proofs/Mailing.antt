@@ -12,7 +12,7 @@ use Rattle.std.specs.BTreeMap.{is_at}
 use Rattle.mega_wal.specs.History.{group_cmp}
 use Rattle.mega_queues.specs.declared.mailbox.Mailbox.{Mailbox}
 use Rattle.mega_queues.specs.Named.{AddsAll, Names, is_in, is_known, names_of}
-use Rattle.mega_queues.specs.Mail.{first_of, is_left, mail_of, no_mail, only_if, seen, with_entry, with_marks}
+use Rattle.mega_queues.specs.Mail.{first_of, is_left, mail_of, no_mail, seen, with_entry, with_marks}
 
 -- ---- filters
 pub filter_twice : {A : Type 0} (p q r : A → Bool) → ((x : A) → cond (q x) (p x) false ≡ r x) → (xs : List A) → filter p (filter q xs) ≡ filter r xs
@@ -99,10 +99,6 @@ none_left_out (x ∷ xs) = ap (λ l. x ∷ l) (none_left_out xs)
 pub none_waits : (handled : List Name) (xs : List Enter) → length handled ≡ 0 → xs ≡ filter (is_left handled) xs
 none_waits [] xs none = sym (none_left_out xs)
 none_waits (name ∷ names) xs none = absurd (omega (arith, none))
-
-pub only_then : (p : Enter → Bool) (b : Bool) (x : Enter) (xs : List Enter) → p x ≡ b → only_if b x ++ filter p xs ≡ filter p (x ∷ xs)
-only_then p true x xs e = ap (λ t. cond t (x ∷ filter p xs) (filter p xs)) (sym e)
-only_then p false x xs e = ap (λ t. cond t (x ∷ filter p xs) (filter p xs)) (sym e)
 
 pub taken_in : (old new : Mailbox) (mid : List Enter) (enters : List Enter) (handles : List Name)
     → AddsAll old.entered new.entered (names_of enters) → AddsAll old.handled new.handled handles

@@ -1,6 +1,6 @@
 -- A name that is added to those that are known.
-use Rattle.std.proofs.Common.{◌≡◌, ◌∙◌, ap, sym, refl, ℕ, ◌==◌, ◌&&◌, ◌||◌, Bool, true, false, cond, List, [], ◌∷◌, ◌++◌, arith, Ordering, Less, Equal, Greater, nat_cmp, ◌↔◌}
-use Rattle.std.specs.Prelude.{Some, IsTrue}
+use Rattle.std.proofs.Common.{◌≡◌, ◌∙◌, ap, sym, refl, ℕ, ◌==◌, ◌&&◌, ◌||◌, Bool, true, false, cond, List, [], ◌∷◌, ◌++◌, arith, Ordering, Less, Equal, Greater, nat_cmp}
+use Rattle.std.specs.Prelude.{Some}
 use Rattle.std.specs.List.{list_any}
 use Rattle.std.specs.Ordering.{is_eq, ordering_then}
 use Rattle.std.specs.BTreeMap.{get, is_at}
@@ -76,54 +76,6 @@ added old new name was now before updated put other = go (is_group name.group ot
         ∙ ap (λ t. is_known old other || (t && other.position.0 == name.position.0 && other.place == name.place)) (sym first))
 
 -- ---- several names
-or_moved : (a b c : Bool) → ((a || b) || c) ≡ (a || (b || c))
-or_moved true b c = refl
-or_moved false b c = refl
-
-pub added_more : (old mid new : Names) (one : Name) (more : List Name) → Adds old mid one → AddsAll mid new more → AddsAll old new (one ∷ more)
-added_more old mid new one more first rest name = rest name ∙ (ap (λ t. t || is_named name more) (first name) ∙ or_moved (is_known old name) (same_name name one) (is_named name more))
-
-pub added_last : (old mid new : Names) (more : List Name) (one : Name) → AddsAll old mid more → Adds mid new one → AddsAll old new (more ++ one ∷ [])
-added_last old mid new more one first last name = last name ∙ (ap (λ t. t || same_name name one) (first name) ∙ (or_moved (is_known old name) (is_named name more) (same_name name one) ∙ ap (λ t. is_known old name || t) (joined more)))
-  where
-    joined : (more : List Name) → (is_named name more || same_name name one) ≡ is_named name (more ++ one ∷ [])
-    joined [] = or_false (same_name name one)
-    joined (m ∷ more) = or_moved (same_name name m) (is_named name more) (same_name name one) ∙ ap (λ t. same_name name m || t) (joined more)
-
-pub added_none : (old new : Names) → old ≡ new → AddsAll old new []
-added_none old new same name = ap (λ (names : Names). is_known names name) (sym same) ∙ or_false (is_known old name)
-
--- ---- equal names
-both : (x y : Bool) → (x && y) ≡ true → (x ≡ true) × (y ≡ true)
-both true y h = (refl, h)
-both false y h = absurd (cc)
-
-number_equal : (a b : ℕ) → (a == b) ≡ true → a ≡ b
-number_equal a b h = grind (arith, nat_tests)
-
-number_self : (a : ℕ) → (a == a) ≡ true
-number_self a = grind (arith, nat_tests)
-
-pub same_name_equal : (a b : Name) → same_name a b ≡ true → a ≡ b
-same_name_equal a b h = λ i. record { group = same_group_equal a.group b.group fronts.0 i; position = record { 0 = number_equal a.position.0 b.position.0 fronts.1 i }; place = number_equal a.place b.place parts.1 i }
-  where
-    parts : ((same_group a.group b.group && a.position.0 == b.position.0) ≡ true) × ((a.place == b.place) ≡ true)
-    parts = both (same_group a.group b.group && a.position.0 == b.position.0) (a.place == b.place) h
-
-    fronts : (same_group a.group b.group ≡ true) × ((a.position.0 == b.position.0) ≡ true)
-    fronts = both (same_group a.group b.group) (a.position.0 == b.position.0) parts.0
-
-same_name_self : (a : Name) → same_name a a ≡ true
-same_name_self a = λ i. same_group_self a.group i && number_self a.position.0 i && number_self a.place i
-
-agree : (test said : Bool) (P : Type 0) → IsTrue test ↔ P → (said ≡ true) ↔ P → test ≡ said
-agree true true P t s = refl
-agree true false P t s = let e = s.1 (t.0 refl) in cc
-agree false true P t s = let e = t.1 (s.0 refl) in cc
-agree false false P t s = refl
-
-pub same_name_is : (test : Bool) (a b : Name) → IsTrue test ↔ (a ≡ b) → test ≡ same_name a b
-same_name_is test a b means = agree test (same_name a b) (a ≡ b) means (same_name_equal a b, λ e. ap (same_name a) (sym e) ∙ same_name_self a)
 
 -- ---- a set's first place
 pub put_first : (old new : BTreeSet Place) (one : Place) → old.keys ≡ [] → ((k : Place) → contains place_cmp new k ≡ cond (is_eq (place_cmp one k)) true (contains place_cmp old k)) → (k : Place) → contains place_cmp new k ≡ cond (is_eq (place_cmp one k)) true false

@@ -105,6 +105,3 @@ pub sent_after : (old mid new : BTreeMap GroupId (Vec Posted)) (group : GroupId)
     → ((other : GroupId) → sent_at new other ≡ cond (is_group group other) (sent_at mid group ++ more) (sent_at mid other))
     → (other : GroupId) → sent_at new other ≡ cond (is_group group other) (sent_at old group ++ more) (sent_at old other)
 sent_after old mid new group more same after other = after other ∙ (λ i. cond (is_group group other) (same group i ++ more) (same other i))
-
-pub sheds_on : (test : Posted → Bool) (old mid new : BTreeMap GroupId (Vec Posted)) → Sheds test old mid → Sheds test mid new → Sheds test old new
-sheds_on test old mid new first last group = last group ∙ first group

@@ -2,14 +2,13 @@
 ghost use Rattle.std.specs.Prelude.{◌≡◌, ◌++◌, not, filter, OnOk};
 ghost use Rattle.std.specs.Option.{option_copied};
 ghost use Rattle.mega_entry.specs.declared.content.Enter.{Enter as EnterSeen};
-ghost use Rattle.mega_wal.specs.Same.{same_name};
 ghost use Rattle.mega_rules.specs.Queues.{is_named};
 ghost use Rattle.mega_queues.specs.Named.{is_known};
 ghost use Rattle.mega_queues.specs.Mail.{first_of, is_left, no_mail, only_if, seen, with_entry, with_marks};
 
 use crate::names::{Names, add_all, add_names_of, is_known};
-use mega_base::{Copied, NoMemory, Same};
-use mega_entry::{Content, Enter, Name};
+use mega_base::{Copied, NoMemory};
+use mega_entry::{Content, Enter, Name, is_same_name};
 use std::alloc::Global;
 use std::collections::BTreeMap;
 
@@ -24,16 +23,10 @@ pub struct Mailbox {
     pub waiting: Vec<Enter>,
 }
 
-fn same_name(name: &Name, other: &Name) -> bool
-    ensures { result ≡ same_name name.now other.now }
-{
-    name.same_as(other)
-}
-
 fn is_named(name: &Name, names: &[Name]) -> bool
     ensures { result ≡ is_named name.now names.now }
 {
-    names.iter().any(|other| same_name(name, other))
+    names.iter().any(|other| is_same_name(name, other))
 }
 
 /// Takes the messages out that are among these.

@@ -4,7 +4,7 @@ use Rattle.mega_cluster.specs.declared.cluster.Cluster.{Cluster}
 use Rattle.mega_cluster.specs.Header.{◌>>=◌, read_of}
 use Rattle.mega_io.specs.TextLines.{lines_of}
 use Rattle.mega_header.specs.Parts.{header_before, lines_behind}
-use Rattle.mega_header.specs.Known.{Breaks, HasHeader, HasNoMark}
+use Rattle.mega_header.specs.Known.{Breaks, HasHeader}
 use Rattle.mega_replay_loop.specs.Headings.{parts_of}
 use Rattle.mega_replay_loop.specs.Known.{IsBroken, IsHeaded}
 
@@ -21,8 +21,3 @@ breaks input lines (Some schedule) rule reads = ap (λ r. r >>= λ cluster. Ok (
 pub header_breaks : (first : Option (List ℕ)) (rule : ℕ) → Breaks 1 first rule → IsBroken first rule
 header_breaks None rule broken = tt
 header_breaks (Some first) rule broken = breaks first (lines_of first) (lines_behind (lines_of first)) rule broken
-
-pub unmarked_breaks : (first : Option (List ℕ)) (text : List ℕ) (c : Cluster) → HasNoMark first text → read_of 1 text ≡ Ok c → IsBroken first 9
-unmarked_breaks None text c none reads = tt
-unmarked_breaks (Some first) text c none reads =
-    ap (parts_of first (lines_of first)) none.1 ∙ ap (λ r. r >>= λ cluster. Err 9) (ap (read_of 1) none.0 ∙ reads)

@@ -85,10 +85,6 @@ limit_cut : (report : Report) (known : Option (List ℕ)) (number : ℕ) (Says :
 limit_cut report None number Says limit = tt
 limit_cut report (Some input) number Says limit = inr (inr (inr (inr (inr (number, limit)))))
 
--- what waited was written
-pub done_held : (report : Report) (known before mid after : Option (List ℕ)) (waiting : List ℕ) → InputDone report known (Writes before mid waiting) → Appends mid after waiting → InputDone report known (Appends before after)
-done_held report known before mid after waiting done written = done_said report known (Writes before mid waiting) (Appends before after) (λ text w. whole_held before mid after waiting text w written) done
-
 pub failed_held : (report : Report) (known left before mid after : Option (List ℕ)) (waiting : List ℕ) → InputFailed report known left (Writes before mid waiting) → Appends mid after waiting → InputFailed report known left (Appends before after)
 failed_held report known left before mid after waiting failed written = failed_said report known left (Writes before mid waiting) (Appends before after) (λ text w. whole_held before mid after waiting text w written) failed
 

@@ -2,7 +2,6 @@
 use Rattle.mega_cluster.specs.declared.cluster.Cluster.{Cluster}
 use Rattle.mega_line_events.specs.of_line_laws.Clusters.{CanStart}
 use Rattle.mega_line_events.specs.of_world.of_core.Served.{IsServed}
-use Rattle.mega_line_events.proofs.of_line_laws.Small.{parsed_small}
 use Rattle.mega_line_events.proofs.of_line_laws.Starting.{can_start}
 use Rattle.mega_replay_loop.specs.Known.{IsRead}
 
@@ -10,14 +9,4 @@ pub starts : (c : Cluster) → IsRead c → CanStart c
 starts c read = can_start 1 read.0 c read.1
 
 pub served : (c : Cluster) → IsRead c → IsServed c
-served c read =
-    let can = starts c read in
-    record {
-      few = can.few;
-      cells = can.cells;
-      housed = can.housed;
-      lease = can.lease;
-      fits = can.fits;
-      limit = can.limit;
-      small = parsed_small can.schema_text c.schema can.schema_read;
-    }
+served c read = (starts c read).served

@@ -15,10 +15,6 @@ all_waits held waiting = record { front = []; written = Appends-nil held; whole 
 pub nothing_added : (held : Option (List ℕ)) (waiting : List ℕ) → Writes held held waiting (waiting ++ [])
 nothing_added held waiting = record { front = []; written = Appends-nil held; whole = append-nil waiting }
 
-pub all_put : (before after : Option (List ℕ)) (waiting text : List ℕ) → waiting ≡ [] → Appends before after text → Writes before after waiting text
-all_put before after waiting text none written =
-    record { front = text; written = written; whole = sym (append-nil text) ∙ ap (λ (rest : List ℕ). text ++ rest) (sym none) }
-
 pub some_put : (before after : Option (List ℕ)) (waiting text : List ℕ) → waiting ≡ [] → AppendsFront before after text → WritesFront before after waiting text
 some_put before after waiting text none written = record {
   front = take written.0 text;

@@ -8,6 +8,7 @@ pub mod Using
 pub mod Joined
 pub mod Reading
 pub mod Growing
+pub mod RowLists
 pub mod Listing
 pub mod Steps
 pub mod Opened

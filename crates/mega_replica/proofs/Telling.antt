@@ -7,17 +7,12 @@ use Rattle.mega_entry.specs.declared.content.Content.{Content}
 use Rattle.mega_disk.specs.VersionMaps.{Versions, Puts, SameVersions, or_else}
 use Rattle.mega_index.specs.Rows.{same_key}
 use Rattle.mega_index.proofs.Turning.{same_key-Decides}
+use Rattle.mega_index.proofs.KeyLists.{key_is, key_apart}
 use Rattle.mega_wal.specs.Same.{same_group}
 use Rattle.mega_wal.proofs.Sames.{same_group_equal, same_group_self}
 use Rattle.mega_replica.specs.Applying.{writes_through}
 use Rattle.mega_replica.specs.Stored.{Counts, GroupLogs, IsOnlyOf, Tells, stored_with, version_of}
 use Rattle.mega_replica.proofs.Writing.{Version, by_write, version_here, version_elsewhere}
-
-key_is : (a b : List ℕ) → same_key a b ≡ true → a ≡ b
-key_is a b = (same_key-Decides a b).0
-
-key_apart : (a b : List ℕ) → same_key a b ≡ false → a ≡ b → ⊥
-key_apart a b h is = let yes : same_key a b ≡ true = (same_key-Decides a b).1 is in cc
 
 pub group_apart : (a b : GroupId) → same_group a b ≡ false → a ≡ b → ⊥
 group_apart a b h is = let yes : same_group a b ≡ true = ap (same_group a) (sym is) ∙ same_group_self a in cc

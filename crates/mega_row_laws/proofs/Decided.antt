@@ -1,5 +1,5 @@
 -- What a node of a run decided stands on the run's tape.
-use Rattle.std.proofs.Common.{◌≡◌, ◌⊎◌, inl, inr, ℕ, zero, suc, ◌+◌, ◌==◌, ◌&&◌, not, cond, Bool, true, false, List, [], ◌∷◌, ◌++◌, map, flat_map, fold, refl, sym, ◌∙◌, subst, eqb-true, Option, Some, None}
+use Rattle.std.proofs.Common.{◌≡◌, ◌⊎◌, inl, inr, ℕ, zero, suc, ◌+◌, ◌==◌, ◌&&◌, cond, Bool, true, false, List, [], ◌∷◌, ◌++◌, map, flat_map, fold, refl, sym, ◌∙◌, subst, eqb-true, Option, Some, None}
 use Rattle.mega_base.specs.declared.names.GroupId.{GroupId}
 use Rattle.mega_cluster.specs.declared.cluster.Cluster.{Cluster}
 use Rattle.mega_disk.specs.declared.pair.Device.TheVariants.{Log, Data}
@@ -12,7 +12,7 @@ use Rattle.mega_outcome.specs.declared.request.Request.{Request}
 use Rattle.mega_run_laws.specs.of_tape_laws.of_promises.of_schedule.declared.world_event.WorldEvent.{WorldEvent}
 use Rattle.mega_run_laws.specs.of_tape_laws.of_promises.of_schedule.declared.world_event.WorldEvent.TheVariants.{Tick as TickEvent, Deliver, Drop, Drain, Crash as CrashEvent, Start as StartEvent, Fuse as FuseEvent, Begin as BeginEvent}
 use Rattle.mega_run_laws.specs.of_tape_laws.of_promises.of_transcript.declared.item.Item.{Item}
-use Rattle.mega_run_laws.specs.of_tape_laws.of_promises.of_transcript.declared.item.Item.TheVariants.{Cut as CutItem, Decide, Dropped, Taken, Unsafe}
+use Rattle.mega_run_laws.specs.of_tape_laws.of_promises.of_transcript.declared.item.Item.TheVariants.{Cut as CutItem, Decide, Dropped, Taken}
 use Rattle.mega_run_laws.specs.of_tape_laws.of_promises.of_transcript.Tape.{sent_count}
 use Rattle.mega_run_laws.specs.of_tape_laws.of_promises.of_rules.Met.{Met, Crashes, Ticks, Begins, Takes, Sends, Decides}
 use Rattle.mega_run_laws.specs.of_tape_laws.of_promises.of_rules.Members.{nodes}
@@ -20,9 +20,8 @@ use Rattle.mega_run_laws.specs.of_tape_laws.of_promises.of_rules.Logs.{decided, 
 use Rattle.mega_run_laws.specs.of_tape_laws.of_promises.of_rules.Operations.{Node}
 use Rattle.mega_run_laws.specs.of_tape_laws.of_promises.of_rules.Steps.{Begin, Step, Take, Tick, onto, op_of, start_items, step}
 use Rattle.mega_run_laws.specs.of_tape_laws.of_promises.Items.{number, numbered, shown}
-use Rattle.mega_run_laws.specs.of_tape_laws.of_promises.Messages.{is_unsafe, message_of, next_delivery}
-use Rattle.mega_run_laws.specs.of_tape_laws.of_promises.Promises.{Stands}
-use Rattle.mega_run_laws.specs.of_tape_laws.of_promises.Runs.{Calls, CutByData, CutByLog, Cuts, Fate, Fuse, Happening, Left, Standing, Whole, after_event, at_node, breaks, calls_of, crashes, cut_step, delivered, drained, fate_by, fated, fated_start, goes_on, handed, is_kept, marked, nothing_yet, opening, owes, refusal, replies_in, set_at, setting, start_calls, unless_none, unless_refused, up, whole_start, whole_step, with_item, with_items}
+use Rattle.mega_run_laws.specs.of_tape_laws.of_promises.Messages.{message_of, next_delivery}
+use Rattle.mega_run_laws.specs.of_tape_laws.of_promises.Runs.{Calls, CutByData, CutByLog, Cuts, Fate, Fuse, Happening, Left, Standing, Whole, after_event, at_node, calls_of, crashes, cut_step, delivered, drained, fate_by, fated, fated_start, goes_on, handed, is_kept, marked, nothing_yet, opening, owes, refusal, replies_in, set_at, setting, start_calls, unless_none, unless_refused, up, whole_start, whole_step, with_item, with_items}
 use Rattle.mega_run_laws.specs.of_tape_laws.Places.{In}
 use Rattle.mega_node_laws.proofs.Ending.{step_met}
 use Rattle.mega_run_laws.proofs.Sending.{Stood}
@@ -35,13 +34,6 @@ use Rattle.mega_run_laws.proofs.Whole.{in_left, in_right, with_stood_one, in_sho
 with_items_stood : (c : Cluster) (nodes : ℕ → Node) (items tape : List Item) → Stood tape (with_items c nodes tape items)
 with_items_stood c nodes [] tape other s = s
 with_items_stood c nodes (item ∷ items) tape other s = with_items_stood c nodes items (with_item c nodes tape item) other (with_stood_one c nodes tape item other s)
-
-item_stands : (c : Cluster) (nodes : ℕ → Node) (tape : List Item) (item : Item) → Stands item (with_item c nodes tape item)
-item_stands c nodes tape item = by (breaks c nodes item && not (is_unsafe tape))
-  where
-    by : (t : Bool) → Stands item (cond t (Unsafe ∷ item ∷ tape) (item ∷ tape))
-    by true = inr (inl refl)
-    by false = inl refl
 
 -- ---- what comes to be decided
 

@@ -14,7 +14,7 @@ use Rattle.mega_index.specs.Cells.{key_values}
 use Rattle.mega_index.specs.Fits.{numbered, key_of, group_bytes_of, properties_fit, has_place, long_key, indexes_of, row_fits}
 use Rattle.mega_index.specs.Entries.{local_in, local_entries}
 use Rattle.mega_run_laws.specs.of_tape_laws.Indexed.{IsDeclared}
-use Rattle.mega_run_laws.proofs.of_tape_laws.Placed.{under}
+use Rattle.mega_index.proofs.KeyLists.{under}
 use Rattle.mega_run_laws.proofs.of_tape_laws.Spelled.{AreOf}
 use Rattle.mega_run_laws.proofs.of_tape_laws.RowKeys.{IsKeyOf, key_spelt, of_front, group_of_key, of_ok, root_reread}
 use Rattle.mega_run_laws.proofs.of_tape_laws.IndexKeys.{entry_key}

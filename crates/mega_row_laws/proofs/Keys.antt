@@ -10,7 +10,7 @@ use Rattle.mega_index.specs.Fits.{numbered, group_of, key_of}
 use Rattle.mega_index.specs.Entries.{local_entries}
 use Rattle.mega_outcome.specs.Places.{key_in}
 use Rattle.mega_run_laws.specs.of_tape_laws.Indexed.{IsDeclared}
-use Rattle.mega_run_laws.proofs.of_tape_laws.Placed.{under}
+use Rattle.mega_index.proofs.KeyLists.{under}
 use Rattle.mega_run_laws.proofs.of_tape_laws.Spelled.{Alike, SameKinds, same_kinds, values_split, alike_head}
 use Rattle.mega_run_laws.proofs.of_tape_laws.RowKeys.{IsKeyOf, group_spelt, key_spelt, of_front}
 use Rattle.mega_run_laws.proofs.of_tape_laws.Replacing.{key_in_at, key_in_table_of}

@@ -13,7 +13,7 @@ use Rattle.mega_index.specs.Entries.{local_entries}
 use Rattle.mega_outcome.specs.declared.answer.Turn.TheVariants.{OtherGroup}
 use Rattle.mega_outcome.specs.Places.{key_in, key_in_table, placed, spelled}
 use Rattle.mega_run_laws.specs.of_tape_laws.Indexed.{IsDeclared}
-use Rattle.mega_run_laws.proofs.of_tape_laws.Placed.{key_is, same_self, under}
+use Rattle.mega_index.proofs.KeyLists.{key_is, same_self, under}
 use Rattle.mega_run_laws.proofs.of_tape_laws.RowKeys.{IsKeyOf, OfTable, of_table}
 use Rattle.mega_run_laws.specs.Justified.{Each}
 use Rattle.mega_row_laws.proofs.Reading.{read_one_table}

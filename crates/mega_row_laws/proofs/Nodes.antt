@@ -19,7 +19,7 @@ use Rattle.mega_run_laws.specs.of_tape_laws.of_promises.Runs.{Cuts, Happening, g
 use Rattle.mega_node_laws.specs.Own.{HasOwnRows}
 use Rattle.mega_run_laws.specs.of_tape_laws.Indexed.{IsDeclared}
 use Rattle.mega_run_laws.specs.of_tape_laws.Writes.{LawfulWrites, Usage}
-use Rattle.mega_run_laws.proofs.of_tape_laws.Placed.{not_key}
+use Rattle.mega_index.proofs.KeyLists.{not_key}
 use Rattle.mega_run_laws.proofs.of_tape_laws.Serial.{decide_origin, own_entry}
 use Rattle.mega_run_laws.specs.Usages.{Fits}
 use Rattle.mega_run_laws.specs.Justified.{Each}

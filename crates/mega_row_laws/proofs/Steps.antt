@@ -1,5 +1,5 @@
 -- In every run the operations of a step act on logs whose rows are each group's own.
-use Rattle.std.proofs.Common.{◌≡◌, not, ℕ, cond, Bool, true, false, List, [], ◌∷◌, ◌++◌, length, refl, sym, ap, ◌∙◌, ◌≤◌, subst, arith, Option, Some, None}
+use Rattle.std.proofs.Common.{◌≡◌, not, ℕ, cond, Bool, true, false, List, [], ◌∷◌, ◌++◌, length, refl, sym, ap, ◌∙◌, ◌≤◌, subst, arith, Some, None}
 use Rattle.std.proofs.lemmas.List.Sums.{fold-append}
 use Rattle.mega_base.specs.declared.names.NodeId.{NodeId}
 use Rattle.mega_cluster.specs.declared.cluster.Cluster.{Cluster}
@@ -17,7 +17,7 @@ use Rattle.mega_run_laws.specs.of_tape_laws.of_promises.of_rules.Logs.{log_of}
 use Rattle.mega_run_laws.specs.of_tape_laws.of_promises.of_rules.Steps.{Begin, Event, Step, Take, Tick, op_of, step}
 use Rattle.mega_run_laws.specs.of_tape_laws.of_promises.Items.{shown}
 use Rattle.mega_run_laws.specs.of_tape_laws.of_promises.Messages.{message_of}
-use Rattle.mega_run_laws.specs.of_tape_laws.of_promises.Runs.{Cuts, Happening, Standing, Whole, after_event, at_node, because, fused, goes_on, handed, is_burning, new_fuse, opening, receiver_down, refusal, setting, unless_refused, whole_step}
+use Rattle.mega_run_laws.specs.of_tape_laws.of_promises.Runs.{Cuts, Happening, Standing, Whole, after_event, at_node, because, fused, goes_on, handed, is_burning, new_fuse, opening, refusal, setting, unless_refused, whole_step}
 use Rattle.mega_node_laws.specs.Acted.{acted_on}
 use Rattle.mega_node_laws.specs.Own.{HasOwnRows}
 use Rattle.mega_node_laws.proofs.Ending.{step_ends}
@@ -29,11 +29,6 @@ use Rattle.mega_run_laws.specs.Usages.{Fits, FitsOne}
 use Rattle.mega_run_laws.proofs.Events.{each_append}
 use Rattle.mega_row_laws.proofs.Nodes.{node_owns}
 use Rattle.mega_row_laws.proofs.Uncut.{behind_is, goes_same, run_nodes, step_whole, until}
-
--- a fuse that is set changes no refusal
-down_fused : (now : Standing) (me calls image : ℕ) (o : Option Message) → receiver_down (fused now me calls image Log) o ≡ receiver_down now o
-down_fused now me calls image None = refl
-down_fused now me calls image (Some message) = refl
 
 refusal_fused : (c : Cluster) (now : Standing) (me calls image : ℕ) (event : WorldEvent) → refusal c (fused now me calls image Log) event ≡ refusal c now event
 refusal_fused c now me calls image (TickEvent node clock) = refl

@@ -32,7 +32,7 @@ use Rattle.mega_run_laws.specs.of_tape_laws.of_promises.of_rules.Acting.{table_r
 use Rattle.mega_run_laws.specs.of_tape_laws.Indexed.{IsDeclared}
 use Rattle.mega_run_laws.specs.of_tape_laws.Places.{In}
 use Rattle.mega_run_laws.specs.of_tape_laws.Writes.{OwnEntry, Usage, enters, fills, handles, runs, runs_all}
-use Rattle.mega_run_laws.proofs.of_tape_laws.Placed.{key_apart, under}
+use Rattle.mega_index.proofs.KeyLists.{key_apart, under}
 use Rattle.mega_run_laws.proofs.of_tape_laws.RowKeys.{IsKeyOf, OfTable, Standing, group_is, group_of_key, of_ok, of_table, standing}
 use Rattle.mega_run_laws.proofs.of_tape_laws.Replacing.{bind_turn, change_replaces}
 use Rattle.mega_run_laws.specs.Justified.{Each}

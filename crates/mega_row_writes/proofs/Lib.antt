@@ -1,3 +1,2 @@
-pub mod SameRows
 pub mod Turning
 pub use Rattle.mega_entry.proofs as of_entry

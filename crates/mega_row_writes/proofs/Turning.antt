@@ -7,16 +7,12 @@ use Rattle.std.proofs.lemmas.Slice.Eq.{bytes_eq-Decides}
 use Rattle.std.proofs.lemmas.List.Sums.{fold-append}
 use Rattle.mega_base.specs.declared.values.Row.{Row}
 use Rattle.mega_entry.specs.declared.content.Write.{Write}
+use Rattle.mega_entry.proofs.Sames.{rows}
 use Rattle.mega_row_writes.specs.Rows.{Rows, Listed, same_key, changed, written, row_under}
 use Rattle.mega_row_writes.specs.RowWrites.{is_row, gone_one, gone, fresh_one, fresh, turned, Apart}
-use Rattle.mega_row_writes.proofs.SameRows.{same_row-Decides}
 
 pub same_key-Decides : (a b : List ℕ) → Decides (same_key a b) (a ≡ b)
 same_key-Decides a b = subst (λ (r : Bool). Decides r (a ≡ b)) (sym (is_eq-slice_cmp a b)) (bytes_eq-Decides a b)
-
-true-or-false : (b : Bool) → (b ≡ false → b ≡ true) → b ≡ true
-true-or-false true h = refl
-true-or-false false h = h refl
 
 same_key-sym : (a b : List ℕ) → same_key a b ≡ false → same_key b a ≡ false
 same_key-sym a b h = by (same_key b a) refl
@@ -113,7 +109,7 @@ fresh-keeps old (e ∷ es) R k h =
 
 is_row-is : (o : Option Row) (r : Row) → is_row o r ≡ true → o ≡ Some r
 is_row-is None r h = cc
-is_row-is (Some old) r h = ap Some ((same_row-Decides old r).0 h)
+is_row-is (Some old) r h = ap Some (rows.equal old r h)
 
 -- a key that is among them has its row then
 pub fresh-sets : (old es : Listed) (R : Rows) (k : List ℕ) (r : Row) → Apart es → row_under es k ≡ Some r → R k ≡ row_under old k → written (fresh old es) R k ≡ Some r

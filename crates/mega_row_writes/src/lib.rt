@@ -1,8 +1,9 @@
-//! Rows by their keys, and the writes that turn some of them into others.
+//! Rows by their keys, the writes that turn some of them into others, and writes that are pending.
 #![tactic(auto)]
 
-mod same;
+mod noting;
 mod writes;
 
 pub use mega_entry;
+pub use noting::{Pending, copy_row, note};
 pub use writes::{Rows, turned};

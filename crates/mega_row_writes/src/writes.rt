@@ -3,9 +3,8 @@ ghost use Rattle.std.specs.Prelude.{◌≡◌, ◌++◌, IfOk, OnOk};
 ghost use Rattle.mega_row_writes.specs.Rows.{row_under};
 ghost use Rattle.mega_row_writes.specs.RowWrites.{is_row, gone_one, gone, fresh_one, fresh, turned};
 
-use crate::same::same_row;
 use mega_base::{Bytes, Copied, NoMemory, Row};
-use mega_entry::Write;
+use mega_entry::{Write, is_same_row};
 use std::alloc::Global;
 use std::collections::BTreeMap;
 
@@ -46,7 +45,7 @@ fn stands(entries: &Rows, key: &Bytes, row: &Row) -> bool
     ensures { result ≡ is_row (row_under entries.now.entries key.now) row.now }
 {
     match entries.get(key) {
-        Some(there) => same_row(there, row),
+        Some(there) => is_same_row(there, row),
         None => false,
     }
 }

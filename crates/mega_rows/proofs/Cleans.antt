@@ -11,7 +11,7 @@ use Rattle.std.specs.Map.{keys_of}
 use Rattle.std.specs.BTreeMap.Range.{entries_between}
 use Rattle.std.proofs.lemmas.List.Folds.{list_any_more}
 use Rattle.mega_base.specs.declared.values.Row.{Row}
-use Rattle.mega_disk.specs.VersionMaps.{Cleaned, Drops, IsAbove, IsScan, IsWithin, Versions, version_at}
+use Rattle.mega_disk.specs.VersionMaps.{Drops, IsAbove, IsScan, IsWithin, Versions, version_at}
 use Rattle.mega_rows.specs.Lines.{Entry, Line, in_line, version_in}
 use Rattle.mega_rows.specs.Trims.{cleaned_range, is_key, is_within, trimmed, trimmed_keys}
 use Rattle.mega_rows.proofs.Changed.{Lines, key_self, line_of, same_key}
@@ -121,10 +121,6 @@ pub range_drops_all : (lines new : Lines) (from to : List ℕ) (below : ℕ) (ke
 range_drops_all lines new from to below keys is same =
     drops_of (version_in lines) (version_in new) keys from to below
     (λ key there. within_of from to key (any_within lines from to key (subst (λ ks. list_any (λ k. is_key k key) ks ≡ true) is there))) same
-
--- what is not touched has lost nothing
-pub drops_same : (cleaned : List Cleaned) (old new : Versions) → Same new old → Drops cleaned old new
-drops_same cleaned old new same = record { nothing_new = λ key p row h. sym (same key p) ∙ h; kept = λ key p above. same key p; reads = λ key p above. version_same (new key) (old key) p (same key) }
 
 -- ---- a range that ends before it begins
 none_within : (from to key : List ℕ) → is_gt (slice_cmp nat_cmp from to) ≡ true → IsWithin from to key → ⊥

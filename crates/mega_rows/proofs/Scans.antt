@@ -1,6 +1,6 @@
 -- The rows of a range of keys at a position, against the entries of a map.
-use Rattle.std.proofs.Common.{◌≡◌, ◌≢◌, ℕ, zero, suc, ◌⊎◌, inl, inr, List, [], ◌∷◌, ◌++◌, Bool, true, false, not, ◌&&◌, cond, refl, sym, ap, subst, ◌∙◌, arith, append_assoc, append-nil}
-use Rattle.std.specs.Prelude.{Option, Some, None, option_map, Contains, filter, option_to_list}
+use Rattle.std.proofs.Common.{◌≡◌, ◌≢◌, ℕ, zero, suc, ◌⊎◌, inl, inr, List, [], ◌∷◌, ◌++◌, Bool, true, false, not, ◌&&◌, cond, refl, sym, ap, subst, ◌∙◌, arith, append-nil}
+use Rattle.std.specs.Prelude.{Option, Some, None, option_map, Contains, filter}
 use Rattle.std.specs.List.{AllByRecursion, cons_option}
 use Rattle.std.specs.List.Sorted.{IsStrictlySortedBy}
 use Rattle.std.specs.Ordering.{nat_cmp, is_eq, is_le, ordering_reverse}
@@ -210,13 +210,6 @@ scanned lines from to at found ordered is = subst (λ (es : List Entry). IsScan 
             (ap (λ (o : Option Line). row_of (version_at (in_line o) at)) (sym there) ∙ reads))
 
 -- ---- the loop over the entries
-pub seen_step : (at : ℕ) (rows : List (List ℕ × Row)) (e : Entry) (es : List Entry) → (rows ++ option_to_list (seen_row at e)) ++ seen at es ≡ rows ++ seen at (e ∷ es)
-seen_step at rows e es = append_assoc rows (option_to_list (seen_row at e)) (seen at es) ∙ go (seen_row at e)
-  where
-    go : (o : Option (List ℕ × Row)) → rows ++ (option_to_list o ++ seen at es) ≡ rows ++ cons_option o (seen at es)
-    go None = refl
-    go (Some r) = refl
-
 pub all_seen : (versions : Versions) (from to : List ℕ) (at : ℕ) (rows : List (List ℕ × Row)) (left all found : List Entry) → rows ++ seen at left ≡ seen at all → left ≡ [] → all ≡ found → IsScan versions from to at (seen at found) → IsScan versions from to at rows
 all_seen versions from to at rows left all found done empty given scan =
     subst (λ (rs : List (List ℕ × Row)). IsScan versions from to at rs) (sym (sym (append-nil rows) ∙ (ap (λ es. rows ++ seen at es) (sym empty) ∙ (done ∙ ap (seen at) given)))) scan

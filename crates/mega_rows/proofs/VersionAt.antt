@@ -9,7 +9,7 @@ use Rattle.std.proofs.lemmas.Bool.Decides.{nat_tests}
 use Rattle.std.proofs.lemmas.Map.Keys.{le_from_not_gt, ge_from_not_lt}
 use Rattle.mega_base.specs.declared.values.Row.{Row}
 use Rattle.mega_disk.specs.VersionMaps.{or_else, version_at}
-use Rattle.mega_rows.specs.Trims.{HasNone, IsFloor}
+use Rattle.mega_rows.specs.Trims.{IsFloor}
 
 pub none_through : (f : ℕ → Option (Option Row)) (p : ℕ) → ((q : ℕ) → q ≤ p → f q ≡ None) → version_at f p ≡ None
 unfolding version_at
@@ -41,9 +41,6 @@ seen_none line at found range empty = sym (none_through (get nat_cmp line) at (�
 pub seen_last : (line : BTreeMap ℕ (Option Row)) (at : ℕ) (found front : List (ℕ × Option Row)) (position : ℕ) (v : Option Row) → IsRangeOf nat_cmp Unbounded (Included at) line found → found ≡ front ++ (position, v) ∷ [] → Some v ≡ version_at (get nat_cmp line) at
 seen_last line at found front position v range is = let last = range.3 (position, v) front is in
     sym (last_through (get nat_cmp line) at position v (le_from_not_gt position at last.0.1) last.1 (λ r more less. no_later (get nat_cmp line r) position r more (range.4 (position, v) front is r (tt, not_gt r at less))))
-
-pub range_none : (line : BTreeMap ℕ (Option Row)) (at : ℕ) (found : List (ℕ × Option Row)) → IsRangeOf nat_cmp Unbounded (Included at) line found → found ≡ [] → HasNone (get nat_cmp line) at
-range_none line at found range empty q le = range.5 empty q (tt, not_gt q at le)
 
 pub range_last : (line : BTreeMap ℕ (Option Row)) (at : ℕ) (found front : List (ℕ × Option Row)) (position : ℕ) (v : Option Row) → IsRangeOf nat_cmp Unbounded (Included at) line found → found ≡ front ++ (position, v) ∷ [] → IsFloor (get nat_cmp line) at position
 range_last line at found front position v range is = let last = range.3 (position, v) front is in record {

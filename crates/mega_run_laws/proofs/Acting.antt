@@ -83,9 +83,6 @@ Again users s f again = (now : Now) (o : Operation) → ReadyAt users s f now o 
 abbrev pub FreeAt : Frame → Now → OpId → Type 0
 FreeAt f now op = Idle (tape_of f now.sends) now.met op None
 
-keeps_done : (users : Users) → (s : Setting) → (users.fits → Brought users.usage s.handlers) → (f : Frame) (now : Now) (o : Operation) → ReadyAt users s f now o → DoneAt users s f o (keeps now o)
-keeps_done users s brought f now o h = ready_keeps users s.cluster f now.met now.kept now.answers now.sends o h
-
 -- an operation that proposed nothing with its id is answered
 pub reading_ends : (users : Users) → (s : Setting) (f : Frame) (now : Now) (o : Operation) (answer : Answer) → TurnAt users s f now o.id → (users.fits → Unproposed (tape_of f now.sends) o.id)
     → (users.fits → HasCause s.cluster.schema users.usage (tape_of f now.sends) o.id answer) → DoneAt users s f o (ends now o.id answer)

@@ -17,7 +17,7 @@ use Rattle.mega_tape_laws.specs.of_read.of_propose.declared.round.Round.{Round}
 use Rattle.mega_tape_laws.specs.of_read.of_propose.declared.round.Proposal.{Proposal}
 use Rattle.mega_tape_laws.specs.of_read.of_propose.declared.round.Move.{Move as RoundMove}
 use Rattle.mega_tape_laws.specs.of_read.of_propose.declared.round.Round.TheVariants.{Asking, Preparing, Accepting, Covering, Settled, Waiting}
-use Rattle.mega_tape_laws.specs.of_read.of_propose.Rounds.{accept_to, accepted, asks, completes, cell_numbers, dead_to, due, greatest_vote, invalidate_to, invalidated, is_due, is_here, is_sent, last_round, next_ballot, picked, prepare_to, prepares, promised, refused, same_ballot, takes, uncovered, unheld, vote_round}
+use Rattle.mega_tape_laws.specs.of_read.of_propose.Rounds.{accept_to, accepted, completes, cell_numbers, dead_to, due, greatest_vote, invalidate_to, invalidated, is_due, is_here, is_sent, last_round, next_ballot, picked, prepare_to, prepares, promised, refused, same_ballot, takes, uncovered, unheld, vote_round}
 use Rattle.mega_tape_laws.specs.of_rules.Members.{voters}
 use Rattle.mega_tape_laws.specs.Places.{In, Place, Proposes, Took, acts, moves}
 use Rattle.mega_tape_laws.specs.Lawful.{Heard, Lawful, message}
@@ -215,6 +215,3 @@ due_speaks c tape op p asked proposal retry now = due_says c tape op p asked pro
 
 pub completes_speaks : (c : Cluster) (tape : List Item) (op : OpId) (p : Place) (asked : List ℕ) (mine : Content) (now : ℕ) → Speaks tape op p mine (completes (here c op p asked) mine now)
 completes_speaks c tape op p asked mine now = prepares_speaks c tape op p asked mine 0 now Waiting
-
-pub asks_speaks : (c : Cluster) (tape : List Item) (op : OpId) (p : Place) (asked : List ℕ) (leader : ℕ) (mine : Content) (now : ℕ) → Speaks tape op p mine (asks (here c op p asked) leader mine now)
-asks_speaks c tape op p asked leader mine now = record { own = refl; of = ((refl, refl), tt); says = ((refl, inl refl), tt) }

@@ -1,8 +1,7 @@
 -- What the messages of one round leave as it was, and what they add.
-use Rattle.std.proofs.Common.{◌≡◌, inr, ℕ, ◌+◌, ◌==◌, ◌&&◌, ◌≤◌, Bool, true, false, cond, List, [], ◌∷◌, ◌++◌, map, Option, Some, None, refl, sym, ap, ◌∙◌, subst, arith}
+use Rattle.std.proofs.Common.{◌≡◌, inr, ℕ, ◌+◌, ◌==◌, ◌&&◌, ◌≤◌, Bool, true, false, List, [], ◌∷◌, map, Some, refl, sym, ap, ◌∙◌, subst, arith}
 use Rattle.std.specs.List.{cons_option}
 use Rattle.std.proofs.lemmas.Bool.{and_from}
-use Rattle.mega_base.specs.declared.names.GroupId.{GroupId}
 use Rattle.mega_base.specs.declared.names.OpId.{OpId}
 use Rattle.mega_ballot.specs.declared.ballot.Ballot.{Ballot}
 use Rattle.mega_ballot.specs.Order.{zero_ballot}
@@ -10,8 +9,7 @@ use Rattle.mega_cluster.specs.declared.cluster.Cluster.{Cluster}
 use Rattle.mega_entry.specs.declared.content.Content.{Content}
 use Rattle.mega_wire.specs.declared.message.Message.{Message}
 use Rattle.mega_wire.specs.declared.message.Body.{Body}
-use Rattle.mega_wire.specs.declared.message.Body.TheVariants.{Accept, Accepted, Prepare, Promise}
-use Rattle.mega_wal.specs.Acceptor.{Act}
+use Rattle.mega_wire.specs.declared.message.Body.TheVariants.{Accept, Accepted, Prepare}
 use Rattle.mega_wal.specs.Same.{same_group, same_op}
 use Rattle.mega_wal.proofs.Sames.{same_group_self, same_op_self}
 use Rattle.mega_tape_laws.specs.of_transcript.declared.item.Item.{Item}
@@ -19,8 +17,7 @@ use Rattle.mega_tape_laws.specs.of_transcript.declared.item.Item.TheVariants.{Se
 use Rattle.mega_tape_laws.specs.of_promises.Promises.{Stands}
 use Rattle.mega_tape_laws.specs.of_read.of_propose.Members.{has}
 use Rattle.mega_tape_laws.specs.of_read.of_propose.Rounds.{accept_to, prepare_to}
-use Rattle.mega_tape_laws.specs.of_rules.Voting.{act_in}
-use Rattle.mega_tape_laws.specs.Places.{IsAbove, Move, Place, Prepares, Proposes, Took, acts, is_move_at, move_if, move_in, moves, newest}
+use Rattle.mega_tape_laws.specs.Places.{IsAbove, Move, Place, Prepares, Proposes, Took, is_move_at, move_if, move_in, moves, newest}
 use Rattle.mega_tape_laws.specs.Lawful.{Heard, IsOwn, Lawful, Leads, Picked, lowest, named, spreads, picks, raises, repeats, resends}
 use Rattle.mega_tape_laws.proofs.Ballots.{number_self}
 use Rattle.mega_run_laws.specs.Justified.{AreOfRound, IsWithin, OfRound, here, sent}
@@ -77,20 +74,6 @@ pub moves_apart : (op : OpId) (p : Place) (o : OpId) (q : Place) (n : ℕ) (ms :
     → moves (sent n ms tape) o q ≡ moves tape o q
 moves_apart op p o q n [] tape h of = refl
 moves_apart op p o q n (m ∷ ms) tape h of = moves_apart op p o q (n + 1) ms (Sent n m ∷ tape) h of.1 ∙ apart_one op p o q m.body (moves tape o q) h of.0
-
-no_act : (t : Bool) (o : Option Act) (ms : List Act) → o ≡ None → cons_option (cond t o None) ms ≡ ms
-no_act true o ms h = ap (λ x. cons_option x ms) h
-no_act false o ms h = refl
-
-pub round_no_act : (op : OpId) (p : Place) (g : GroupId) (n : ℕ) (body : Body) → OfRound op p body → act_in g n body ≡ None
-round_no_act op p g n (Promise o h m b report) of = absurd of
-round_no_act op p g n (Accepted o h m b e) of = absurd of
-round_no_act op p g n _ of = refl
-
-pub acts_apart : (op : OpId) (p : Place) (voter : ℕ) (q : Place) (n : ℕ) (ms : List Message) (tape : List Item) → AreOfRound op p ms → acts (sent n ms tape) voter q ≡ acts tape voter q
-acts_apart op p voter q n [] tape of = refl
-acts_apart op p voter q n (m ∷ ms) tape of =
-    acts_apart op p voter q (n + 1) ms (Sent n m ∷ tape) of.1 ∙ no_act (m.from == voter) (act_in q.group q.position.0 m.body) (acts tape voter q) (round_no_act op p q.group q.position.0 m.body of.0)
 
 -- ---- a round's messages
 
@@ -154,7 +137,3 @@ spreads_lawful c op p asked e leader (one ∷ to) n tape leads heard l =
 pub all_of : (op : OpId) (p : Place) (f : ℕ → Message) → ((to : ℕ) → OfRound op p (f to).body) → (nodes : List ℕ) → AreOfRound op p (map f nodes)
 all_of op p f h [] = tt
 all_of op p f h (node ∷ nodes) = (h node, all_of op p f h nodes)
-
-pub both_of : (op : OpId) (p : Place) (xs ys : List Message) → AreOfRound op p xs → AreOfRound op p ys → AreOfRound op p (xs ++ ys)
-both_of op p [] ys a b = b
-both_of op p (x ∷ xs) ys a b = (a.0, both_of op p xs ys a.1 b)

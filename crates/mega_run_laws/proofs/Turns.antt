@@ -62,10 +62,6 @@ rising_push least k (x ∷ os) o r le below at = (r.0, rising_push ((x.id).numbe
 
 -- ---- messages of one operation
 
-apart_if : (t u : Bool) (move : Move) (ms : List Move) → t ≡ false → cons_option (move_if (t && u) move) ms ≡ ms
-apart_if true u move ms h = cc
-apart_if false u move ms h = refl
-
 apart_at : (o x : OpId) (g : GroupId) (q : Place) (n : Position) (move : Move) (ms : List Move) → same_op o x ≡ false → cons_option (move_if (is_move_at x q o g n) move) ms ≡ ms
 apart_at o x g q n move ms h = ap (λ t. cons_option (move_if ((t && same_group g q.group) && n.0 == q.position.0) move) ms) h
 

@@ -52,10 +52,6 @@ may_next schema usage tape n m node op p mine of (own o) = own (record {
 pub proposed_next : (tape : List Item) (n : ℕ) (m : Message) (p : Place) (e : Content) → WasProposed tape p e → WasProposed (Sent n m ∷ tape) p e
 proposed_next tape n m p e h = record { op = h.op; ballot = h.ballot; stands = in_tail (move_in h.op p m.body) (moves tape h.op p) (Proposes h.ballot e) h.stands }
 
-pub proposed_on : (n : ℕ) (ms : List Message) (tape : List Item) (p : Place) (e : Content) → WasProposed tape p e → WasProposed (sent n ms tape) p e
-proposed_on n [] tape p e h = h
-proposed_on n (m ∷ ms) tape p e h = proposed_on (n + 1) ms (Sent n m ∷ tape) p e (proposed_next tape n m p e h)
-
 pub moved_on : (n : ℕ) (ms : List Message) (tape : List Item) (op : OpId) (q : Place) (x : Move) → In x (moves tape op q) → In x (moves (sent n ms tape) op q)
 moved_on n [] tape op q x i = i
 moved_on n (m ∷ ms) tape op q x i = moved_on (n + 1) ms (Sent n m ∷ tape) op q x (in_tail (move_in op q m.body) (moves tape op q) x i)

@@ -18,9 +18,6 @@ use Rattle.mega_runs.proofs.Found.{none_behind, found_front, found_back}
 abbrev pub Indexing : ℕ → List Version → List Block → ℕ → List Version → Type 0
 Indexing start versions blocks at rest = (more : List Block) → AreBlocks at rest more → AreBlocks start versions (blocks ++ more)
 
-pub indexing_begun : (start : ℕ) (versions : List Version) → Indexing start versions [] start versions
-indexing_begun start versions more are = are
-
 take_few : (l : List Version) (n : ℕ) → n ≡ min (length l) 16 → take n l ≡ take 16 l
 take_few l n is = go l 16 n is
   where

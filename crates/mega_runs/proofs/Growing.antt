@@ -1,6 +1,6 @@
 -- The index of a run that was read.
 use Rattle.std.proofs.Common.{◌≡◌, ℕ, ◌+◌, ◌<◌, ◌≤◌, ◌^◌, List, [], ◌∷◌, ◌++◌, length, take, drop, Bool, true, false, cond, refl, sym, ◌∙◌, ap, subst, arith, append_assoc, length-append, length-drop}
-use Rattle.std.specs.Prelude.{Option, Some, None, Result, Ok, Err, if◌then◌else◌, map}
+use Rattle.std.specs.Prelude.{Option, Some, None, Result, Ok, Err, if◌then◌else◌}
 use Rattle.std.specs.Int.{to_be_bytes, w64}
 use Rattle.std.proofs.lemmas.List.{drop-drop, take_at, drop_at}
 use Rattle.mega_base.specs.Reading.{whole_of}
@@ -16,8 +16,8 @@ use Rattle.mega_chain.specs.Chain.{record_of, chain_of, first_record, records_of
 use Rattle.mega_runs.specs.declared.opening.Opened.{Opened}
 use Rattle.mega_runs.specs.Index.{versions_text, HasBytesAt, IsPlaced, ArePlaced, Indices, Indexes, IsGrown, IsReadTo}
 use Rattle.mega_runs.specs.Opening.{IsNextBody, bad_or, first_bad}
-use Rattle.mega_runs.specs.Reads.{Held, with_run, with_found, held_by, nothing, held_in, mark_in}
-use Rattle.mega_chain.proofs.Chains.{Reading, begun, chain_push, short_push, ends}
+use Rattle.mega_runs.specs.Reads.{Held, with_run, with_found, held_by, nothing, held_in}
+use Rattle.mega_chain.proofs.Chains.{Reading, chain_push, short_push, ends}
 use Rattle.mega_chain.proofs.Records.{records_more, records_none}
 use Rattle.mega_runs.proofs.Spilled.{held_more}
 
@@ -123,16 +123,6 @@ pub record GoesOn (file : List ℕ) (opened : Opened) : Type 0 where
   pub held : Indexes file opened.end (held_by bodies nothing) opened.marks opened.runs.items
   pub few : opened.count ≤ opened.end
   pub bad : first_bad 1 (records_of file) ≡ first_bad (opened.count + 1) (records_of (drop opened.end file))
-
-pub goes_on_begun : (file : List ℕ) (opened : Opened) → opened.end ≡ 0 → opened.count ≡ 0 → opened.marks ≡ [] → opened.runs.items ≡ [] → GoesOn file opened
-goes_on_begun file opened end count marks runs = record {
-  bodies = [];
-  reading = subst (Reading file []) (ap (λ (n : ℕ). drop n file) (sym end)) (begun file);
-  place = end;
-  held = record { marks_are = ap (map mark_in) marks; runs_are = subst (λ (l : List Indexed). ArePlaced file opened.end l []) (sym runs) tt };
-  few = omega arith;
-  bad = λ i. first_bad (sym count i + 1) (records_of (drop (sym end i) file));
-}
 
 reading_more : (file : List ℕ) (bodies : List (List ℕ)) (rest body after : List ℕ) → Reading file bodies rest → first_record rest ≡ Some (body, after) → rest ≡ record_of body ++ after → length body < 2 ^ 64 → 0 < length after → Reading file (bodies ++ body ∷ []) after
 reading_more file bodies rest body after so_far first spelled short behind = record {

@@ -9,17 +9,16 @@ use Rattle.std.specs.declared.cmp.Ordering.{Ordering}
 use Rattle.std.specs.declared.cmp.Ordering.TheVariants.{Less, Equal, Greater}
 use Rattle.mega_base.specs.declared.values.Row.{Row}
 use Rattle.mega_base.specs.declared.names.Position.{Position}
-use Rattle.mega_disk.specs.Images.{LeavesOnly, Within}
-use Rattle.mega_disk.proofs.Leaves.{weaker_leaves, opened_leaves}
-use Rattle.mega_disk.specs.VersionMaps.{Versions, Stored, Marks, Cleaned, Puts, IsSpilled, IsLatest, or_else, version_at, row_of, row_at}
+use Rattle.mega_disk.specs.Images.{Within}
+use Rattle.mega_disk.specs.VersionMaps.{Marks, Cleaned, Puts, IsLatest, or_else, version_at, row_of, row_at}
 use Rattle.mega_runs.specs.declared.body.Version.{Version}
 use Rattle.mega_runs.specs.declared.body.Run.{Run}
 use Rattle.mega_runs.specs.Bodies.{spot_of, spot_cmp, IsVersion}
 use Rattle.mega_runs.specs.Fronts.{kept, kept_with, front_of, HoldsOr}
 use Rattle.mega_runs.specs.Index.{IsOrderly}
 use Rattle.mega_runs.specs.Merging.{put_by, with_version}
-use Rattle.mega_runs.specs.Reads.{is_version, versions_in, layered, held_in, stored_of}
-use Rattle.mega_runs.specs.Stores.{IsSpillOf, SpilledOr, Opens, IsBounded}
+use Rattle.mega_runs.specs.Reads.{is_version, versions_in, layered, held_in}
+use Rattle.mega_runs.specs.Stores.{IsSpillOf, SpilledOr, IsBounded}
 use Rattle.mega_runs.proofs.Fronting.{held_orderly}
 use Rattle.mega_runs.proofs.Mixing.{with_version_is, spot_there, spot_here}
 use Rattle.mega_runs.proofs.Readable.{spill_stored}
@@ -105,15 +104,6 @@ latest_among vs lists key row bounded orderly is =
     subst (IsLatest (layered (vs ∷ lists) key)) (sym is)
     (latest_is (layered (vs ∷ lists) key) 18446744073709551615 (λ q lt. ap (λ (r : Option (Option Row)). or_else r (layered lists key q)) (none_above vs key q bounded (omega arith)) ∙ none_above_lists lists key q orderly (omega arith)))
 
--- ---- what openings find
-module _ {D : Type 0} (moment : D → ℕ) (left_since : D → ℕ → List ℕ → Type 0) where
-  pub opened_any : (old new : D) (images : List ℕ → Type 0) (P : Stored → Type 0) → LeavesOnly moment left_since old new images → ((image : List ℕ) → images image → P (stored_of (held_in image)))
-      → LeavesOnly moment (λ d t. Opens (left_since d t)) old new P
-  opened_any old new images P run holds =
-      opened_leaves moment left_since moment (λ d t. Opens (left_since d t)) (λ image found. found ≡ stored_of (held_in image)) P old new old new refl refl
-      (λ t found opens. opens) (λ t found image left is. (image, left, is))
-      (weaker_leaves moment left_since old new images (λ image. (found : Stored) → found ≡ stored_of (held_in image) → P found) run (λ image left found is. subst P (sym is) (holds image left)))
-
 -- ---- a spill
 pub spilled_or : (marks : Marks) (cs : List Cleaned) (recent : List Version) (lists : List (List Version)) (run : Run) (images : List ℕ → Type 0) (file : List ℕ) → IsSpillOf marks cs recent lists run → HoldsOr images (kept_with run lists) file
     → SpilledOr images marks cs (layered (recent ∷ lists)) file
@@ -124,6 +114,3 @@ pub spilled_later : (marks : Marks) (cs : List Cleaned) (recent : List Version) 
     → SpilledOr images marks cs (layered (recent ∷ lists)) file
 spilled_later marks cs recent lists later run images others file spill same within holds =
     spilled_or marks cs recent lists run images file spill (⊎_elim (λ old. inl (old.0, within old.0 old.1, old.2)) (λ new. inr (new ∙ ap (kept_with run) same)) holds)
-
-pub opens_or : (images : List ℕ → Type 0) (marks : Marks) (cs : List Cleaned) (version : Versions) (image : List ℕ) → SpilledOr images marks cs version image → Opens images (stored_of (held_in image)) ⊎ IsSpilled marks cs version (stored_of (held_in image))
-opens_or images marks cs version image either = ⊎_elim (λ old. inl (old.0, old.1, ap stored_of old.2)) inr either

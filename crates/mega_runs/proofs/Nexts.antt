@@ -6,7 +6,8 @@ use Rattle.std.proofs.lemmas.Bool.Decides.{nat_tests}
 use Rattle.std.proofs.lemmas.List.{drop-drop, take-take}
 use Rattle.mega_chain.specs.Chain.{record_of, first_record}
 use Rattle.mega_runs.specs.Opening.{size_in, IsNextBody, IsNext}
-use Rattle.mega_chain.proofs.Records.{IsBytes, SpelledIn, spelled_in}
+use Rattle.mega_disk.proofs.Chains.{IsBytes}
+use Rattle.mega_chain.proofs.Records.{SpelledIn, spelled_in}
 
 short_tail : (l : List ℕ) → length l < 10 → first_record l ≡ None
 short_tail [] few = refl
@@ -57,15 +58,6 @@ by_head (gate ∷ rest) head left found is long e = go (gate == 1) (nat_lt size 
         ap (λ (t : Bool). cond ((gate == 1) && t) (Some (take size (drop 8 rest), drop (8 + size) rest)) None) same_test
         ∙ either ((gate == 1) && nat_lt size left)
         ∙ ap (front_of (gate ∷ rest)) (sym found_is)
-
-front_none : (l : List ℕ) → front_of l None ≡ None
-front_none [] = refl
-front_none (gate ∷ rest) = refl
-
-pub next_none : (file head : List ℕ) (at left : ℕ) → head ≡ slice_range file at (at + 9) → length file ≡ at + 9 + left → size_in head left ≡ None → IsNext file at None
-next_none file head at left is long e =
-    let nine : at + 9 - at ≡ 9 = omega arith in
-    by_head (drop at file) head left None (is ∙ ap (λ (n : ℕ). take n (drop at file)) nine) (omega (arith, length-drop at file, long)) e ∙ front_none (drop at file)
 
 next_in : (l head : List ℕ) (left n : ℕ) → head ≡ take 9 l → length l ≡ left + 9 → IsBytes head → size_in head left ≡ Some n → (first_record l ≡ Some (take n (drop 9 l), drop (9 + n) l)) × SpelledIn l (take n (drop 9 l)) (drop (9 + n) l)
 next_in [] head left n is long fits e = absurd (omega arith)

@@ -41,14 +41,6 @@ before_not_behind u v x uv xv = go (spot_cmp x v) refl
     go Equal e = less_before u x (spots.antisymm u x ∙ ap ordering_reverse (spots.congr x v u e) ∙ sym (spots.antisymm u v) ∙ before_less u v uv)
     go Greater e = less_before u x (spots.trans u v x (before_less u v uv) (spots.antisymm v x ∙ ap ordering_reverse e))
 
--- and what is behind the second is behind the first
-pub not_behind_trans : (u v x : Spot) → is_before u v ≡ true → is_before x v ≡ false → is_before x u ≡ false
-not_behind_trans u v x uv xv = go (is_before x u) refl
-  where
-    go : (b : Bool) → is_before x u ≡ b → is_before x u ≡ false
-    go false e = e
-    go true e = absurd (let t = before_trans x u v e uv in cc)
-
 -- ---- keys
 equal_order : (o : Ordering) → is_eq o ≡ true → o ≡ Equal
 equal_order Less e = absurd (cc)

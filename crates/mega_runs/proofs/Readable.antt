@@ -5,7 +5,7 @@ use Rattle.std.proofs.lemmas.Bool.Decides.{nat_tests}
 use Rattle.std.specs.List.{slice_get}
 use Rattle.std.specs.Cmp.Lexicographic.{pointwise}
 use Rattle.mega_base.specs.declared.values.Row.{Row}
-use Rattle.mega_disk.specs.VersionMaps.{Versions, Marks, Cleaned, IsAbove, IsWithin, Drops, IsSpilled, or_else, version_at}
+use Rattle.mega_disk.specs.VersionMaps.{Marks, Cleaned, IsAbove, IsWithin, Drops, IsSpilled, or_else, version_at}
 use Rattle.mega_runs.specs.declared.body.Version.{Version}
 use Rattle.mega_runs.specs.declared.body.Run.{Run}
 use Rattle.mega_runs.specs.declared.cleaning.Cleaning.{Cleaning}
@@ -15,7 +15,7 @@ use Rattle.mega_runs.specs.Fronts.{kept_with}
 use Rattle.mega_runs.specs.Merging.{merged, all_merged}
 use Rattle.mega_runs.specs.Reads.{Held, is_version, versions_in, layered, stored_of, mark_in}
 use Rattle.mega_runs.specs.Scanning.{is_within, is_hidden}
-use Rattle.mega_runs.specs.Stores.{HasRangeAt, cleaned_of, mark_of_pair, added_run, base_run, is_range, with_cleaned, is_void_by, is_void, readable, IsSpillOf}
+use Rattle.mega_runs.specs.Stores.{HasRangeAt, cleaned_of, mark_of_pair, base_run, is_range, with_cleaned, is_void_by, is_void, readable, IsSpillOf}
 use Rattle.mega_runs.proofs.Order.{both, before_trans, same_key, ascends_tail, position_before}
 use Rattle.mega_runs.proofs.Found.{latest, latest_or, list_latest}
 use Rattle.mega_runs.proofs.Mixing.{spot_there, merged_is, all_merged_is}
@@ -54,24 +54,6 @@ ascends_skip u v [] uv asc = refl
 ascends_skip u v (w ∷ ws) uv asc =
     let tests = both (is_before (spot_of v) (spot_of w)) (ascends_from w ws) asc in
     and_true (is_before (spot_of u) (spot_of w)) (ascends_from w ws) (before_trans (spot_of u) (spot_of v) (spot_of w) uv tests.0) tests.1
-
-readable_from : (cs : List Cleaned) (u : Version) (vs : List Version) → ascends_from u vs ≡ true → ascends_from u (readable cs vs) ≡ true
-readable_from cs u [] asc = refl
-readable_from cs u (v ∷ vs) asc =
-    let tests = both (is_before (spot_of u) (spot_of v)) (ascends_from v vs) asc in
-    go tests.0 (readable_from cs u vs (ascends_skip u v vs tests.0 tests.1)) (readable_from cs v vs tests.1) (is_void cs v (slice_get vs 0))
-  where
-    go : is_before (spot_of u) (spot_of v) ≡ true → ascends_from u (readable cs vs) ≡ true → ascends_from v (readable cs vs) ≡ true → (b : Bool) → ascends_from u ((if b then [] else v ∷ []) ++ readable cs vs) ≡ true
-    go uv skipped rest true = skipped
-    go uv skipped rest false = and_true (is_before (spot_of u) (spot_of v)) (ascends_from v (readable cs vs)) uv rest
-
-pub readable_ascends : (cs : List Cleaned) (vs : List Version) → ascends vs ≡ true → ascends (readable cs vs) ≡ true
-readable_ascends cs [] asc = refl
-readable_ascends cs (v ∷ vs) asc = go (readable_ascends cs vs (ascends_tail v vs asc)) (is_void cs v (slice_get vs 0))
-  where
-    go : ascends (readable cs vs) ≡ true → (b : Bool) → ascends ((if b then [] else v ∷ []) ++ readable cs vs) ≡ true
-    go rest true = rest
-    go rest false = readable_from cs v vs asc
 
 -- ---- what is found
 readable_found : (cs : List Cleaned) (key : List ℕ) (p : ℕ) (vs : List Version) → ascends vs ≡ true → IsAbove cs key p → found_in key p (readable cs vs) ≡ found_in key p vs
@@ -163,19 +145,6 @@ readable_drops cs vs asc = record {
 or_none : (x : Option (Option Row)) → or_else x None ≡ x
 or_none None = refl
 or_none (Some row) = refl
-
-pub same_drops : (cs : List Cleaned) (old new : Versions) → ((key : List ℕ) (p : ℕ) → new key p ≡ old key p) → Drops cs old new
-same_drops cs old new same = record {
-  nothing_new = λ key p row e. sym (same key p) ∙ e;
-  kept = λ key p above. same key p;
-  reads = λ key p above. (λ i. version_at (λ q. same key q i) p);
-}
-
-pub added_spills : (marks : Marks) (cs : List Cleaned) (recent : List Version) (lists : List (List Version)) (run : Run) → run ≡ added_run marks recent → IsSpillOf marks cs recent lists run
-added_spills marks cs recent lists run is = subst (IsSpillOf marks cs recent lists) (sym is) (record {
-  marks_are = refl;
-  drops = same_drops cs (layered (recent ∷ lists)) (layered (recent ∷ lists)) (λ key p. refl);
-})
 
 pub merged_layered : (recent : List Version) (lists : List (List Version)) → versions_in (merged recent (all_merged lists)) ≡ layered (recent ∷ lists)
 merged_layered recent lists i key p = (merged_is recent (all_merged lists) key p ∙ ap (or_else (versions_in recent key p)) (all_merged_is lists key p)) i

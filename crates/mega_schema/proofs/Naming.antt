@@ -195,11 +195,6 @@ none_of None b e h = refl
 none_of (Some k) true e h = absurd (false≢true (sym h))
 none_of (Some k) false e h = absurd (false≢true e)
 
-or_kept : (o : Option ℕ) (same_name : Bool) (place : ℕ) → (same_name ≡ true → is_some o ≡ true) → o ≡ or_place o same_name place
-or_kept (Some k) b place h = refl
-or_kept None true place h = absurd (false≢true (h refl))
-or_kept None false place h = refl
-
 or_new : (o : Option ℕ) (same_name : Bool) (place : ℕ) → (same_name ≡ true → o ≡ None) → cond same_name (Some place) o ≡ or_place o same_name place
 or_new None b place h = refl
 or_new (Some k) true place h = absurd (let unlike = h refl in cc)
@@ -210,9 +205,6 @@ module _ (old : BTreeMap (List ℕ) ℕ) (name : List ℕ) (place : ℕ) (has : 
   noted_new new lacking updates = λ n.
       updates.0 n ∙ ap (λ b. cond b (Some place) (get (slice_cmp nat_cmp) old n)) (is_eq-slice_cmp name n)
       ∙ or_new (get (slice_cmp nat_cmp) old n) (same name n) place (λ e. ap (get (slice_cmp nat_cmp) old) (sym (same_is name n e)) ∙ none_of (get (slice_cmp nat_cmp) old name) has asked lacking)
-
-  pub noted_old : has ≡ true → (n : List ℕ) → get (slice_cmp nat_cmp) old n ≡ or_place (get (slice_cmp nat_cmp) old n) (same name n) place
-  noted_old found = λ n. or_kept (get (slice_cmp nat_cmp) old n) (same name n) place (λ e. ap (λ k. is_some (get (slice_cmp nat_cmp) old k)) (sym (same_is name n e)) ∙ sym asked ∙ found)
 
 -- ---- a list of names at a place
 pub put_back : {A : Type 0} (xs : List A) (i : ℕ) (x : A) → i < length xs → insert (remove xs i) i x ≡ slice_set xs i x

@@ -1,5 +1,5 @@
 -- The replies that are gathered for the clients are those that the items bring.
-use Rattle.std.proofs.Common.{◌≡◌, ℕ, ◌+◌, ◌≤◌, List, [], ◌∷◌, ◌++◌, None, Option, Some, ap, append-nil, append_assoc, arith, length, length-append, map, refl, sym, take, ◌∙◌}
+use Rattle.std.proofs.Common.{◌≡◌, ℕ, ◌+◌, ◌≤◌, List, [], ◌∷◌, ◌++◌, None, Option, Some, ap, append-nil, append_assoc, arith, length, length-append, map, sym, take, ◌∙◌}
 use Rattle.std.specs.Prelude.{option_map}
 use Rattle.std.proofs.lemmas.List.{map-append}
 use Rattle.mega_schema.specs.declared.schema.Schema.{Schema}
@@ -33,10 +33,3 @@ within old new line at place more = omega (arith, place, ap length more, length-
 -- a reply more is on the page, and one less is left
 pub next_on : (done lines : List Line) (one : Line) (all left : List Line) → done ++ all ≡ lines → all ≡ one ∷ left → (done ++ one ∷ []) ++ left ≡ lines
 next_on done lines one all left so_far first = append_assoc done (one ∷ []) left ∙ ap (λ (xs : List Line). done ++ xs) (sym first) ∙ so_far
-
-pub nothing_left : {X : Type 0} (left : List X) → length left ≡ 0 → left ≡ []
-nothing_left [] none = refl
-nothing_left (x ∷ left) none = absurd (omega arith)
-
-pub one_less : {X : Type 0} (all left : List X) (x : X) (now then : ℕ) → now ≡ length all → all ≡ x ∷ left → then + 1 ≡ now → then ≡ length left
-one_less all left x now then is first less = let longer : length all ≡ length left + 1 = grind (arith, first) in omega (arith, is, longer, less)

@@ -1,10 +1,10 @@
 //! The clients that wait for an answer: as few as operations are open at a node.
 ghost use Rattle.std.specs.Prelude.{◌≡◌, ◌++◌, ◌∷◌, [], filter, option_copied, OnOk};
-ghost use Rattle.mega_wal.specs.Same.{same_op};
 ghost use Rattle.mega_serve.specs.Replies.{waits_for};
 
 use crate::steps::Steps;
 use mega_base::{NoMemory, OpId};
+use mega_outcome::mega_index::mega_entry::is_same_op;
 
 /// A client that waits for the answer of an operation, which it gets under the token of its request.
 #[derive(Clone, Copy, Debug, Drop)]
@@ -12,13 +12,6 @@ pub struct Waiting {
     pub op: OpId,
     pub client: u32,
     pub token: u64,
-}
-
-/// Whether two names of operations are one.
-fn same_op(one: OpId, other: OpId) -> bool
-    ensures { result ≡ same_op one other }
-{
-    one.node.0 == other.node.0 && one.start == other.start && one.number == other.number
 }
 
 /// One client more waits.
@@ -33,7 +26,7 @@ pub(crate) fn await_answer(waiting: &mut Vec<Waiting>, one: Waiting) -> Result<(
 fn first_for(waiting: &[Waiting], op: OpId) -> Option<&Waiting>
     ensures { option_copied result ≡ waits_for op waiting.now }
 {
-    waiting.iter().find(|one| same_op(one.op, op))
+    waiting.iter().find(|one| is_same_op(one.op, op))
 }
 
 /// The client that waits for an operation, if one does.

@@ -1,7 +1,7 @@
 -- Journals that say the same tell the same, also with the same items behind them, and so does a journal that was compacted.
 use Rattle.std.proofs.Common.{◌≡◌, ℕ, ◌+◌, ◌==◌, ◌&&◌, ◌||◌, max, Bool, true, false, cond, List, [], ◌∷◌, ◌++◌, Option, Some, None, refl, sym, ap, ◌∙◌, arith}
 use Rattle.std.specs.Prelude.{is_some}
-use Rattle.std.specs.List.{cons_option, list_any}
+use Rattle.std.specs.List.{cons_option}
 use Rattle.std.proofs.lemmas.Bool.Decides.{nat_tests}
 use Rattle.mega_base.specs.declared.names.GroupId.{GroupId}
 use Rattle.mega_ballot.specs.declared.ballot.Ballot.{Ballot}
@@ -15,11 +15,11 @@ use Rattle.mega_wal.specs.of_acceptor.declared.slot.Slot.{Slot}
 use Rattle.mega_wal.specs.declared.groups.Marks.{Marks}
 use Rattle.mega_wal.specs.declared.item.JournalItem.{JournalItem}
 use Rattle.mega_wal.specs.declared.item.JournalItem.TheVariants.{Start as Started, Promise as Promises, Accept as Accepts, Decide as Decided, Grant as Granted, Lapse as Lapsed, Starts as Starting}
-use Rattle.mega_wal.proofs.Sames.{same_group_equal}
 use Rattle.mega_rules.specs.Met.{Met, Decides}
 use Rattle.mega_rules.specs.Locks.{last_grant}
-use Rattle.mega_rules.specs.Logs.{decided, first_of, groups_of, is_group_before, newest_of, top_of, with_group}
+use Rattle.mega_rules.specs.Logs.{decided, first_of, groups_of, newest_of, top_of}
 use Rattle.mega_rules.specs.Voting.{act_if, acts}
+use Rattle.mega_rules.proofs.Groups.{has, has_with}
 use Rattle.mega_promises.specs.NodeRuns.{met_of}
 use Rattle.mega_voter.proofs.Grouped.{groups_sorted, sorted_same}
 use Rattle.mega_served_laws.specs.Alike.{KeptAlike, SaySame}
@@ -128,30 +128,6 @@ granted_told me (Started ∷ js) node = granted_told me js node
 granted_told me (Starting number ∷ js) node = granted_told me js node
 
 -- ---- the groups are those in which something is decided
-
-abbrev has : GroupId → List GroupId → Bool
-has group groups = list_any (λ other. same_group other group) groups
-
-absorbed : (x y z : Bool) → z ≡ x → (x || y) ≡ (z || (x || y))
-absorbed true y true e = refl
-absorbed false y false e = refl
-absorbed true y false e = absurd (cc)
-absorbed false y true e = absurd (cc)
-
-moved : (x y z : Bool) → (x || (z || y)) ≡ (z || (x || y))
-moved true y true = refl
-moved true y false = refl
-moved false y z = refl
-
-has_with : (one : GroupId) (groups : List GroupId) (group : GroupId) → has group (with_group one groups) ≡ (same_group one group || has group groups)
-has_with one [] group = refl
-has_with one (other ∷ groups) group = go (same_group one other) (is_group_before one other) refl (has_with one groups group)
-  where
-    go : (a b : Bool) → same_group one other ≡ a → has group (with_group one groups) ≡ (same_group one group || has group groups)
-        → has group (cond a (other ∷ groups) (cond b (one ∷ other ∷ groups) (other ∷ with_group one groups))) ≡ (same_group one group || (same_group other group || has group groups))
-    go true b e rest = absorbed (same_group other group) (has group groups) (same_group one group) (ap (λ g. same_group g group) (same_group_equal one other e))
-    go false true e rest = refl
-    go false false e rest = ap (λ t. same_group other group || t) rest ∙ moved (same_group other group) (has group groups) (same_group one group)
 
 -- a group of the list has a decided position, and one with a decided position is in it
 some_first : (o : Option Content) (entry : Content) → is_some (first_of o entry) ≡ true

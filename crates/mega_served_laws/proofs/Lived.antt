@@ -34,7 +34,7 @@ use Rattle.mega_served_laws.proofs.Notes.{IsNote, start_noted, step_fair}
 use Rattle.mega_served_laws.proofs.Starting.{notes_unkept}
 use Rattle.mega_served_laws.proofs.Owed.{owed_on, owes_kept}
 use Rattle.mega_served_laws.proofs.Opened.{among_nine, notes_same, opened_alike, start_met, start_opens}
-use Rattle.mega_leases.specs.Opening.{AreOwed, is_owed}
+use Rattle.mega_leases.specs.Opening.{AreOwed}
 use Rattle.mega_durable.specs.Granted.{KeepsGrants}
 use Rattle.mega_durable.proofs.Owing.{cut_owed, start_keeps, step_keeps}
 use Rattle.mega_node_laws.specs.Acted.{own_item}
@@ -263,12 +263,6 @@ module _ (c : Cluster) (h : Meanings) (now : Standing) (u : ℕ) (item : Item) (
       own_cut false (fated c now u (item ∷ []) (met_in s (now.node u).met event) made replies (CutByData left)) (set_at now.node u fallen) o refl (at_self now.node u fallen) refl (at_self now.owed u [])
 
 -- ---- a start and a crash
-
-owed_shown : (x : Met) → is_owed x ≡ true → IsShown x
-owed_shown (Takes m) is = absurd (cc)
-owed_shown (Sends m) is = absurd (cc)
-owed_shown (Begins op text) is = absurd (cc)
-owed_shown _ is = refl
 
 module _ (c : Cluster) (h : Meanings) (now : Standing) (u : ℕ) where
   abbrev until : Lives c u now → Life

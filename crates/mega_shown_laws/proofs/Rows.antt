@@ -22,7 +22,9 @@ use Rattle.mega_tape_laws.specs.Indexed.{IsDeclared}
 use Rattle.mega_tape_laws.specs.Places.{In}
 use Rattle.mega_tape_laws.specs.Writes.{LawfulWrites, Usage}
 use Rattle.mega_tape_laws.proofs.FittingLogs.{log_fits}
-use Rattle.mega_tape_laws.proofs.Placed.{Ascends, after-ascends, after_is, in_under}
+use Rattle.mega_index.proofs.Ordered.{Ascends}
+use Rattle.mega_index.proofs.KeyLists.{after-ascends, after_is}
+use Rattle.mega_tape_laws.proofs.Placed.{in_under}
 use Rattle.mega_row_laws.proofs.Nodes.{tape_owns}
 use Rattle.mega_format_laws.specs.Rounds.{Each}
 use Rattle.mega_shown_laws.specs.Fitting.{FitsTable}

@@ -19,7 +19,7 @@ use Rattle.mega_tape_laws.specs.Indexed.{IsDeclared}
 use Rattle.mega_tape_laws.specs.Places.{In}
 use Rattle.mega_tape_laws.proofs.Fitting.{change_fits}
 use Rattle.mega_tape_laws.proofs.IndexSteps.{row_kept}
-use Rattle.mega_tape_laws.proofs.Placed.{same_or_not, same_self}
+use Rattle.mega_index.proofs.KeyLists.{same_or_not, same_self}
 use Rattle.mega_tape_laws.proofs.Replacing.{bind_turn, change_replaces}
 use Rattle.mega_tape_laws.proofs.RootKeys.{no_entry, one_table}
 use Rattle.mega_tape_laws.proofs.RowKeys.{Standing, of_table, standing, stands}

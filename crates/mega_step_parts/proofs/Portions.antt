@@ -25,7 +25,7 @@ use Rattle.mega_replica.specs.Stored.{stored_with}
 use Rattle.mega_replica.proofs.Joined.{stored_total}
 use Rattle.mega_step_choices.specs.Behind.{is_behind}
 use Rattle.mega_step_parts.specs.Touching.{behind}
-use Rattle.mega_step_parts.proofs.Groups.{has, no_log}
+use Rattle.mega_rules.proofs.Groups.{has, no_log}
 
 -- a node with rows stores a portion
 pub portion_is : (s : Setting) (met : List Met) (stored : GroupId → ℕ) (most : ℕ) (group : GroupId) → has_rows s.cluster s.me ≡ true → s.cluster.apply ≡ most → after_portion most (log_of met group) (stored group) ≡ portion_of s met stored group

@@ -1,17 +1,13 @@
 -- What an operation does leaves what its node met and stored.
 use Rattle.std.proofs.Common.{◌≡◌, ℕ, List, Option, Some, None, refl}
-use Rattle.mega_base.specs.declared.names.GroupId.{GroupId}
-use Rattle.mega_coordinator.specs.declared.answers.NotValid.{NotValid}
 use Rattle.mega_wire.specs.declared.message.Message.{Message}
 use Rattle.mega_entry.specs.declared.content.Content.{Content}
 use Rattle.mega_rules.specs.Operations.{Now, Operation, Promised}
-use Rattle.mega_rules.specs.Acting.{unless_decided, validated_by}
+use Rattle.mega_rules.specs.Acting.{unless_decided}
 use Rattle.mega_step_work.specs.declared.action.Action.{Action}
 use Rattle.mega_step_work.specs.declared.action.End.{End}
 use Rattle.mega_step_work.specs.declared.action.End.TheVariants.{Ends, Stays}
-use Rattle.mega_step_work.specs.Completed.{valid_if}
 use Rattle.mega_step_work.specs.Actions.{does, ended_by, said}
-use Rattle.std.specs.Prelude.{is_none}
 
 met_by : (now : Now) (sends : Option (List Message)) (end : End) → (ended_by (said now sends) end).met ≡ now.met
 met_by now None (Stays o) = refl
@@ -30,10 +26,6 @@ does_met now action = met_by now action.sends action.end
 
 pub does_stored : (now : Now) (action : Action) → (does now action).stored ≡ now.stored
 does_stored now action = stored_by now action.sends action.end
-
-pub validated_is : (now : Now) (group : GroupId) (p : ℕ) (refusal : Option NotValid) → validated_by now group p refusal ≡ valid_if now group p (is_none refusal)
-validated_is now group p (Some refusal) = refl
-validated_is now group p None = refl
 
 pub unless_met : (now : Now) (o : Operation) (n : ℕ) (promised : Promised) (found : Option Content) → (unless_decided now o n promised found).met ≡ now.met
 unless_met now o n promised None = refl

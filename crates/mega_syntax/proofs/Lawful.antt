@@ -1,6 +1,5 @@
 -- Readers of tokens that look no further than the token that they refuse, or the one behind what they read.
 use Rattle.std.proofs.Common.{◌≡◌, ℕ, suc, ◌<◌, ◌⊎◌, inl, inr, Bool, true, false, cond, List, [], ◌∷◌, ◌++◌, length, drop, refl, sym, ap, ◌∙◌, subst, arith, append_assoc, length-append, Result, Ok, Err}
-use Rattle.std.proofs.lemmas.Slice.Eq.{bytes_eq-Decides}
 use Rattle.mega_syntax.specs.Names.{is_name, same}
 use Rattle.mega_syntax.specs.Reading.{Texts, Read, ◌>>=◌, is_next, word_at, name_at}
 use Rattle.mega_syntax.specs.Refusal.{Because}
@@ -118,12 +117,6 @@ bind_lawful {A} {B} r f first later = record { halts = λ ts n h. stop ts n (bin
               ap (λ u. r u >>= f) (append_assoc a.used b.used tail) ∙ ap (λ (o : Read A). o >>= f) (a.again (b.used ++ tail) (subst P (sym b.split) (same_behind b.used rest tail same))) ∙ b.again tail same;
         }
 
-pub lawful_by : {A : Type 0} (r s : Texts → Read A) → ((ts : Texts) → r ts ≡ s ts) → Lawful s → Lawful r
-lawful_by r s same law = record {
-  halts = λ ts n h. (let k = law.halts ts n (sym (same ts) ∙ h) in record { front = k.front; back = k.back; split = k.split; some = k.some; fails = λ tail. fails_by (r (k.front ++ tail)) (s (k.front ++ tail)) (same (k.front ++ tail)) (k.fails tail); because = k.because });
-  reads = λ ts x rest h. (let a = law.reads ts x rest (sym (same ts) ∙ h) in record { used = a.used; split = a.split; again = λ tail head. same (a.used ++ tail) ∙ a.again tail head });
-}
-
 -- what is asked of a branch behind this word
 pub record Branch {A : Type 0} (w : List ℕ) (r : Texts → Read A) : Type 0 where
   pub halts : (us : Texts) (n : ℕ) → r (w ∷ us) ≡ Err (suc n) → Halts r (w ∷ us) (suc n)
@@ -178,9 +171,6 @@ refused_lawful {A} = record { halts = stop; reads = λ ts x rest h. absurd (cc) 
     stop (t ∷ ts) n h = (refused_branch {A = A} t).halts ts n h
 
 -- ---- words and names
-pub same_self : (w : List ℕ) → same w w ≡ true
-same_self w = (bytes_eq-Decides w w).1 refl
-
 -- a first token that passes a test
 pub test_lawful : {A : Type 0} (test : List ℕ → Bool) (value : List ℕ → A) (r : Texts → Read A) → r [] ≡ Err 0 → ((t : List ℕ) (ts : Texts) → r (t ∷ ts) ≡ cond (test t) (Ok (value t, ts)) (Err (suc (length ts)))) → Lawful r
 test_lawful {A} test value r none one = record { halts = stop; reads = read }

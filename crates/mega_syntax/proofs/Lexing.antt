@@ -90,10 +90,6 @@ a_word : (bytes : List ℕ) (b at : ℕ) → is_name_byte b ≡ true → A_Word 
 a_word [] b at h = single b [] at (name_not_blank b h) (λ i. h i && false)
 a_word (c ∷ cs) b at h = word_cons (is_name_byte c) b c cs at (prefix_len is_name_byte cs) refl h (λ e. a_word cs c (at + 1) e)
 
-blank_of : (b : ℕ) (bytes : List ℕ) (t : Bool) → is_blank b ≡ t → cond t (1 + prefix_len is_blank bytes) 0 ≡ 0 → is_blank b ≡ false
-blank_of b bytes true e h = absurd (omega (arith, h))
-blank_of b bytes false e h = e
-
 pub next_word : (b : ℕ) (bytes : List ℕ) (at : ℕ) → is_name_byte b ≡ true → Splits at (b ∷ bytes) (prefix_len is_name_byte (b ∷ bytes))
 next_word b bytes at h =
     let m = prefix_len is_name_byte bytes in
@@ -101,6 +97,3 @@ next_word b bytes at h =
     let far : at + 1 + m ≡ at + suc m = omega arith in
     let P : ℕ → Type 0 = λ n. Splits at (b ∷ bytes) n in
     subst P (sym long) (a_word bytes b at h ∙ ap (λ p. token at (b ∷ take m bytes) ∷ tokens_from p (drop m bytes)) far)
-
-pub next_mark : (b : ℕ) (bytes : List ℕ) (at : ℕ) → prefix_len is_blank (b ∷ bytes) ≡ 0 → is_name_byte b ≡ false → Splits at (b ∷ bytes) 1
-next_mark b bytes at none h = a_mark b bytes at (blank_of b bytes (is_blank b) refl none) h

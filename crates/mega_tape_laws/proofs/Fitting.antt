@@ -16,7 +16,7 @@ use Rattle.mega_outcome.specs.Places.{◌>>=◌}
 use Rattle.mega_outcome.specs.Changes.{replaced, change, all_changes}
 use Rattle.mega_tape_laws.specs.Indexed.{IsDeclared}
 use Rattle.mega_tape_laws.specs.Growing.{RowsFit}
-use Rattle.mega_tape_laws.proofs.Placed.{same_self, same_or_not}
+use Rattle.mega_index.proofs.KeyLists.{same_self, same_or_not}
 use Rattle.mega_tape_laws.proofs.RowKeys.{Standing, standing, stands}
 use Rattle.mega_tape_laws.proofs.IndexKept.{turned_leaves}
 use Rattle.mega_tape_laws.proofs.Replacing.{bind_turn, change_replaces}

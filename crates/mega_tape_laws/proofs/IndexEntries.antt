@@ -13,7 +13,8 @@ use Rattle.mega_index.specs.Fits.{numbered, entry_keys, group_bytes_of, stands_i
 use Rattle.mega_index.specs.Entries.{placed, found_of, with_row, with_row_under, index_of, with_local, local_in}
 use Rattle.mega_tape_laws.specs.Places.{In}
 use Rattle.mega_tape_laws.specs.Indexed.{stored_row, entry_rows, local_index_rows}
-use Rattle.mega_tape_laws.proofs.Placed.{under, There, placed_from, placed_keeps, placed_there, append_from, append_front, append_back}
+use Rattle.mega_index.proofs.KeyLists.{under}
+use Rattle.mega_tape_laws.proofs.Placed.{There, placed_from, placed_keeps, placed_there, append_from, append_front, append_back}
 
 -- ---- the entries of a row in the local indexes of its table
 

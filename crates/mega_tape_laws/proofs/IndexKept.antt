@@ -14,7 +14,7 @@ use Rattle.mega_index.specs.Fitted.{table_of}
 use Rattle.mega_index.specs.LocalWrites.{gone_one, gone, fresh, turned, index_writes, index_writes_in}
 use Rattle.mega_index.proofs.Turning.{fresh-keeps}
 use Rattle.mega_index.proofs.Ascending.{local_turns}
-use Rattle.mega_tape_laws.proofs.Placed.{under, same_self, same_or_not, key_apart, not_key}
+use Rattle.mega_index.proofs.KeyLists.{under, same_self, same_or_not, key_apart, not_key}
 use Rattle.mega_tape_laws.proofs.RowKeys.{Standing, IsKeyOf, of_table, key_behind, behind_one, group_is, numbered_at}
 use Rattle.mega_tape_laws.proofs.IndexKeys.{EntryKey, entry_key, entry_behind, entries_one}
 use Rattle.mega_tape_laws.proofs.IndexEntries.{InLocal, local_from}

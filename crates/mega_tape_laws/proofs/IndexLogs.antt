@@ -11,7 +11,7 @@ use Rattle.mega_promises.specs.of_transcript.declared.item.Item.{Item}
 use Rattle.mega_promises.specs.Promises.{log_of}
 use Rattle.mega_tape_laws.specs.Writes.{LawfulWrites, Usage}
 use Rattle.mega_tape_laws.specs.Indexed.{AllPutValues, AreRows, AskValues, IsDeclared, IsIndexed, PutValues}
-use Rattle.mega_tape_laws.proofs.Placed.{after-ascends, after_is}
+use Rattle.mega_index.proofs.KeyLists.{after-ascends, after_is}
 use Rattle.mega_tape_laws.proofs.RowKeys.{of_table, stands}
 use Rattle.mega_tape_laws.proofs.IndexKept.{IndexExact}
 use Rattle.mega_tape_laws.proofs.IndexSteps.{changes_kept, fitted_kept}

@@ -19,7 +19,9 @@ use Rattle.mega_index.specs.Fitted.{table_of}
 use Rattle.mega_promises.specs.of_rules.Acting.{table_rows}
 use Rattle.mega_tape_laws.specs.Places.{In}
 use Rattle.mega_tape_laws.specs.Indexed.{IsDeclared, IsIndexed, local_index_rows}
-use Rattle.mega_tape_laws.proofs.Placed.{under, There, Ascends, in_under, under_in}
+use Rattle.mega_index.proofs.Ordered.{Ascends}
+use Rattle.mega_index.proofs.KeyLists.{under}
+use Rattle.mega_tape_laws.proofs.Placed.{There, in_under, under_in}
 use Rattle.mega_tape_laws.proofs.Spelled.{AreOf, same_kinds, values_split}
 use Rattle.mega_tape_laws.proofs.RowKeys.{Standing, standing, stands, OfTable, of_table, Spelt, key_spelt, of_front, group_is, behind_one}
 use Rattle.mega_tape_laws.proofs.IndexKeys.{in_filter, entry_key, entry_behind}

@@ -39,7 +39,7 @@ use Rattle.mega_tape_laws.specs.IndexExamples.{named_begun, named_cluster, named
 use Rattle.mega_tape_laws.proofs.Witnesses.{first_two}
 use Rattle.mega_tape_laws.proofs.Writing.{transaction}
 use Rattle.mega_tape_laws.proofs.Lists.{some_is}
-use Rattle.mega_tape_laws.proofs.Placed.{key_is}
+use Rattle.mega_index.proofs.KeyLists.{key_is}
 use Rattle.mega_tape_laws.proofs.RowKeys.{numbered_at}
 
 pub put_comes : all_changes named_users group.key no_rows 0 (Put 1 user ∷ []) ≡ Ok put_writes

@@ -29,7 +29,7 @@ use Rattle.mega_promises.specs.of_rules.Acting.{table_rows}
 use Rattle.mega_promises.specs.Promises.{asked_for, log_of}
 use Rattle.mega_tape_laws.specs.Writes.{LawfulWrites, OwnEntry, Usage, enters, fills, handles, runs, runs_all}
 use Rattle.mega_tape_laws.proofs.Serial.{own_entry}
-use Rattle.mega_tape_laws.proofs.Placed.{key_is, after_is}
+use Rattle.mega_index.proofs.KeyLists.{key_is, after_is}
 use Rattle.mega_tape_laws.proofs.Replacing.{bind_turn}
 
 -- what holds of no rows and is kept by each transaction that is asked for and by what a handler writes

@@ -1,5 +1,5 @@
 -- No message is entered twice, and none handled twice: each entry names at most one, which the entries below it do not.
-use Rattle.std.proofs.Common.{◌≡◌, ◌⊎◌, inl, inr, ℕ, zero, suc, ◌<◌, ◌==◌, ◌&&◌, Bool, true, false, not, cond, List, [], ◌∷◌, ◌++◌, map, length, take, slice_get, Some, refl, sym, ap, ◌∙◌, subst, arith}
+use Rattle.std.proofs.Common.{◌≡◌, ◌⊎◌, inl, inr, ℕ, zero, suc, ◌<◌, Bool, true, false, not, cond, List, [], ◌∷◌, ◌++◌, map, length, take, slice_get, Some, refl, sym, ap, ◌∙◌, subst, arith}
 use Rattle.std.specs.Prelude.{Contains, find, flat_map}
 use Rattle.std.proofs.lemmas.Bool.{cases_lt, or_parts, not-true}
 use Rattle.mega_base.specs.declared.names.GroupId.{GroupId}
@@ -10,13 +10,13 @@ use Rattle.mega_entry.specs.declared.content.Content.{Content}
 use Rattle.mega_entry.specs.declared.content.Enter.{Enter}
 use Rattle.mega_entry.specs.declared.content.Name.{Name}
 use Rattle.mega_handler.specs.Named.{Meanings}
-use Rattle.mega_wal.specs.Same.{same_group, same_name}
-use Rattle.mega_wal.proofs.Sames.{same_group_self}
+use Rattle.mega_wal.specs.Same.{same_name}
+use Rattle.mega_wal.proofs.Sames.{names as name_test}
 use Rattle.mega_promises.specs.of_rules.Queues.{entered_in, handled_in, is_named, names_entered, oldest_unhandled}
 use Rattle.mega_promises.specs.of_transcript.declared.item.Item.{Item}
 use Rattle.mega_promises.specs.Promises.{handled_by, log_of}
 use Rattle.mega_tape_laws.specs.Writes.{LawfulWrites, OwnEntry, Usage, enters, fills, handles, runs, runs_all}
-use Rattle.mega_tape_laws.proofs.Ballots.{clash, number_self}
+use Rattle.mega_tape_laws.proofs.Ballots.{clash}
 use Rattle.mega_tape_laws.proofs.Lists.{some_is}
 use Rattle.mega_tape_laws.proofs.Serial.{own_entry}
 
@@ -80,19 +80,10 @@ once f log single fresh m n first second h k same = elim (cases_lt a.index b.ind
 
 -- ---- names by test
 
-joined : (a b c : Bool) → a ≡ true → b ≡ true → c ≡ true → (a && b && c) ≡ true
-joined true true true h k l = refl
-joined false b c h k l = cc
-joined true false c h k l = cc
-joined true true false h k l = cc
-
-same_name_self : (a : Name) → same_name a a ≡ true
-same_name_self a = joined (same_group a.group a.group) (a.position.0 == a.position.0) (a.place == a.place) (same_group_self a.group) (number_self a.position.0) (number_self a.place)
-
 not_named : (names : List Name) (name : Name) → is_named name names ≡ false → IsFreshIn names name
 not_named [] name h k other at same = cc
 not_named (x ∷ names) name h zero other at same =
-    clash (same_name name x) (subst (λ y. same_name name y ≡ true) (same ∙ sym (some_is x other at)) (same_name_self name)) (or_parts (same_name name x) (is_named name names) h).0
+    clash (same_name name x) (subst (λ y. same_name name y ≡ true) (same ∙ sym (some_is x other at)) (name_test.self name)) (or_parts (same_name name x) (is_named name names) h).0
 not_named (x ∷ names) name h (suc k) other at same = not_named names name (or_parts (same_name name x) (is_named name names) h).1 k other at same
 
 find_passes : (test : Enter → Bool) (xs : List Enter) (x : Enter) → find test xs ≡ Some x → test x ≡ true

@@ -22,7 +22,7 @@ use Rattle.mega_outcome.specs.declared.transaction.RowRef.{RowRef}
 use Rattle.mega_outcome.specs.Places.{◌>>=◌, spelled, placed, key_in_table, key_in}
 use Rattle.mega_outcome.specs.Changes.{replaced, put_in, delete_at, is_number, number_of, number_value, or_overflow, sum_of, add_to, add_in, add_at, change}
 use Rattle.mega_tape_laws.specs.Indexed.{HoldValues, PutsValues}
-use Rattle.mega_tape_laws.proofs.Placed.{key_is}
+use Rattle.mega_index.proofs.KeyLists.{key_is}
 use Rattle.mega_tape_laws.proofs.RowKeys.{Standing}
 use Rattle.mega_tape_laws.proofs.IndexKeys.{values_in}
 use Rattle.mega_tape_laws.proofs.IndexAdd.{number_facts, add_stands}

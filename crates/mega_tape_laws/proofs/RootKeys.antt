@@ -13,7 +13,7 @@ use Rattle.mega_index.specs.Cells.{key_values}
 use Rattle.mega_index.specs.Fits.{numbered, key_of, group_bytes_of, properties_fit, has_place, long_key, indexes_of, row_fits}
 use Rattle.mega_index.specs.Entries.{local_in, local_entries}
 use Rattle.mega_tape_laws.specs.Indexed.{IsDeclared}
-use Rattle.mega_tape_laws.proofs.Placed.{under}
+use Rattle.mega_index.proofs.KeyLists.{under}
 use Rattle.mega_tape_laws.proofs.Spelled.{AreOf, SameKinds, same_kinds, values_split}
 use Rattle.mega_tape_laws.proofs.RowKeys.{key_spelt, of_front, group_of_key, of_ok}
 use Rattle.mega_tape_laws.proofs.IndexKeys.{entry_key}

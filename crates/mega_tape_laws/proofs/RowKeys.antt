@@ -21,7 +21,7 @@ use Rattle.mega_index.specs.Rows.{same_key}
 use Rattle.mega_index.specs.Cells.{key_values}
 use Rattle.mega_index.specs.Fits.{numbered, group_of, key_of, group_bytes_of, row_fits, stands_in}
 use Rattle.mega_index.specs.Fitted.{is_key_of, table_in, table_of}
-use Rattle.mega_tape_laws.proofs.Placed.{key_is, same_self}
+use Rattle.mega_index.proofs.KeyLists.{key_is, same_self}
 use Rattle.mega_tape_laws.proofs.Spelled.{Alike, AreOf, fronts, Passed, values_pass, values_reread, RereadAll, alike_head}
 
 -- ---- values that have no fault

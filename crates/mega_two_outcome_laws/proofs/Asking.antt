@@ -1,5 +1,5 @@
 -- The text of a transaction's object is read as the transaction.
-use Rattle.std.proofs.Common.{◌≡◌, ℕ, ◌||◌, cond, Bool, true, false, List, [], refl, ap, ◌∙◌, Some, Result, Ok, Err, IsUtf8}
+use Rattle.std.proofs.Common.{◌≡◌, ℕ, ◌||◌, cond, Bool, true, false, List, [], refl, ap, ◌∙◌, Some, Result, Ok, Err}
 use Rattle.std.specs.Prelude.{codes, if◌then◌else◌, is_some, option_map, option_and_then}
 use Rattle.std.specs.Str.{is_utf8}
 use Rattle.json.specs.Json as json
@@ -12,7 +12,6 @@ use Rattle.serde_json.specs.Written.{has_float}
 use Rattle.mega_schema.specs.declared.schema.Schema.{Schema}
 use Rattle.mega_outcome.specs.declared.transaction.Transaction.{Transaction}
 use Rattle.mega_schedule.specs.declared.form.Form.TheVariants as forms
-use Rattle.mega_schedule.specs.declared.verdict.Verdict.{Verdict}
 use Rattle.mega_schedule.specs.declared.verdict.Verdict.TheVariants.{WrongKind, Fine}
 use Rattle.mega_schedule.specs.Verdicts.{◌⊓◌, judged}
 use Rattle.mega_schedule.specs.Fields.{each, group_check}
@@ -49,9 +48,6 @@ tree_read checks group writes c g w checks_are group_is writes_are =
     (put (codes "writes") z (put (codes "sends") (array no_items) (put (codes "reads") (array no_items) (put (codes "group") y (put (codes "do") (string (codes "txn")) (put (codes "checks") x no_members)))))))
     (writes_are i)) (group_is i)) (checks_are i)))
 
-ascii : (xs : List ℕ) → IsUtf8 xs → IsUtf8 xs
-ascii xs h = h
-
 tree_good : (checks group writes : json.Json) → IsGood 126 checks → IsGood 126 group → IsGood 126 writes → IsGood max_depth (tree_of checks group writes)
 tree_good checks group writes c g w = (
   IsUtf8-are_ascii (codes "checks") refl,
@@ -86,9 +82,6 @@ tree_good checks group writes c g w = (
 )
 
 -- ---- it is fine
-
-both_fine : (a b : Verdict) → a ≡ Fine → b ≡ Fine → a ⊓ b ≡ Fine
-both_fine a b x y = λ i. x i ⊓ y i
 
 pub record AreFine (c g w : Data) : Type 0 where
   pub group : group_check g ≡ Fine

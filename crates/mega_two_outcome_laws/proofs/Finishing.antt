@@ -142,9 +142,6 @@ text_self text name = by (same_values (Str text ∷ []) (Str name ∷ [])) (same
     by false true e f =
         absurd (false≢true (sym e ∙ (same_values-Decides (Str text ∷ []) (Str name ∷ [])).1 (ap (λ (t : List ℕ). Str t ∷ []) (same_is text name f))))
 
-no_text : (c : ℕ) (name : List ℕ) → false ≡ same [] (c ∷ name)
-no_text c name = refl
-
 -- the holder's name is this one
 holder_is : (values : List Value) (c : ℕ) (name : List ℕ) → same_values values (Str (c ∷ name) ∷ []) ≡ same (text_in values) (c ∷ name)
 holder_is [] c name = refl

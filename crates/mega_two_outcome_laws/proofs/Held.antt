@@ -8,11 +8,11 @@ use Rattle.std.proofs.lemmas.Bool.{or_parts}
 use Rattle.serde_json.specs.Data.{Data, null, boolean, number, string, array, object, Items, item, Members, no_members, member, depth, items_depth, members_depth}
 use Rattle.serde_json.specs.Find.{get_member, get}
 use Rattle.serde_json.specs.Read.{of_json}
-use Rattle.serde_json.specs.Written.{compact_text, outline, items_outline, has_float, items_have_float, members_have_float}
+use Rattle.serde_json.specs.Written.{compact_text, outline, has_float, items_have_float, members_have_float}
 use Rattle.mega_json_laws.specs.Whole.{IsWhole, AreWholeItems, AreWholeMembers}
 use Rattle.mega_two_driver.specs.Texts.{value_text}
-use Rattle.mega_two_outcome_laws.proofs.Trees.{text_of, IsGood, AreGood, value_is}
-use Rattle.mega_two_outcome_laws.proofs.Outline.{good, items_good, again}
+use Rattle.mega_two_outcome_laws.proofs.Trees.{text_of, IsGood, value_is}
+use Rattle.mega_two_outcome_laws.proofs.Outline.{good, again}
 
 -- ---- a value that was read, with no float, nested no deeper than n
 
@@ -28,9 +28,6 @@ pub record AreHeld (n : ℕ) (ds : Items) : Type 0 where
 
 pub held_good : (n : ℕ) (d : Data) → IsHeld n d → IsGood n (outline d)
 held_good n d h = good n d h.whole h.deep h.plain
-
-pub held_items_good : (n : ℕ) (ds : Items) → AreHeld n ds → AreGood n (items_outline ds)
-held_items_good n ds h = items_good n ds h.whole h.deep h.plain
 
 pub held_again : (n : ℕ) (d : Data) → IsHeld n d → of_json (outline d) ≡ Some d
 held_again n d h = again d h.whole h.plain

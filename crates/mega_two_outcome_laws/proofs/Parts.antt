@@ -54,7 +54,7 @@ use Rattle.mega_two_outcome_laws.proofs.Keyed.{names_key}
 use Rattle.mega_two_outcome_laws.proofs.Changing.{put_keyed}
 use Rattle.mega_two_outcome_laws.proofs.Outcomes.{Fit, fit}
 use Rattle.mega_two_outcome_laws.proofs.Own.{TwoParts, two_parts}
-use Rattle.mega_two_outcome_laws.proofs.Trees.{text_of, IsGood, AreGood}
+use Rattle.mega_two_outcome_laws.proofs.Trees.{text_of, AreGood}
 use Rattle.mega_two_outcome_laws.proofs.Asking.{AreFine, meant, read_as}
 use Rattle.mega_two_outcome_laws.proofs.Letters.{is_text, all_plain, letter_plain, plain_both, plain_quoted, plain_utf8}
 use Rattle.mega_two_outcome_laws.proofs.Tabled.{HasProperty, has_property}
@@ -568,9 +568,6 @@ module _ (s : Schema) (ready : IsReady s) (onces : AreNamedOnce s) (name : List 
       ∙ ap (λ o. option_map (item no_lock_item) (option_and_then (λ d. option_map (item d) (of_items (joined (items_outline cs) (deleted_trees ws)))) o)) (gone_read (end_table root) key_tree end_key_data key_read)
       ∙ ap (λ o. option_map (item no_lock_item) (option_map (item no_end_item) o))
       (joined_read 123 cs (deleted_items ws) (deleted_trees ws) cs_held (deleted_read 122 ws ws_held (p.writes).fine))
-
-  key_good : IsGood 123 key_tree
-  key_good = joined_good 122 values (json.item (json.string name) json.no_items) values_held (plain_utf8 name plain, tt)
 
   higher_good : AreGood 125 (deleted_trees ws)
   higher_good = deleted_good 124 ws (are_higher 123 125 ws (omega arith) ws_held) (p.writes).fine

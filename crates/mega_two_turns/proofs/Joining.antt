@@ -1,5 +1,5 @@
 -- Turns are joined.
-use Rattle.std.proofs.Common.{◌≡◌, ℕ, List, [], ◌∷◌, ◌++◌, None, Option, Some, Result, Ok, Err, true, ap, append-nil, append_assoc, refl, subst, sym, ◌∙◌}
+use Rattle.std.proofs.Common.{◌≡◌, ℕ, List, [], ◌∷◌, ◌++◌, None, Option, Some, Result, Ok, Err, true, ap, append_assoc, subst, ◌∙◌}
 use Rattle.std.specs.Prelude.{OnOk, is_none, option_map}
 use Rattle.mega_link.specs.Datagrams.{Datagram, Gains}
 use Rattle.mega_two_turns.specs.declared.driving.Driving.{Driving}
@@ -11,10 +11,6 @@ gains_one None (Some more) item is = is
 gains_one (Some all) None item is = tt
 gains_one None None item is = tt
 
-gains_nothing : {A : Type 0} (old : Option (List A)) → GainsAll old old []
-gains_nothing (Some all) = sym (append-nil all)
-gains_nothing None = tt
-
 gains_more : {A : Type 0} (a b c : Option (List A)) (xs ys : List A) → GainsAll a b xs → GainsAll b c ys → GainsAll a c (xs ++ ys)
 gains_more (Some all) (Some more) (Some last) xs ys one two = two ∙ ap (λ (front : List _). front ++ ys) one ∙ append_assoc all xs ys
 gains_more (Some all) None (Some last) xs ys one two = absurd two
@@ -23,23 +19,9 @@ gains_more None None (Some last) xs ys one two = absurd two
 gains_more (Some all) b None xs ys one two = tt
 gains_more None b None xs ys one two = tt
 
--- what was sent
-sends_nothing : (sent : Option (List Datagram)) → sent ≡ option_map (λ all. all ++ []) sent
-sends_nothing (Some all) = ap Some (sym (append-nil all))
-sends_nothing None = refl
-
 sends_more : (a b c : Option (List Datagram)) (xs ys : List Datagram) → b ≡ option_map (λ all. all ++ xs) a → c ≡ option_map (λ all. all ++ ys) b → c ≡ option_map (λ all. all ++ (xs ++ ys)) a
 sends_more (Some all) b c xs ys one two = two ∙ ap (λ (o : Option (List Datagram)). option_map (λ (all : List Datagram). all ++ ys) o) one ∙ ap Some (append_assoc all xs ys)
 sends_more None b c xs ys one two = two ∙ ap (λ (o : Option (List Datagram)). option_map (λ (all : List Datagram). all ++ ys) o) one
-
-pub no_turns : (node patience : ℕ) (first : Driving) (read : Option (List ℕ)) (taken : Option (List (Option Datagram))) (sent : Option (List Datagram)) → Drives node patience first first read read taken taken sent sent []
-no_turns node patience first read taken sent = record {
-  readings = gains_nothing read;
-  received = gains_nothing taken;
-  sends = sends_nothing sent;
-  leads = refl;
-  open_so_far = tt;
-}
 
 pub one_turn : (node patience : ℕ) (first mid last : Driving) (read more_read : Option (List ℕ)) (taken mid_taken more_taken : Option (List (Option Datagram))) (sent mid_sent more_sent : Option (List Datagram)) (now : ℕ) (got : Option Datagram)
     → is_none (ending first.two) ≡ true → Gains read more_read now → mid_taken ≡ taken → Gains mid_taken more_taken got → mid_sent ≡ option_map (λ all. all ++ sends node first) sent → more_sent ≡ mid_sent

@@ -4,6 +4,7 @@ use Rattle.std.proofs.lemmas.Bool.{and_parts, and_from}
 use Rattle.mega_base.specs.declared.names.Epoch.{Epoch}
 use Rattle.mega_base.specs.declared.names.NodeId.{NodeId}
 use Rattle.mega_base.specs.declared.names.OpId.{OpId}
+use Rattle.mega_locks.proofs.Marks.{same_is}
 use Rattle.mega_cluster.specs.declared.cluster.Cluster.{Cluster}
 use Rattle.mega_wire.specs.declared.message.Body.TheVariants.{Unheld}
 use Rattle.mega_wal.specs.History.{after_grant, after_lapse, is_epoch_below, is_same_epoch}
@@ -17,7 +18,7 @@ use Rattle.mega_settled_laws.proofs.of_tape_laws.Ballots.{number_is, number_self
 use Rattle.mega_settled_laws.proofs.of_tape_laws.Lists.{some_is}
 use Rattle.mega_settled_laws.proofs.of_tape_laws.Majorities.{Shared}
 use Rattle.mega_valid_laws.specs.Leases.{AreLeased, HoldsNone, IsHeld, IsLeased, NoneAbove, SaysFree, ServedBehind, counted_on, granted_on, serving_on}
-use Rattle.mega_valid_laws.proofs.Orders.{above_not, below_self, cells_meet, epoch_is, neither_below, stood_first}
+use Rattle.mega_valid_laws.proofs.Orders.{above_not, below_self, cells_meet, neither_below, stood_first}
 
 node_is : (who : NodeId) (node : ℕ) → (who.0 == node) ≡ true → who ≡ number node
 node_is who node h = λ i. record { 0 = number_is who.0 node h i }
@@ -109,7 +110,7 @@ granted_shown cell node (Lapse other to epoch ∷ before) = by (other == cell &&
       where
         within : (t : Bool) → is_same_epoch last.0 epoch ≡ t → Shown cell node (Lapse other to epoch ∷ before) (cond t (Some (last.0, false)) (Some last))
         within true same = let parts = and_parts (other == cell) (to.0 == node) e in
-            (inr h.0, λ ended. inl (λ i. Lapse (number_is other cell parts.0 i) (node_is to node parts.1 i) (sym (epoch_is last.0 epoch same) i)))
+            (inr h.0, λ ended. inl (λ i. Lapse (number_is other cell parts.0 i) (node_is to node parts.1 i) (sym (same_is last.0 epoch same) i)))
         within false same = (inr h.0, λ ended. inr (h.1 ended))
 
     by : (t : Bool) → (other == cell && to.0 == node) ≡ t → Shown cell node before (granted_on before cell node)
@@ -144,7 +145,7 @@ module _ (c : Cluster) (node : ℕ) (e : Epoch) where
     | inl t ↦
         let outer = and_parts (who.0 == node && other == cell) (is_same_epoch epoch e) t in
         let inner = and_parts (who.0 == node) (other == cell) outer.0 in
-        inr (coe 0 1 (i. Stands (Grant (number_is other cell inner.1 i) (node_is who node inner.0 i) (epoch_is epoch e outer.1 i)) before) (l.0).0)
+        inr (coe 0 1 (i. Stands (Grant (number_is other cell inner.1 i) (node_is who node inner.0 i) (same_is epoch e outer.1 i)) before) (l.0).0)
     | inr k ↦ inr (counted_granted cell before l.1 k)
   ]
   counted_granted cell (Forgets who other epoch ∷ before) l h = inr (counted_granted cell before l.1 (forgets_if ((who.0 == node && other == cell) && is_same_epoch epoch e) (counted_on before node cell e) h))

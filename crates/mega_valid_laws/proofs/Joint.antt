@@ -3,7 +3,6 @@ use Rattle.std.proofs.Common.{◌≡◌, ◌⊎◌, inl, inr, ℕ, ◌<◌, ◌�
 use Rattle.std.proofs.lemmas.Bool.{and_parts, or_left, or_right, and_from}
 use Rattle.mega_base.specs.declared.names.Epoch.{Epoch}
 use Rattle.mega_base.specs.declared.names.GroupId.{GroupId}
-use Rattle.mega_base.specs.declared.names.NodeId.{NodeId}
 use Rattle.mega_base.specs.declared.names.OpId.{OpId}
 use Rattle.mega_base.specs.declared.names.Position.{Position}
 use Rattle.mega_ballot.specs.declared.ballot.Ballot.{Ballot}
@@ -29,9 +28,6 @@ use Rattle.mega_settled_laws.specs.Covering.{Earlier, HasSettled, IsCoveredSince
 use Rattle.mega_valid_laws.specs.Leases.{AreLeased, HasAtLeast, IsHeld, IsLeased, MayBeValid, MayFree, MayObey, ServedBehind, WasChosen, accepted, asks_end, decided, has_polled, serving_on, valid_on}
 use Rattle.mega_valid_laws.proofs.Epochs.{served_behind, serving_stands}
 use Rattle.mega_valid_laws.proofs.Orders.{before_behind, between, moments_ordered, stood_first}
-
-node_is : (who : NodeId) (node : ℕ) → (who.0 == node) ≡ true → who ≡ number node
-node_is who node h = λ i. record { 0 = number_is who.0 node h i }
 
 pub on_longer : (moment tape : List Item) → Earlier moment tape → (item : Item) → Stands item moment → Stands item tape
 on_longer moment tape e item s = subst (Stands item) (sym e.is) (stood_behind e.later moment item s)

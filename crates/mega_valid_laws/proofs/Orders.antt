@@ -5,7 +5,7 @@ use Rattle.std.proofs.lemmas.List.FromFn.{length-range_with_len}
 use Rattle.std.proofs.lemmas.Bool.{or_cases, or_left, or_right, and_from, false_from_ne_true, and_parts}
 use Rattle.mega_base.specs.declared.names.Epoch.{Epoch}
 use Rattle.mega_cluster.specs.declared.cluster.Cluster.{Cluster}
-use Rattle.mega_wal.specs.History.{is_epoch_below, is_same_epoch}
+use Rattle.mega_wal.specs.History.{is_epoch_below}
 use Rattle.mega_settled_laws.specs.of_tape_laws.of_promises.of_transcript.declared.item.Item.{Item}
 use Rattle.mega_settled_laws.specs.of_tape_laws.of_promises.Promises.{Stands, StoodBefore}
 use Rattle.mega_settled_laws.specs.of_tape_laws.of_promises.of_rules.Members.{cells}
@@ -16,9 +16,6 @@ use Rattle.mega_settled_laws.proofs.of_tape_laws.Majorities.{Shared, overlap}
 use Rattle.mega_settled_laws.specs.Covering.{Earlier}
 
 -- ---- epochs
-
-pub epoch_is : (a b : Epoch) → is_same_epoch a b ≡ true → a ≡ b
-epoch_is a b h = let parts = and_parts (a.start == b.start) (a.count == b.count) h in λ i. record { start = number_is a.start b.start parts.0 i; count = number_is a.count b.count parts.1 i }
 
 abbrev pub Below : Epoch → Epoch → Type 0
 Below a b = (a.start < b.start) ⊎ ((a.start ≡ b.start) × (a.count < b.count))

@@ -248,14 +248,6 @@ record Holds (c : Cluster) (base : List Met) (now : Now) : Type 0 where
   agrees : AgreesAt c now.met
 
 module _ (s : Setting) (base : List Met) where
-  kept_holds : (now next : Now) → now.met ≡ next.met → now.valid ≡ next.valid → now.answers ≡ next.answers → Holds s.cluster base now → Holds s.cluster base next
-  kept_holds now next met valid answers h = record {
-    met_is = sym met ∙ h.met_is ∙ ap (λ v. onto v base) valid;
-    valid = subst (Each IsValidate) valid h.valid;
-    answers = subst (Each IsAnswer) answers h.answers;
-    agrees = subst (AgreesAt s.cluster) met h.agrees;
-  }
-
   ends_holds : (now : Now) (id : OpId) (answer : Answer) → Holds s.cluster base now → Holds s.cluster base (ends now id answer)
   ends_holds now id answer h = record { met_is = h.met_is; valid = h.valid; answers = each_both IsAnswer now.answers (Answers id answer ∷ []) h.answers (tt, tt); agrees = h.agrees }
 

@@ -26,7 +26,8 @@ use Rattle.mega_view.specs.Keys.{IsNamed}
 use Rattle.mega_view.specs.OwnRows.{AreOwnRows, is_of}
 use Rattle.mega_view.specs.Scanning.{is_it}
 use Rattle.mega_view.specs.Shows.{Shows}
-use Rattle.mega_view.proofs.Lists.{Covers, ascends, ascending, has_row, key_is, row_is, same_rows, same_self}
+use Rattle.mega_index.proofs.KeyLists.{key_is, same_self}
+use Rattle.mega_replica.proofs.RowLists.{Covers, ascends, ascending, has_row, row_is, same_rows}
 use Rattle.mega_view.proofs.Listed.{ascends_filter}
 
 abbrev Test : Type 0

@@ -1,5 +1,4 @@
 mod Numbers
-pub mod Lists
 pub mod RowKeys
 mod Ranges
 mod Adding

@@ -14,7 +14,8 @@ use Rattle.mega_index.specs.Fitted.{table_of}
 use Rattle.mega_index.proofs.Ordered.{Ascends, Below, ascends-sorted, below-none}
 use Rattle.mega_outcome.specs.declared.answer.Shown.{Shown}
 use Rattle.mega_outcome.specs.Reads.{all_rows, shown_in}
-use Rattle.mega_view.proofs.Lists.{Covers, ascends, has_row, key_is, row_is, same_rows, same_self}
+use Rattle.mega_index.proofs.KeyLists.{key_is, same_self}
+use Rattle.mega_replica.proofs.RowLists.{Covers, ascends, has_row, row_is, same_rows}
 use Rattle.mega_view.specs.TableRows.{AreTableRows}
 use Rattle.mega_view.specs.Shows.{Shows}
 

@@ -21,7 +21,7 @@ use Rattle.mega_index.specs.Fits.{numbered, group_of, key_of}
 use Rattle.mega_index.specs.Fitted.{is_key_of, table_in, table_of}
 use Rattle.mega_outcome.specs.declared.answer.Turn.TheVariants.{OtherGroup}
 use Rattle.mega_outcome.specs.Places.{key_in, key_in_table, placed, spelled}
-use Rattle.mega_view.proofs.Lists.{key_is, same_self}
+use Rattle.mega_index.proofs.KeyLists.{key_is, same_self}
 use Rattle.mega_view.specs.Keys.{AreBytes, IsNamed}
 
 -- ---- values that stand in their places

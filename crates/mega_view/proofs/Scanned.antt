@@ -1,5 +1,5 @@
 -- Scans of the ranges of a group's tables, one after another, find the rows of its tables.
-use Rattle.std.proofs.Common.{◌≡◌, ◌⊎◌, inl, inr, ⊎_elim, ℕ, zero, suc, ◌+◌, ◌≤◌, ◌<◌, cond, Bool, true, false, ◌&&◌, List, [], ◌∷◌, length, take, refl, sym, ap, ◌∙◌, subst, arith, Some, None}
+use Rattle.std.proofs.Common.{◌≡◌, ◌⊎◌, inl, inr, ⊎_elim, ℕ, zero, suc, ◌+◌, ◌≤◌, ◌<◌, cond, Bool, true, false, ◌&&◌, List, [], ◌∷◌, length, take, refl, sym, ap, ◌∙◌, subst, arith, Some}
 use Rattle.std.specs.Prelude.{slice_get}
 use Rattle.mega_base.specs.declared.values.Row.{Row}
 use Rattle.mega_disk.specs.VersionMaps.{HasRow, IsScan, IsWithin, Versions}
@@ -9,7 +9,7 @@ use Rattle.mega_index.specs.Rows.{Listed, Rows, same_key}
 use Rattle.mega_index.specs.Fitted.{is_key_of, table_of}
 use Rattle.mega_outcome.specs.declared.answer.Shown.{Shown}
 use Rattle.mega_outcome.specs.Answers.{rows_at}
-use Rattle.mega_view.proofs.Lists.{key_is, same_self}
+use Rattle.mega_index.proofs.KeyLists.{key_is, same_self}
 use Rattle.mega_view.specs.Keys.{AreBytes, IsNamed}
 use Rattle.mega_view.specs.TableRows.{AreTableRows}
 use Rattle.mega_view.specs.Scanning.{AreThrough, Found, HaveByteKeys, with_row, with_rows}
@@ -34,9 +34,6 @@ among_bytes (e ∷ rows) key bytes has = ⊎_elim (λ here. subst AreBytes here 
 
 some_is : {A : Type 0} (a b : A) → Some a ≡ Some b → a ≡ b
 some_is a b h = cc
-
-none_is : {A : Type 0} (a : A) → None ≡ Some a → ⊥
-none_is a h = cc
 
 module _ (s : Schema) (n : ℕ) (t : Table) (group : List ℕ) where
   -- a row that is found was found before, or is one of the scan
@@ -143,15 +140,6 @@ skipped s group rows count found none through = record {
       (λ less. through.all key m row named of less at)
       (λ same. absurd (none key (subst (λ (k : ℕ). IsNamed s group k key) same named)))
       (less_or_same count m le);
-}
-
--- of no table yet nothing is found
-pub none_yet : (s : Schema) (group : List ℕ) (rows : Rows) (found : Found) → ((key : List ℕ) → found key ≡ None) → AreThrough s group rows 0 found
-none_yet s group rows found empty = record {
-  each = λ key one h. absurd (none_is one (sym (empty key) ∙ h));
-  all = λ key m row named of le at.
-      let first = table_found s 1 (take 64 s.tables) group key m of in
-      absurd (omega (arith, le, first.number));
 }
 
 place_within : (ts : List Table) (i : ℕ) (t : Table) → slice_get ts i ≡ Some t → i < length ts

@@ -4,3 +4,4 @@ pub mod Shows
 pub mod Scanning
 pub mod OwnRows
 pub mod Small
+pub mod Served

@@ -1,6 +1,6 @@
 -- The groups with a decided position: two lists in order with the same groups are one.
 use Rattle.std.proofs.Common.{◌≡◌, ℕ, ◌<◌, ◌||◌, Bool, true, false, cond, max, nat_lt, List, [], ◌∷◌, Ordering, Less, Equal, Greater, is_eq, is_lt, refl, sym, ap, subst, ◌∙◌, arith}
-use Rattle.std.specs.List.{AllByRecursion, list_any}
+use Rattle.std.specs.List.{AllByRecursion}
 use Rattle.std.specs.List.Sorted.{IsStrictlySortedBy}
 use Rattle.std.specs.Ordering.{ordering_reverse}
 use Rattle.std.proofs.lemmas.Bool.Decides.{nat_tests}
@@ -13,38 +13,15 @@ use Rattle.mega_wal.proofs.Orders.{is_group_equal, is_group_is}
 use Rattle.mega_wal.proofs.Fitting.{group_order}
 use Rattle.mega_rules.specs.Met.{Met, Decides}
 use Rattle.mega_rules.specs.Logs.{groups_of, is_group_before, newest_of, with_group}
+use Rattle.mega_rules.proofs.Groups.{has, has_with}
 use Rattle.mega_voter.specs.Journal.{journal_of}
 use Rattle.mega_voter.specs.Telling.{AreHonest}
 use Rattle.mega_voter.proofs.Folds.{newest_is}
-
-abbrev has : GroupId → List GroupId → Bool
-has group groups = list_any (λ other. same_group other group) groups
 
 abbrev AllAbove : GroupId → List GroupId → Type 0
 AllAbove group groups = AllByRecursion (λ other. group_cmp group other ≡ Less) groups
 
 -- ---- one group more
-absorbed : (x y z : Bool) → z ≡ x → (x || y) ≡ (z || (x || y))
-absorbed true y true e = refl
-absorbed false y false e = refl
-absorbed true y false e = absurd (cc)
-absorbed false y true e = absurd (cc)
-
-moved : (x y z : Bool) → (x || (z || y)) ≡ (z || (x || y))
-moved true y true = refl
-moved true y false = refl
-moved false y z = refl
-
-has_with : (one : GroupId) (groups : List GroupId) (group : GroupId) → has group (with_group one groups) ≡ (same_group one group || has group groups)
-has_with one [] group = refl
-has_with one (other ∷ groups) group = go (same_group one other) (is_group_before one other) refl (has_with one groups group)
-  where
-    go : (a b : Bool) → same_group one other ≡ a → has group (with_group one groups) ≡ (same_group one group || has group groups)
-        → has group (cond a (other ∷ groups) (cond b (one ∷ other ∷ groups) (other ∷ with_group one groups))) ≡ (same_group one group || (same_group other group || has group groups))
-    go true b e rest = absorbed (same_group other group) (has group groups) (same_group one group) (ap (λ g. same_group g group) (same_group_equal one other e))
-    go false true e rest = refl
-    go false false e rest = ap (λ t. same_group other group || t) rest ∙ moved (same_group other group) (has group groups) (same_group one group)
-
 above_with : (least one : GroupId) (groups : List GroupId) → group_cmp least one ≡ Less → AllAbove least groups → AllAbove least (with_group one groups)
 above_with least one [] below all = (below, tt)
 above_with least one (other ∷ groups) below all = go (same_group one other) (is_group_before one other) (above_with least one groups below all.1)

@@ -1,4 +1,3 @@
-pub mod Agreeing
 pub mod Folds
 pub mod Prefixes
 pub mod Grouped

@@ -4,37 +4,22 @@ ghost use Rattle.mega_ballot.specs.Order.{zero_ballot};
 ghost use Rattle.mega_wal.specs.declared.answers.Promised.TheVariants.{Shown as PromiseShown, Yes as PromiseYes};
 ghost use Rattle.mega_wal.specs.declared.answers.Voted.TheVariants.{Shown as VoteShown, Yes as VoteYes};
 ghost use Rattle.mega_wal.specs.Acceptor.{answer_beside, is_ballot_below, is_same_ballot};
-ghost use Rattle.mega_wal.specs.Same.{same_entry};
 ghost use Rattle.mega_rules.specs.Replies.{fetched};
 ghost use Rattle.mega_rules.specs.Voting.{promise_body, vote_body};
 
 use mega_ballot::Ballot;
-use mega_base::{Copied, GroupId, NoMemory, OpId, Position, Same};
-use mega_entry::Entry;
+use mega_base::{Copied, GroupId, NoMemory, OpId, Position};
+use mega_entry::{Entry, is_same_entry};
+use mega_wal::mega_acceptor::is_below;
 use mega_wal::{Promised, Voted};
 use mega_wire::Body;
 use std::alloc::Global;
-
-/// Whether a ballot is below another.
-#[tactic(auto, using(crate::proofs::Agreeing::below_is))]
-fn is_below(ballot: Ballot, other: Ballot) -> bool
-    ensures { result ≡ is_ballot_below ballot other }
-{
-    ballot.is_below(other)
-}
 
 /// Whether a ballot is the one that all operations share.
 fn is_zero(ballot: Ballot) -> bool
     ensures { result ≡ is_same_ballot ballot zero_ballot }
 {
     ballot.round == 0 && ballot.op.node.0 == 0 && ballot.op.start == 0 && ballot.op.number == 0
-}
-
-/// Whether two entries are equal.
-fn is_same_entry(entry: &Entry, other: &Entry) -> bool
-    ensures { result ≡ same_entry entry.now other.now }
-{
-    entry.same_as(other)
 }
 
 /// A copy of a vote.

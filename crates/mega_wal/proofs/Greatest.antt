@@ -230,7 +230,3 @@ marks_same one two same group = λ i. record { top = top_is i; newest = newest_i
 
     prefix_is : prefix_of one group ≡ prefix_of two group
     prefix_is = climb_same (decided_at one group) (decided_at two group) decides (newest_of one group) 0 ∙ ap (λ n. climb (decided_at two group) n 0) newest_is
-
--- no position stands above 0 where none is the greatest
-pub newest_decided : (items : List JournalItem) (group : GroupId) → (newest_of items group ≡ 0) ⊎ (decided_at items group (newest_of items group) ≡ true)
-newest_decided = most_stands decided_at newest_of newest_marks (λ group n. refl) (λ group. refl) decided_more newest_more

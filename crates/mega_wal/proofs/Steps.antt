@@ -1,5 +1,5 @@
 -- What is kept after one item more.
-use Rattle.std.proofs.Common.{◌≡◌, ℕ, zero, suc, ◌+◌, ◌-◌, ◌==◌, ◌≤◌, ◌&&◌, ◌||◌, Bool, true, false, cond, max, List, ◌∷◌, Option, Some, None, refl, sym, ap, ◌∙◌, arith}
+use Rattle.std.proofs.Common.{◌≡◌, ℕ, zero, suc, ◌-◌, ◌==◌, ◌≤◌, ◌&&◌, ◌||◌, Bool, true, false, cond, max, List, ◌∷◌, Option, Some, None, refl, sym, ap, ◌∙◌, arith}
 use Rattle.std.specs.Prelude.{is_some}
 use Rattle.std.proofs.lemmas.Bool.Decides.{nat_tests}
 use Rattle.mega_base.specs.declared.names.GroupId.{GroupId}
@@ -40,14 +40,6 @@ climb_skip f g wider (suc steps) (suc all) from le = go (f (suc from)) refl (cli
         → cond (g (suc from)) (climb g all (suc from)) from ≡ climb g (suc all - (cond test (climb f steps (suc from)) from - from)) (cond test (climb f steps (suc from)) from)
     go true t ih = ap (λ b. cond b (climb g all (suc from)) from) (wider (suc from) t) ∙ (ih ∙ ap (λ n. climb g n (climb f steps (suc from))) (let l = low f steps (suc from) in let e : all - (climb f steps (suc from) - suc from) ≡ suc all - (climb f steps (suc from) - from) = omega arith in e))
     go false t ih = ap (λ n. climb g n from) (let e : suc all ≡ suc all - (from - from) = omega arith in e)
-
-pub climb_most : (f : ℕ → Bool) (steps from : ℕ) → climb f steps from ≤ from + steps
-climb_most f zero from = omega arith
-climb_most f (suc steps) from = go (f (suc from)) (climb_most f steps (suc from))
-  where
-    go : (test : Bool) → climb f steps (suc from) ≤ suc from + steps → cond test (climb f steps (suc from)) from ≤ from + suc steps
-    go true h = omega arith
-    go false h = omega arith
 
 -- ---- places
 pub place_is : (group other : GroupId) (position : Position) (n : ℕ) → is_place group position other n ≡ true → (group ≡ other) × (position.0 ≡ n)

@@ -1,14 +1,14 @@
 -- The laws of this format.
-use Rattle.std.proofs.Common.{◌≡◌, ℕ, ◌+◌, ◌≤◌, Bool, true, false, List, [], ◌∷◌, ◌++◌, length, refl, ◌∙◌, ap, subst, Ok, Result, arith}
-use Rattle.std.specs.Prelude.{◌==◌, if◌then◌else◌, ◌≢◌}
+use Rattle.std.proofs.Common.{◌≡◌, ℕ, ◌+◌, ◌≤◌, true, false, List, [], ◌∷◌, ◌++◌, length, refl, ◌∙◌, ap, subst, Ok, Result, arith}
+use Rattle.std.specs.Prelude.{◌==◌, ◌≢◌}
+use Rattle.std.proofs.lemmas.Bool.{eqb-false}
 use Rattle.std.proofs.lemmas.Bool.Decides.{nat_tests}
 use Rattle.mega_base.specs.Reading.{Place, place, Read, ◌>>=◌, byte_in}
 use Rattle.mega_base.specs.Pairs.{IsPair}
-use Rattle.mega_base.specs.Codec.{number_text, Codec, BytesBetween, IsText, IsBetween, one_byte, nested_text, IsNested, OpensNested}
-use Rattle.mega_base.specs.Names.{u32_at, u32_text, IsU32, node_at, node_text, IsNode, position_text, IsPositionIn, epoch_at, epoch_text, IsEpoch, group_at, group_text, IsGroup}
-use Rattle.mega_base.specs.NameLaws.{u32_codec, node_codec, position_codec, epoch_codec, group_codec}
-use Rattle.mega_base.specs.Codecs.{byte_codec, bind_codec, embed_codec, ok_parts}
-use Rattle.mega_base.specs.Whole.{nested_codec}
+use Rattle.mega_base.specs.Codec.{Codec, BytesBetween, IsBetween, one_byte, IsNested}
+use Rattle.mega_base.specs.Names.{u32_at, u32_text, IsU32, IsNode, position_text, IsPositionIn, IsEpoch, group_text, IsGroup}
+use Rattle.mega_base.specs.NameLaws.{u32_codec}
+use Rattle.mega_base.specs.Codecs.{byte_codec, bind_codec, ok_parts}
 use Rattle.mega_base.specs.declared.names.NodeId.{NodeId}
 use Rattle.mega_base.specs.declared.names.Position.{Position}
 use Rattle.mega_base.specs.declared.names.Epoch.{Epoch}
@@ -16,21 +16,15 @@ use Rattle.mega_base.specs.declared.names.GroupId.{GroupId}
 use Rattle.mega_acceptor.specs.of_ballot.Ballots.{ballot_at, ballot_text, zero_op, IsBallot}
 use Rattle.mega_acceptor.specs.of_ballot.BallotLaws.{ballot_codec}
 use Rattle.mega_acceptor.specs.of_ballot.declared.ballot.Ballot.{Ballot}
-use Rattle.mega_acceptor.specs.of_entry.Entries.{entry_at, entry_text, IsEntry}
-use Rattle.mega_acceptor.specs.of_entry.Formats.{Format, Open, both, before}
-use Rattle.mega_acceptor.specs.of_entry.EntryLaws.{entry_codec, some_entry}
+use Rattle.mega_acceptor.specs.of_entry.Entries.{entry_text, IsEntry}
+use Rattle.mega_acceptor.specs.of_entry.Formats.{Format, Open, both, before, embed_open, if_open, open_of}
+use Rattle.mega_acceptor.specs.of_entry.FieldFormats.{entry_open, epoch_format, group_format, node_format, position_format, shown_entry}
 use Rattle.mega_acceptor.specs.of_entry.declared.content.Content.{Content}
 use Rattle.mega_wal.specs.declared.item.JournalItem.{JournalItem}
 use Rattle.mega_wal.specs.declared.item.JournalItem.TheVariants.{Start, Promise, Accept, Decide, Grant, Lapse, Starts}
-use Rattle.mega_wal.specs.Items.{item_position_at, entry_field_at, promise_fields, accept_fields, decide_fields, lock_fields, item_of, item_at, kind_of, fields_with, IsItemWith, fields_text, item_text, IsItem, OpensItem}
+use Rattle.mega_wal.specs.Items.{promise_fields, accept_fields, decide_fields, lock_fields, item_of, item_at, kind_of, fields_with, IsItemWith, fields_text, item_text, IsItem, OpensItem}
 
 -- the formats of the fields
-group_format : Format group_at group_text IsGroup
-group_format = record { codec = group_codec; some = record { key = [] }; fits = (omega arith, omega arith) }
-
-position_format : Format item_position_at position_text (IsPositionIn 1 1000000)
-position_format = record { codec = position_codec 1 1000000 (omega arith) (omega arith); some = record { 0 = 1 }; fits = (omega arith, omega arith) }
-
 ballot_format : Format ballot_at ballot_text IsBallot
 ballot_format = record {
   codec = ballot_codec;
@@ -42,25 +36,8 @@ ballot_format = record {
   };
 }
 
-node_format : Format node_at node_text IsNode
-node_format = record { codec = node_codec; some = record { 0 = 1 }; fits = (omega arith, omega arith) }
-
-epoch_format : Format epoch_at epoch_text IsEpoch
-epoch_format = record { codec = epoch_codec; some = record { start = 0; count = 0 }; fits = ((omega arith, omega arith), (omega arith, omega arith)) }
-
 starts_format : Format u32_at u32_text IsU32
 starts_format = record { codec = u32_codec; some = 0; fits = (omega arith, omega arith) }
-
--- the text of an entry, with this length before it
-abbrev shown_entry : ℕ → Content → List ℕ
-shown_entry n e = number_text 4 n ++ entry_text e
-
-entry_open : Open entry_field_at (nested_text entry_text) (OpensNested 65536 entry_text IsEntry) (IsNested 65536 entry_text IsEntry)
-entry_open = record {
-  codec = nested_codec 65536 entry_at entry_text IsEntry (omega arith) entry_codec some_entry.0 some_entry.1;
-  some = shown_entry 0 some_entry.0;
-  shown = (0, some_entry.0, omega arith, some_entry.1, refl);
-}
 
 -- an item of that kind that fits, and the texts that open one
 abbrev IsOfKind : ℕ → JournalItem → Type 0
@@ -68,26 +45,6 @@ IsOfKind kind item = (kind_of item ≡ kind) × IsItem item
 
 abbrev OpensFields : ℕ → List ℕ → Type 0
 OpensFields kind text = (item : JournalItem) × (n : ℕ) × (n ≤ 65536) × (kind_of item ≡ kind) × IsItemWith IsEntry item × (fields_with (shown_entry n) item ≡ text)
-
-embed_open : {A B : Type 0} {r : Place → Read A} {s : A → List ℕ} {O : List ℕ → Type 0} {F : A → Type 0} → (c : Open r s O F) (make : A → B) (t : B → List ℕ) (U : List ℕ → Type 0) (G : B → Type 0)
-    → ((x : A) → F x → (t (make x) ≡ s x) × G (make x))
-    → ((l : List ℕ) → O l → U l)
-    → ((y : B) → G y → (x : A) × F x × (make x ≡ y))
-    → Open (λ p. r p >>= λ x. Ok (make x.0, x.1)) t U G
-embed_open {r = r} {s = s} {O = O} {F = F} c make t U G to opens from = record {
-  codec = embed_codec r s O F make t U G c.codec to opens from;
-  some = c.some;
-  shown = opens c.some c.shown;
-}
-
-open_of : {A : Type 0} {r : Place → Read A} {s : A → List ℕ} {F : A → Type 0} → Format r s F → Open r s (IsText s F) F
-open_of {s = s} c = record { codec = c.codec; some = s c.some; shown = (c.some, c.fits, refl) }
-
--- the choice of a kind
-if_open : {A : Type 0} (b : Bool) {r1 r2 : Place → Read A} {s : A → List ℕ} {O : List ℕ → Type 0} {F : A → Type 0}
-    → (b ≡ true → Open r1 s O F) → (b ≡ false → Open r2 s O F) → Open (λ p. if b then r1 p else r2 p) s O F
-if_open true when_true when_false = when_true refl
-if_open false when_true when_false = when_false refl
 
 -- an item with no fields
 start_open : Open (λ p. Ok (Start, p)) fields_text (OpensFields 1) (IsOfKind 1)
@@ -185,9 +142,6 @@ starts_open = embed_open (open_of starts_format) (λ x. Starts x) fields_text (O
 at_kind : (k n : ℕ) {r : Place → Read JournalItem} → (k == n) ≡ true → Open r fields_text (OpensFields n) (IsOfKind n) → Open r fields_text (OpensFields k) (IsOfKind k)
 at_kind k n {r = r} e c = let same : n ≡ k = grind (arith, nat_tests) in subst (λ (m : ℕ). Open r fields_text (OpensFields m) (IsOfKind m)) same c
 
-other : (k n : ℕ) → (k == n) ≡ false → k ≢ n
-other k n e = grind (arith, nat_tests)
-
 fields_open : (k : ℕ) → IsBetween 1 7 k → Open (item_of k) fields_text (OpensFields k) (IsOfKind k)
 unfolding item_of
 fields_open k f =
@@ -197,7 +151,7 @@ fields_open k f =
     if_open (k == 4) (λ e. at_kind k 4 e decide_open) (λ n4.
     if_open (k == 5) (λ e. at_kind k 5 e grant_open) (λ n5.
     if_open (k == 6) (λ e. at_kind k 6 e lapse_open) (λ n6.
-    subst (λ (m : ℕ). Open (λ p. u32_at p >>= λ x. Ok (Starts x.0, x.1)) fields_text (OpensFields m) (IsOfKind m)) (last_kind k f (other k 1 n1) (other k 2 n2) (other k 3 n3) (other k 4 n4) (other k 5 n5) (other k 6 n6)) starts_open))))))
+    subst (λ (m : ℕ). Open (λ p. u32_at p >>= λ x. Ok (Starts x.0, x.1)) fields_text (OpensFields m) (IsOfKind m)) (last_kind k f (eqb-false k 1 n1) (eqb-false k 2 n2) (eqb-false k 3 n3) (eqb-false k 4 n4) (eqb-false k 5 n5) (eqb-false k 6 n6)) starts_open))))))
   where
     last_kind : (k : ℕ) → IsBetween 1 7 k → k ≢ 1 → k ≢ 2 → k ≢ 3 → k ≢ 4 → k ≢ 5 → k ≢ 6 → 7 ≡ k
     last_kind k f n1 n2 n3 n4 n5 n6 = omega (arith, f.0, f.1)

@@ -18,3 +18,4 @@ mod summing;
 pub use answers::{LogFault, Promised, Voted};
 pub use item::JournalItem;
 pub use logs::Logs;
+pub use mega_acceptor;

@@ -1,16 +1,16 @@
 -- The laws of this format.
-use Rattle.std.proofs.Common.{◌≡◌, ℕ, zero, suc, ◌+◌, ◌<◌, ◌≤◌, ◌^◌, Bool, true, false, List, [], ◌∷◌, ◌++◌, length, refl, sym, ◌∙◌, ap, subst, Ok, Option, Some, None, arith}
+use Rattle.std.proofs.Common.{◌≡◌, ℕ, zero, ◌+◌, ◌≤◌, Bool, true, false, List, [], ◌∷◌, ◌++◌, length, refl, sym, ◌∙◌, ap, subst, Ok, Option, Some, None, arith}
 use Rattle.std.specs.Prelude.{◌==◌, if◌then◌else◌, ◌≢◌}
+use Rattle.std.proofs.lemmas.Bool.{eqb-false}
 use Rattle.std.proofs.lemmas.Bool.Decides.{nat_tests}
-use Rattle.mega_base.specs.Reading.{Place, Read, ◌>>=◌, byte_in, number_in, option_at, nested_at}
+use Rattle.mega_base.specs.Reading.{Place, Read, ◌>>=◌, byte_in, option_at}
 use Rattle.mega_base.specs.Pairs.{pair_at, pair_text, IsPair, OpensPair}
-use Rattle.mega_base.specs.Codec.{number_text, Codec, IsText, IsBetween, one_byte, option_text, IsOption, bytes_text, nested_text, IsNested, OpensNested}
-use Rattle.mega_base.specs.Names.{u64_at, u64_text, IsU64, node_at, node_text, IsNode, position_in, position_text, IsPositionIn, epoch_at, epoch_text, IsEpoch, op_at, op_text, IsOp, string_at, IsString, group_at, group_text, IsGroup}
-use Rattle.mega_base.specs.NameLaws.{u64_codec, node_codec, position_codec, epoch_codec, op_codec, string_codec, group_codec}
-use Rattle.mega_base.specs.Codecs.{byte_codec, bind_codec, embed_codec, refit_codec, if_codec}
+use Rattle.mega_base.specs.Codec.{Codec, IsBetween, one_byte, option_text, IsOption, bytes_text, nested_text, IsNested, OpensNested}
+use Rattle.mega_base.specs.Names.{u64_at, u64_text, IsU64, IsNode, position_text, IsPositionIn, IsEpoch, op_at, op_text, IsOp, string_at, IsString, group_text, IsGroup}
+use Rattle.mega_base.specs.NameLaws.{u64_codec, position_codec, op_codec, string_codec}
+use Rattle.mega_base.specs.Codecs.{byte_codec, bind_codec, refit_codec}
 use Rattle.mega_base.specs.Digits.{number_codec}
 use Rattle.mega_base.specs.Lists.{option_codec}
-use Rattle.mega_base.specs.Whole.{nested_codec}
 use Rattle.mega_base.specs.declared.names.NodeId.{NodeId}
 use Rattle.mega_base.specs.declared.names.Position.{Position}
 use Rattle.mega_base.specs.declared.names.Epoch.{Epoch}
@@ -19,24 +19,18 @@ use Rattle.mega_base.specs.declared.names.GroupId.{GroupId}
 use Rattle.mega_ballot.specs.Ballots.{ballot_at, ballot_text, zero_op, IsBallot}
 use Rattle.mega_ballot.specs.BallotLaws.{ballot_codec}
 use Rattle.mega_ballot.specs.declared.ballot.Ballot.{Ballot}
-use Rattle.mega_entry.specs.Entries.{entry_at, entry_text, IsEntry}
-use Rattle.mega_entry.specs.Formats.{Format, Open, both, before}
-use Rattle.mega_entry.specs.EntryLaws.{entry_codec, some_entry}
+use Rattle.mega_entry.specs.Entries.{entry_text, IsEntry}
+use Rattle.mega_entry.specs.Formats.{Format, Open, both, before, embed_open, if_open, open_of}
+use Rattle.mega_entry.specs.FieldFormats.{entry_open, epoch_format, group_format, node_format, position_format, shown_entry}
 use Rattle.mega_entry.specs.declared.content.Content.{Content}
 use Rattle.mega_wire.specs.declared.message.Message.{Message}
 use Rattle.mega_wire.specs.declared.message.Body.{Body}
 use Rattle.mega_wire.specs.declared.message.Body.TheVariants.{Where, Top, Accept, Accepted, Refused, Prepare, Promise, Invalidate, Invalidated, Dead, Held, Unheld, Decide, Fetch, Have, HaveNot, Acquire, Granted, Past, Request, Reply}
-use Rattle.mega_wire.specs.Messages.{message_position_at, top_position_at, cell_at, clock_at, entry_field_at, accept_fields, acquire_fields, dead_fields, decide_fields, have_fields, invalidate_fields, past_fields, prepare_fields, promise_fields, refused_fields, request_fields, top_fields, where_fields, body_of, kind_of, body_with, IsBodyWith, body_text, IsBody, least_from, greatest_from, least_to, greatest_to, addressed_at, kinded_at, mark_at, message_at, message_with, message_text, IsMessageWith, IsMessage, OpensMessage}
+use Rattle.mega_wire.specs.Messages.{top_position_at, cell_at, clock_at, entry_field_at, accept_fields, acquire_fields, dead_fields, decide_fields, have_fields, invalidate_fields, past_fields, prepare_fields, promise_fields, refused_fields, request_fields, top_fields, where_fields, body_of, kind_of, body_with, IsBodyWith, body_text, IsBody, least_from, greatest_from, least_to, greatest_to, addressed_at, kinded_at, mark_at, message_at, message_text, IsMessageWith, IsMessage, OpensMessage}
 
 -- the formats of the fields
 op_format : Format op_at op_text IsOp
 op_format = record { codec = op_codec; some = zero_op; fits = ((omega arith, omega arith), (omega arith, omega arith), (omega arith, omega arith)) }
-
-group_format : Format group_at group_text IsGroup
-group_format = record { codec = group_codec; some = record { key = [] }; fits = (omega arith, omega arith) }
-
-position_format : Format message_position_at position_text (IsPositionIn 1 1000000)
-position_format = record { codec = position_codec 1 1000000 (omega arith) (omega arith); some = record { 0 = 1 }; fits = (omega arith, omega arith) }
 
 top_position_format : Format top_position_at position_text (IsPositionIn 0 1000000)
 top_position_format = record { codec = position_codec 0 1000000 (omega arith) (omega arith); some = record { 0 = 1 }; fits = (omega arith, omega arith) }
@@ -55,12 +49,6 @@ ballot_format = record {
 cell_format : Format cell_at one_byte (IsBetween 1 5)
 cell_format = record { codec = byte_codec 1 5 (omega arith); some = 1; fits = (omega arith, omega arith) }
 
-node_format : Format node_at node_text IsNode
-node_format = record { codec = node_codec; some = record { 0 = 1 }; fits = (omega arith, omega arith) }
-
-epoch_format : Format epoch_at epoch_text IsEpoch
-epoch_format = record { codec = epoch_codec; some = record { start = 0; count = 0 }; fits = ((omega arith, omega arith), (omega arith, omega arith)) }
-
 clock_format : Format clock_at u64_text (IsBetween 0 1000000000000)
 clock_format = record { codec = number_codec 8 0 1000000000000 (omega arith) (omega arith); some = 0; fits = (omega arith, omega arith) }
 
@@ -69,17 +57,6 @@ token_format = record { codec = u64_codec; some = 0; fits = (omega arith, omega 
 
 string_format : Format string_at bytes_text IsString
 string_format = record { codec = string_codec; some = []; fits = (omega arith, omega arith) }
-
--- the text of an entry, with this length before it
-abbrev shown_entry : ℕ → Content → List ℕ
-shown_entry n e = number_text 4 n ++ entry_text e
-
-entry_open : Open entry_field_at (nested_text entry_text) (OpensNested 65536 entry_text IsEntry) (IsNested 65536 entry_text IsEntry)
-entry_open = record {
-  codec = nested_codec 65536 entry_at entry_text IsEntry (omega arith) entry_codec some_entry.0 some_entry.1;
-  some = shown_entry 0 some_entry.0;
-  shown = (0, some_entry.0, omega arith, some_entry.1, refl);
-}
 
 abbrev OpensOption : List ℕ → Type 0
 OpensOption text = (o : Option Content) × (n : ℕ) × (n ≤ 65536) × IsOption IsEntry o × (option_text (shown_entry n) o ≡ text)
@@ -112,26 +89,6 @@ IsOfKind kind body = (kind_of body ≡ kind) × IsBody body
 
 abbrev OpensBody : ℕ → List ℕ → Type 0
 OpensBody kind text = (body : Body) × (n : ℕ) × (n ≤ 65536) × (kind_of body ≡ kind) × IsBodyWith IsEntry body × (body_with (shown_entry n) body ≡ text)
-
-embed_open : {A B : Type 0} {r : Place → Read A} {s : A → List ℕ} {O : List ℕ → Type 0} {F : A → Type 0} → (c : Open r s O F) (make : A → B) (t : B → List ℕ) (U : List ℕ → Type 0) (G : B → Type 0)
-    → ((x : A) → F x → (t (make x) ≡ s x) × G (make x))
-    → ((l : List ℕ) → O l → U l)
-    → ((y : B) → G y → (x : A) × F x × (make x ≡ y))
-    → Open (λ p. r p >>= λ x. Ok (make x.0, x.1)) t U G
-embed_open {r = r} {s = s} {O = O} {F = F} c make t U G to opens from = record {
-  codec = embed_codec r s O F make t U G c.codec to opens from;
-  some = c.some;
-  shown = opens c.some c.shown;
-}
-
-open_of : {A : Type 0} {r : Place → Read A} {s : A → List ℕ} {F : A → Type 0} → Format r s F → Open r s (IsText s F) F
-open_of {s = s} c = record { codec = c.codec; some = s c.some; shown = (c.some, c.fits, refl) }
-
--- the choice of a kind
-if_open : {A : Type 0} (b : Bool) {r1 r2 : Place → Read A} {s : A → List ℕ} {O : List ℕ → Type 0} {F : A → Type 0}
-    → (b ≡ true → Open r1 s O F) → (b ≡ false → Open r2 s O F) → Open (λ p. if b then r1 p else r2 p) s O F
-if_open true when_true when_false = when_true refl
-if_open false when_true when_false = when_false refl
 
 where_open : Open (λ p. where_fields p >>= λ x. Ok (Where x.0.0 x.0.1, x.1)) body_text (OpensBody 1) (IsOfKind 1)
 where_open = embed_open (open_of (both op_format group_format)) (λ x. Where x.0 x.1) body_text (OpensBody 1) (IsOfKind 1)
@@ -347,9 +304,6 @@ reply_open = embed_open (open_of (both token_format string_format)) (λ x. Reply
 at_kind : (k n : ℕ) {r : Place → Read Body} → (k == n) ≡ true → Open r body_text (OpensBody n) (IsOfKind n) → Open r body_text (OpensBody k) (IsOfKind k)
 at_kind k n {r = r} e c = let same : n ≡ k = grind (arith, nat_tests) in subst (λ (m : ℕ). Open r body_text (OpensBody m) (IsOfKind m)) same c
 
-other : (k n : ℕ) → (k == n) ≡ false → k ≢ n
-other k n e = grind (arith, nat_tests)
-
 body_open : (k : ℕ) → IsBetween 1 21 k → Open (body_of k) body_text (OpensBody k) (IsOfKind k)
 unfolding body_of
 body_open k f =
@@ -373,7 +327,7 @@ body_open k f =
     if_open (k == 18) (λ e. at_kind k 18 e granted_open) (λ n18.
     if_open (k == 19) (λ e. at_kind k 19 e past_open) (λ n19.
     if_open (k == 20) (λ e. at_kind k 20 e request_open) (λ n20.
-    subst (λ (m : ℕ). Open (λ p. request_fields p >>= λ x. Ok (Reply x.0.0 x.0.1, x.1)) body_text (OpensBody m) (IsOfKind m)) (last_kind k f (other k 1 n1) (other k 2 n2) (other k 3 n3) (other k 4 n4) (other k 5 n5) (other k 6 n6) (other k 7 n7) (other k 8 n8) (other k 9 n9) (other k 10 n10) (other k 11 n11) (other k 12 n12) (other k 13 n13) (other k 14 n14) (other k 15 n15) (other k 16 n16) (other k 17 n17) (other k 18 n18) (other k 19 n19) (other k 20 n20)) reply_open))))))))))))))))))))
+    subst (λ (m : ℕ). Open (λ p. request_fields p >>= λ x. Ok (Reply x.0.0 x.0.1, x.1)) body_text (OpensBody m) (IsOfKind m)) (last_kind k f (eqb-false k 1 n1) (eqb-false k 2 n2) (eqb-false k 3 n3) (eqb-false k 4 n4) (eqb-false k 5 n5) (eqb-false k 6 n6) (eqb-false k 7 n7) (eqb-false k 8 n8) (eqb-false k 9 n9) (eqb-false k 10 n10) (eqb-false k 11 n11) (eqb-false k 12 n12) (eqb-false k 13 n13) (eqb-false k 14 n14) (eqb-false k 15 n15) (eqb-false k 16 n16) (eqb-false k 17 n17) (eqb-false k 18 n18) (eqb-false k 19 n19) (eqb-false k 20 n20)) reply_open))))))))))))))))))))
   where
     last_kind : (k : ℕ) → IsBetween 1 21 k → k ≢ 1 → k ≢ 2 → k ≢ 3 → k ≢ 4 → k ≢ 5 → k ≢ 6 → k ≢ 7 → k ≢ 8 → k ≢ 9 → k ≢ 10 → k ≢ 11 → k ≢ 12 → k ≢ 13 → k ≢ 14 → k ≢ 15 → k ≢ 16 → k ≢ 17 → k ≢ 18 → k ≢ 19 → k ≢ 20 → 21 ≡ k
     last_kind k f n1 n2 n3 n4 n5 n6 n7 n8 n9 n10 n11 n12 n13 n14 n15 n16 n17 n18 n19 n20 = omega (arith, f.0, f.1)

@@ -62,16 +62,6 @@ pub record Reaches (c : Cluster) (h : Meanings) (now : Standing) (most : ℕ) (w
   pub owns : OwnsDrained c h left mid
   pub lines : All HasLine first → All HasLine here
 
-pub reaches_first : (c : Cluster) (h : Meanings) (now : Standing) (most left : ℕ) (world : World) (earlier items : List Item) → StandsWith c world (earlier ++ items) now → IsFormed now → OwnsDrained c h most now → most ≡ left → Reaches c h now most world earlier items items left
-reaches_first c h now most left world earlier items r formed owns is = subst (λ n. Reaches c h now most world earlier items items n) is (record {
-  mid = now;
-  at = r;
-  drains = refl;
-  formed = formed;
-  owns = owns;
-  lines = λ lined. lined;
-})
-
 -- the next delivery acts on rows of each group's own, and behind it the drain goes on so
 owns_next : (c : Cluster) (h : Meanings) (mid : Standing) (less number : ℕ) → OwnsDrained c h (suc less) mid → next_delivery (up mid) mid.tape ≡ Some number
     → OwnsDelivered c h mid number × IsFormed (delivered c h by_fuse mid number) × OwnsDrained c h less (delivered c h by_fuse mid number)

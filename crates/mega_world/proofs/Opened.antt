@@ -256,9 +256,6 @@ last_found [] x y (suc i) P each last is = cc
 last_found (first ∷ xs) x y zero P each last is = each 0 y is
 last_found (first ∷ xs) x y (suc i) P each last is = last_found xs x y i (λ j z. P (suc j) z) (λ j z found. each (suc j) z found) last is
 
-pub none_started : (c : Cluster) → AreStarted c []
-none_started c = record { each = λ i place is. cc }
-
 pub started_more : (c : Cluster) (places : List Place) (one : Member) (k : ℕ) → length places ≡ k → AreStarted c places
     → ((h : Meanings) → IsFirst c h (k + 1) one) → AreStarted c (places ++ Up one ∷ [])
 started_more c places one k count were last = record {

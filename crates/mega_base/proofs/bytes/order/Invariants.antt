@@ -1,9 +1,10 @@
-use Rattle.std.proofs.Common.{◌≡◌, ◌-◌, ◌≤◌, length, min}
-use Rattle.mega_base.proofs.Ordered.{Rest}
+use Rattle.std.proofs.Common.{◌≡◌, length}
+use Rattle.std.specs.Cmp.Lexicographic.{slice_cmp}
+use Rattle.std.specs.Ordering.{nat_cmp}
 use Rattle.mega_base.proofs.bytes.order.Given as goal
 
-abbrev pub invariant-loop-i : goal.invariant-loop-i
-invariant-loop-i l = (l.both ≡ min (length l.a) (length l.b)) × (l.i ≤ l.both) × Rest l.a l.b l.i
+abbrev pub invariant-loop-behind : goal.invariant-loop-behind
+invariant-loop-behind l = slice_cmp nat_cmp l.one l.other ≡ slice_cmp nat_cmp l.a l.b
 
-abbrev pub decreases-loop-i : goal.decreases-loop-i
-decreases-loop-i l = ◌-◌ l.both l.i
+abbrev pub decreases-loop-behind : goal.decreases-loop-behind
+decreases-loop-behind l = length l.one

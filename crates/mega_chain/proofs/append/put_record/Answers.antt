@@ -3,7 +3,7 @@ use Rattle.std.proofs.lemmas.Result.{on_ok_weaker}
 use Rattle.mega_disk.specs.Images.{overwritten, Torn}
 use Rattle.mega_disk.proofs.Leaves.{weaker_leaves, then_leaves}
 use Rattle.mega_chain.specs.Rest.{Appends}
-use Rattle.mega_chain.proofs.Outcomes.{both_ok}
+use Rattle.mega_disk.proofs.Outcomes.{both_ok}
 use Rattle.mega_chain.proofs.Written.{appends_behind, appends_gate, at_rest_after}
 use Rattle.mega_chain.proofs.append.put_record.Goals as goal
 

@@ -3,7 +3,7 @@ use Rattle.std.proofs.lemmas.Result.{on_ok_weaker}
 use Rattle.mega_disk.proofs.Leaves.{then_leaves}
 use Rattle.mega_disk.specs.Images.{overwritten, Torn}
 use Rattle.mega_chain.specs.Chain.{records_of}
-use Rattle.mega_chain.proofs.Outcomes.{both_ok}
+use Rattle.mega_disk.proofs.Outcomes.{both_ok}
 use Rattle.mega_chain.proofs.Repaired.{closed_end, torn_end, when_open}
 use Rattle.mega_chain.proofs.ending.shut.Goals as goal
 

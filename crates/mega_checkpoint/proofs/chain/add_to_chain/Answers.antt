@@ -3,7 +3,7 @@ use Rattle.std.proofs.lemmas.Result.{on_ok_weaker}
 use Rattle.mega_disk.specs.Images.{overwritten, Torn}
 use Rattle.mega_disk.specs.RecordLists.{IsBeforeOrAfter}
 use Rattle.mega_disk.proofs.Leaves.{weaker_leaves, then_leaves}
-use Rattle.mega_journal.proofs.Outcomes.{both_ok}
+use Rattle.mega_disk.proofs.Outcomes.{both_ok}
 use Rattle.mega_checkpoint.specs.Format.{list_of}
 use Rattle.mega_checkpoint.proofs.Plain.{staged_list, gate_list, chain_added, chain_held}
 use Rattle.mega_checkpoint.proofs.chain.add_to_chain.Goals as goal

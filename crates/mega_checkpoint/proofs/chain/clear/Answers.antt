@@ -3,7 +3,7 @@ use Rattle.std.proofs.lemmas.Result.{on_ok_weaker}
 use Rattle.mega_disk.specs.Images.{Cut, Only}
 use Rattle.mega_disk.proofs.Leaves.{started, goes_on, then_leaves}
 use Rattle.mega_disk.proofs.Steps.{cut_same}
-use Rattle.mega_journal.proofs.Outcomes.{both_ok}
+use Rattle.mega_disk.proofs.Outcomes.{both_ok}
 use Rattle.mega_areas.specs.Pages.{is_areas}
 use Rattle.mega_checkpoint.specs.Format.{list_of}
 use Rattle.mega_checkpoint.proofs.Plain.{cut_none}

@@ -3,7 +3,7 @@ use Rattle.std.proofs.lemmas.Result.{on_ok_weaker}
 use Rattle.mega_disk.specs.Images.{overwritten, Torn, Only}
 use Rattle.mega_disk.proofs.Leaves.{weaker_leaves}
 use Rattle.mega_disk.proofs.Steps.{torn_written}
-use Rattle.mega_journal.proofs.Outcomes.{both_ok}
+use Rattle.mega_disk.proofs.Outcomes.{both_ok}
 use Rattle.mega_checkpoint.specs.Format.{list_of}
 use Rattle.mega_checkpoint.specs.Held.{HoldsChain}
 use Rattle.mega_checkpoint.proofs.Plain.{shut_by, open_by, shut_held, open_list, open_held}

@@ -1,7 +1,7 @@
 use Rattle.std.proofs.Common.{◌≡◌, ◌≤◌, ℕ, List, [], ◌∷◌, get_or, refl, sym, ◌∙◌, ap, subst, arith}
 use Rattle.mega_disk.specs.Images.{overwritten, Torn, Only}
 use Rattle.mega_disk.proofs.Leaves.{started, weaker_leaves, then_leaves}
-use Rattle.mega_journal.proofs.Outcomes.{both_ok}
+use Rattle.mega_disk.proofs.Outcomes.{both_ok}
 use Rattle.mega_areas.specs.Pages.{zero_bytes}
 use Rattle.mega_checkpoint.specs.Format.{list_of}
 use Rattle.mega_checkpoint.specs.Held.{IsIdle}

@@ -2,7 +2,7 @@ use Rattle.std.proofs.Common.{ℕ, ◌+◌, ◌<◌, List, length, get_or, sym, 
 use Rattle.std.proofs.lemmas.Result.{on_ok_weaker}
 use Rattle.mega_disk.specs.Images.{Only}
 use Rattle.mega_disk.proofs.Leaves.{weaker_leaves}
-use Rattle.mega_journal.proofs.Outcomes.{both_ok}
+use Rattle.mega_disk.proofs.Outcomes.{both_ok}
 use Rattle.mega_areas.specs.Pages.{chain_in, offset}
 use Rattle.mega_checkpoint.specs.Format.{list_of}
 use Rattle.mega_checkpoint.specs.Held.{HoldsAreas}

@@ -1,7 +1,7 @@
 use Rattle.std.proofs.Common.{ℕ, ◌<◌, sym, ◌∙◌, subst, arith}
 use Rattle.std.proofs.lemmas.Result.{on_ok_weaker}
 use Rattle.mega_disk.proofs.Leaves.{weaker_leaves}
-use Rattle.mega_journal.proofs.Outcomes.{both_ok}
+use Rattle.mega_disk.proofs.Outcomes.{both_ok}
 use Rattle.mega_areas.specs.declared.area.Area.{Area}
 use Rattle.mega_areas.specs.Pages.{offset}
 use Rattle.mega_areas.specs.Places.{Sets}

@@ -1,10 +1,11 @@
 use Rattle.std.proofs.Common.{◌≡◌, ◌∙◌, ◌++◌, List, [], ap, map, flat_map, append-nil, subst, sym, rules}
 use Rattle.std.specs.Vec.Iter.{into_iter_items, into_iter_len}
+use Rattle.std.proofs.lemmas.List.{nil_from_length}
 use Rattle.mega_base.specs.declared.names.GroupId.{GroupId}
 use Rattle.mega_rules.specs.Steps.{start_note}
 use Rattle.mega_replica.specs.Following.{progress_at}
 use Rattle.mega_step_parts.specs.Notes.{met_of}
-use Rattle.mega_step_parts.proofs.Left.{nothing_left, one_less}
+use Rattle.mega_rules.proofs.Left.{one_less}
 use Rattle.mega_core.proofs.Anew.{AppliedSo, applied_first, applied_last, applied_next, noted}
 use Rattle.mega_core.proofs.restarting.apply_all.Goals as goal
 
@@ -33,12 +34,12 @@ loop-group-preserved g c = record {
 
 pub returns-clause-follows : goal.returns-clause-follows
 returns-clause-follows g c = λ met stored tells follows.
-    let none : into_iter_items c.loop-group.group-iterator ≡ [] = nothing_left (into_iter_items c.loop-group.group-iterator) (sym c.loop-group.invariant.count ∙ c.in-None.ensures.steps.0) in
+    let none : into_iter_items c.loop-group.group-iterator ≡ [] = nil_from_length (into_iter_items c.loop-group.group-iterator) (sym c.loop-group.invariant.count ∙ c.in-None.ensures.steps.0) in
     let version = g.V.Versions.version c.loop-group.rows.rows in
     let progress = progress_at c.loop-group.rows.progress in
     applied_last version progress met (subst (AppliedSo version progress met) none (c.loop-group.invariant.all met stored tells follows))
 
 pub returns-clause-notes : goal.returns-clause-notes
 returns-clause-notes g c = λ met tells.
-    let none : into_iter_items c.loop-group.group-iterator ≡ [] = nothing_left (into_iter_items c.loop-group.group-iterator) (sym c.loop-group.invariant.count ∙ c.in-None.ensures.steps.0) in
+    let none : into_iter_items c.loop-group.group-iterator ≡ [] = nil_from_length (into_iter_items c.loop-group.group-iterator) (sym c.loop-group.invariant.count ∙ c.in-None.ensures.steps.0) in
     sym (append-nil (map met_of c.loop-group.notes)) ∙ (ap (λ (left : List GroupId). map met_of c.loop-group.notes ++ flat_map (start_note met) left) (sym none) ∙ c.loop-group.invariant.notes met tells)

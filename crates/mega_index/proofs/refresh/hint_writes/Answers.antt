@@ -1,8 +1,8 @@
 use Rattle.std.proofs.Common.{◌∙◌, ap, sym, take}
 use Rattle.std.proofs.lemmas.List.Folds.{list_all_more}
+use Rattle.std.proofs.lemmas.Bool.{and_from}
 use Rattle.mega_row_writes.specs.of_entry.declared.content.Write.{Write}
 use Rattle.mega_index.specs.Hints.{write_is_hinted}
-use Rattle.mega_index.proofs.Ordered.{true_both}
 use Rattle.mega_index.proofs.Kept.{writes_more}
 use Rattle.mega_index.proofs.refresh.hint_writes.Goals as goal
 
@@ -19,6 +19,6 @@ loop-write-preserved c =
       kept = λ e g k h. kept e g k (c.loop-write.invariant.kept e g k h);
       there =
           list_all_more (write_is_hinted s new g) writes i c.write-item.result c.loop-write-test.true
-          ∙ true_both _ _ (writes_more s old new g (take i writes) kept c.loop-write.invariant.there)
+          ∙ and_from _ _ (writes_more s old new g (take i writes) kept c.loop-write.invariant.there)
           (ap (λ (w : Write). write_is_hinted s new g w) (sym c.write-item.is) ∙ c.in_ok-hint_write.ensures.there);
     }

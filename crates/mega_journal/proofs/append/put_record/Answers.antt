@@ -4,7 +4,7 @@ use Rattle.mega_disk.specs.Images.{overwritten, Torn}
 use Rattle.mega_disk.specs.RecordLists.{IsBeforeOrAfter}
 use Rattle.mega_disk.proofs.Leaves.{weaker_leaves, then_leaves}
 use Rattle.mega_journal.specs.Chain.{records_of}
-use Rattle.mega_journal.proofs.Outcomes.{both_ok}
+use Rattle.mega_disk.proofs.Outcomes.{both_ok}
 use Rattle.mega_journal.proofs.Written.{torn_behind, torn_gate, at_rest_after}
 use Rattle.mega_journal.proofs.append.put_record.Goals as goal
 

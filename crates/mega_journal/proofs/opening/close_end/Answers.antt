@@ -2,7 +2,7 @@ use Rattle.std.proofs.Common.{List, ℕ, sym, ◌∙◌, ap}
 use Rattle.std.proofs.lemmas.Result.{on_ok_weaker}
 use Rattle.mega_disk.proofs.Leaves.{weaker_leaves}
 use Rattle.mega_journal.specs.Rest.{is_shut}
-use Rattle.mega_journal.proofs.Outcomes.{both_ok}
+use Rattle.mega_disk.proofs.Outcomes.{both_ok}
 use Rattle.mega_journal.proofs.Repaired.{closed_end, torn_end, when_open}
 use Rattle.mega_journal.proofs.opening.close_end.Goals as goal
 

@@ -1,5 +1,6 @@
 use Rattle.std.proofs.Common.{◌≡◌, ◌∙◌, ◌++◌, [], List, ap, append-nil, append_assoc, refl, rules, sym}
 use Rattle.std.specs.Vec.Iter.{into_iter_items, into_iter_len}
+use Rattle.std.proofs.lemmas.List.{nil_from_length}
 use Rattle.mega_base.specs.declared.names.GroupId.{GroupId}
 use Rattle.mega_outcome.specs.declared.answer.Mark.{Mark}
 use Rattle.mega_rules.specs.Finding.{mark_at}
@@ -8,7 +9,7 @@ use Rattle.mega_rules.specs.Steps.{applied_at}
 use Rattle.mega_voter.specs.Journal.{journal_of}
 use Rattle.mega_node_laws.proofs.Logs.{log_is}
 use Rattle.mega_marks.proofs.Applied.{all_applied, mark_applied, marks_applied}
-use Rattle.mega_marks.proofs.Left.{nothing_left, one_less}
+use Rattle.mega_rules.proofs.Left.{one_less}
 use Rattle.mega_marks.proofs.moving.applied_marks.Goals as goal
 
 pub loop-group-init : goal.loop-group-init
@@ -33,7 +34,7 @@ loop-group-preserved g c = record {
 
 pub returns : goal.returns
 returns g c now tells follows =
-    let none : into_iter_items c.loop-group.group-iterator ≡ [] = nothing_left (into_iter_items c.loop-group.group-iterator) (sym c.loop-group.invariant.count ∙ c.in-None.ensures.steps.0) in
+    let none : into_iter_items c.loop-group.group-iterator ≡ [] = nil_from_length (into_iter_items c.loop-group.group-iterator) (sym c.loop-group.invariant.count ∙ c.in-None.ensures.steps.0) in
     sym (append-nil c.loop-group.marks)
     ∙ ap (λ (left : List GroupId). c.loop-group.marks ++ marks_applied now left) (sym none)
     ∙ c.loop-group.invariant.marked now tells follows

@@ -1,4 +1,4 @@
-use Rattle.std.proofs.Common.{◌≡◌, OnOk, Option, rules, subst, sym, true}
+use Rattle.std.proofs.Common.{◌≡◌, OnOk, Option, refl, rules, subst, sym, true}
 use Rattle.mega_handler.specs.Named.{Meanings}
 use Rattle.mega_outcome.specs.declared.answer.Answer.{Answer}
 use Rattle.mega_rules.specs.Operations.{Now}
@@ -9,8 +9,13 @@ use Rattle.mega_node_events.specs.Beginning.{marks_unless}
 use Rattle.mega_node_events.proofs.Failing.{used_apart}
 use Rattle.mega_node_events.proofs.beginning.unless_refused.Goals as goal
 
-pub returns-in_err-does-in-Some-clause-used : goal.returns-in_err-does-in-Some-clause-used
-returns-in_err-does-in-Some-clause-used g c = used_apart g.V.Versions (failed_by c.from_residual.result) c.args.replica.now.rows.rows (search rules)
+pub returns-in_err-does-in-Some-clause-leaves : goal.returns-in_err-does-in-Some-clause-leaves
+returns-in_err-does-in-Some-clause-leaves g c = record {
+  members = refl;
+  me = refl;
+  voter = refl;
+  used = used_apart g.V.Versions (failed_by c.from_residual.result) c.args.replica.now.rows.rows (search rules);
+}
 
 pub returns-in-None-clause-indexed : goal.returns-in-None-clause-indexed
 returns-in-None-clause-indexed g c =

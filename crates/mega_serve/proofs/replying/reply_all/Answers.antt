@@ -1,9 +1,11 @@
 use Rattle.std.proofs.Common.{◌≡◌, ◌∷◌, ◌++◌, ◌∙◌, [], List, ap, append-nil, map, refl, rules, subst, sym}
 use Rattle.std.specs.Vec.Iter.{into_iter_items, into_iter_len}
+use Rattle.std.proofs.lemmas.List.{nil_from_length}
 use Rattle.mega_page.specs.Pages.{IsPage}
 use Rattle.mega_serve.specs.declared.replying.Reply.{Reply}
 use Rattle.mega_serve.specs.Replies.{put_reply}
-use Rattle.mega_serve.proofs.Gathered.{next_on, nothing_left, one_less}
+use Rattle.mega_serve.proofs.Gathered.{next_on}
+use Rattle.mega_rules.proofs.Left.{one_less}
 use Rattle.mega_serve.proofs.replying.reply_all.Goals as goal
 
 pub loop-one-init : goal.loop-one-init
@@ -25,7 +27,7 @@ pub returns : goal.returns
 returns c = λ schema lines page.
     let so_far = c.loop-one.invariant.given schema lines page in
     let put = put_reply c.args.me in
-    let none : into_iter_items c.loop-one.one-iterator ≡ [] = nothing_left (into_iter_items c.loop-one.one-iterator) (sym c.loop-one.invariant.count ∙ c.in-None.ensures.steps.0) in
+    let none : into_iter_items c.loop-one.one-iterator ≡ [] = nil_from_length (into_iter_items c.loop-one.one-iterator) (sym c.loop-one.invariant.count ∙ c.in-None.ensures.steps.0) in
     subst (IsPage schema c.loop-one.page)
     (sym (append-nil so_far.0) ∙ ap (λ (left : List Reply). so_far.0 ++ map put left) (sym none) ∙ so_far.1.0 ∙ ap (λ (all : List Reply). lines ++ map put all) c.into_iter-one-iterator.ensures.into_iter_gives.0)
     so_far.1.1

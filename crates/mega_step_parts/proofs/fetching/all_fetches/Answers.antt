@@ -1,9 +1,10 @@
 use Rattle.std.proofs.Common.{◌≡◌, ◌∙◌, ◌++◌, [], List, ap, sym, flat_map, append_assoc, append-nil, rules}
 use Rattle.std.specs.Vec.Iter.{into_iter_items, into_iter_len}
+use Rattle.std.proofs.lemmas.List.{nil_from_length}
 use Rattle.mega_base.specs.declared.names.GroupId.{GroupId}
 use Rattle.mega_wire.specs.declared.message.Message.{Message}
 use Rattle.mega_rules.specs.Steps.{fetches_for}
-use Rattle.mega_step_parts.proofs.Left.{nothing_left, one_less}
+use Rattle.mega_rules.proofs.Left.{one_less}
 use Rattle.mega_step_parts.proofs.fetching.all_fetches.Goals as goal
 
 pub loop-group-init : goal.loop-group-init
@@ -28,7 +29,7 @@ loop-group-preserved g c = record {
 
 pub returns : goal.returns
 returns g c = λ s met cluster me tells.
-    let none : into_iter_items c.loop-group.group-iterator ≡ [] = nothing_left (into_iter_items c.loop-group.group-iterator) (sym c.loop-group.invariant.count ∙ c.in-None.ensures.steps.0) in
+    let none : into_iter_items c.loop-group.group-iterator ≡ [] = nil_from_length (into_iter_items c.loop-group.group-iterator) (sym c.loop-group.invariant.count ∙ c.in-None.ensures.steps.0) in
     sym (append-nil c.loop-group.sends)
     ∙ (ap (λ (groups : List GroupId). c.loop-group.sends ++ flat_map (fetches_for s met) groups) (sym none)
     ∙ c.loop-group.invariant.all s met cluster me tells)

@@ -1,11 +1,12 @@
 use Rattle.std.proofs.Common.{◌≡◌, ◌∙◌, ℕ, true, false, [], None, ap, subst, sym, rules}
 use Rattle.std.specs.Vec.Iter.{into_iter_items, into_iter_len}
+use Rattle.std.proofs.lemmas.List.{nil_from_length}
 use Rattle.mega_base.specs.declared.names.GroupId.{GroupId}
 use Rattle.mega_rules.specs.Logs.{log_of}
 use Rattle.mega_replica.specs.Following.{Follows, progress_at}
 use Rattle.mega_replica.proofs.Using.{used_here, used_then}
 use Rattle.mega_step_parts.specs.Touching.{behind}
-use Rattle.mega_step_parts.proofs.Left.{nothing_left, one_less}
+use Rattle.mega_rules.proofs.Left.{one_less}
 use Rattle.mega_step_parts.proofs.Portions.{StoredSo, portion_bare, portion_is, stored_first, stored_next}
 use Rattle.mega_step_parts.proofs.storing.store_portions.Goals as goal
 
@@ -41,7 +42,7 @@ returns-then-not-keeps-clause-follows g c = λ s met stored rows bare apply grou
 pub returns-clause-follows : goal.returns-clause-follows
 returns-clause-follows g c = λ s met stored rows bare apply groups_are tells follows.
     let there : c.args.keeps ≡ true = c.if-not-keeps.false in
-    let none : into_iter_items c.loop-group.group-iterator ≡ [] = nothing_left (into_iter_items c.loop-group.group-iterator) (sym c.loop-group.invariant.count ∙ c.in-None.ensures.steps.0) in
+    let none : into_iter_items c.loop-group.group-iterator ≡ [] = nil_from_length (into_iter_items c.loop-group.group-iterator) (sym c.loop-group.invariant.count ∙ c.in-None.ensures.steps.0) in
     let new = c.loop-group.rows in
     let version = g.V.Versions.version new.rows in
     let progress = progress_at new.progress in

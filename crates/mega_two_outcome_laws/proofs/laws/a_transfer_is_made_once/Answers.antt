@@ -50,9 +50,6 @@ returns-clause-whole c = refl
 none_table : (t : Table) → ◌≡◌ {A = Option Table} None (Some t) → ⊥
 none_table t e = cc
 
-no_root : (t : Table) → false ≡ true → ⊥
-no_root t e = cc
-
 its_root : (n : ℕ) (t u : Table) → ◌≡◌ {A = Option Table} (Some u) (Some t) → u.root ≡ n → t.root ≡ n
 its_root n t u e is = let same : u ≡ t = cc in subst (λ (x : Table). x.root ≡ n) same is
 

@@ -1,8 +1,8 @@
 use Rattle.std.proofs.Common.{◌≡◌, ◌∙◌, ◌-◌, ◌+◌, None, ap, arith, rules, sym}
 use Rattle.mega_meanings.proofs.Lasting.{means_still}
 use Rattle.mega_rules.specs.Acting.{acts_within, keeps}
-use Rattle.mega_replica.proofs.Using.{used_then}
 use Rattle.mega_answers.specs.of_step_work.Settings.{setting}
+use Rattle.mega_actions.proofs.Leaving.{leaves_here, leaves_then}
 use Rattle.mega_actions.proofs.Turned.{no_turn, one_turn}
 use Rattle.mega_actions.proofs.replica.Replica.acts_within.Goals as goal
 
@@ -15,12 +15,7 @@ loop-turn-init g c = record {
     about = about;
     rule_is = ap (λ n. acts_within n (setting c.args.self.now.members c.args.self.now.me h) now c.args.operation) (let e : c.args.most ≡ c.args.most - 0 = omega arith in e);
   };
-  handlers = search rules;
-  members = search rules;
-  me = search rules;
-  voter = search rules;
-  indexed = search rules;
-  used = search rules;
+  leaves = leaves_here g.V.Versions (g.H.QueueHandlers.meant c.args.handlers.now) c.args.self.now;
   asked = search rules;
 }
 
@@ -29,26 +24,22 @@ loop-turn-preserved g c =
     let loop = c.loop-turn in
     let before = c.args.self.now in
     let new = c.acts_once.new.self in
+    let meant = g.H.QueueHandlers.meant in
     record {
       goes = λ h now told means about at.
           let s = setting before.members before.me h in
           let so = loop.invariant.goes h now told means about at in
-          let inner = (rw c.in-Ok-Some.field-0-is at c.in-Ok-Some.ensures.acted) h so.after told (means_still _ _ h loop.invariant.handlers means) so.about so.stands in
+          let inner = (rw c.in-Ok-Some.field-0-is at c.in-Ok-Some.ensures.acted) h so.after told (means_still _ _ h loop.invariant.leaves.handlers means) so.about so.stands in
           record {
             after = inner.after;
             stands = inner.stands;
             work = λ was. inner.work (so.work was);
             about = inner.about;
             rule_is =
-                one_turn s (setting loop.self.members loop.self.me h) now so.after c.args.operation loop.next c.args.most loop._turn c.loop-turn-test.true (λ i. setting (sym loop.invariant.members i) (sym loop.invariant.me i) h) so.rule_is
+                one_turn s (setting loop.self.members loop.self.me h) now so.after c.args.operation loop.next c.args.most loop._turn c.loop-turn-test.true (λ i. setting (sym loop.invariant.leaves.members i) (sym loop.invariant.leaves.me i) h) so.rule_is
                 ∙ inner.rule_is (acts_within (c.args.most - (loop._turn + 1)) s);
           };
-      handlers = c.acts_once.ensures.handlers ∙ loop.invariant.handlers;
-      members = c.acts_once.ensures.members ∙ loop.invariant.members;
-      me = c.acts_once.ensures.me ∙ loop.invariant.me;
-      voter = c.acts_once.ensures.voter ∙ loop.invariant.voter;
-      indexed = c.acts_once.ensures.indexed ∙ loop.invariant.indexed;
-      used = used_then g.V.Versions None before.rows.rows loop.self.rows.rows new.rows.rows loop.invariant.used c.in-Ok-Some.ensures.used;
+      leaves = leaves_then g.V.Versions None (meant c.args.handlers.now) (meant loop.handlers) (meant c.acts_once.new.handlers) before loop.self new loop.invariant.leaves c.in-Ok-Some.ensures.leaves;
       asked = (rw c.in-Ok-Some.field-0-is at c.in-Ok-Some.ensures.asked) ∙ loop.invariant.asked;
     }
 
@@ -58,24 +49,30 @@ returns-in-Ok-None-clause-acted g c h now told means about at =
     let before = c.args.self.now in
     let s = setting before.members before.me h in
     let so = loop.invariant.goes h now told means about at in
-    let inner = (rw c.in-Ok-None.field-0-is at c.in-Ok-None.ensures.acted) h so.after told (means_still _ _ h loop.invariant.handlers means) so.about so.stands in
+    let inner = (rw c.in-Ok-None.field-0-is at c.in-Ok-None.ensures.acted) h so.after told (means_still _ _ h loop.invariant.leaves.handlers means) so.about so.stands in
     record {
       after = inner.after;
       stands = inner.stands;
       work = λ was. inner.work (so.work was);
       about = tt;
       rule_is = λ again.
-          one_turn s (setting loop.self.members loop.self.me h) now so.after c.args.operation loop.next c.args.most loop._turn c.loop-turn-test.true (λ i. setting (sym loop.invariant.members i) (sym loop.invariant.me i) h) so.rule_is
+          one_turn s (setting loop.self.members loop.self.me h) now so.after c.args.operation loop.next c.args.most loop._turn c.loop-turn-test.true (λ i. setting (sym loop.invariant.leaves.members i) (sym loop.invariant.leaves.me i) h) so.rule_is
           ∙ inner.rule_is (acts_within (c.args.most - (loop._turn + 1)) s);
     }
 
-pub returns-in-Ok-None-clause-used : goal.returns-in-Ok-None-clause-used
-returns-in-Ok-None-clause-used g c =
-    used_then g.V.Versions None c.args.self.now.rows.rows c.loop-turn.self.rows.rows c.acts_once.new.self.rows.rows c.loop-turn.invariant.used c.in-Ok-None.ensures.used
+pub returns-in-Ok-None-clause-leaves : goal.returns-in-Ok-None-clause-leaves
+returns-in-Ok-None-clause-leaves g c =
+    let loop = c.loop-turn in
+    let new = c.acts_once.new in
+    let meant = g.H.QueueHandlers.meant in
+    leaves_then g.V.Versions None (meant c.args.handlers.now) (meant loop.handlers) (meant new.handlers) c.args.self.now loop.self new.self loop.invariant.leaves c.in-Ok-None.ensures.leaves
 
-pub returns-in-Err-clause-used : goal.returns-in-Err-clause-used
-returns-in-Err-clause-used g c =
-    used_then g.V.Versions _ c.args.self.now.rows.rows c.loop-turn.self.rows.rows c.acts_once.new.self.rows.rows c.loop-turn.invariant.used c.in-Err.ensures.used
+pub returns-in-Err-clause-leaves : goal.returns-in-Err-clause-leaves
+returns-in-Err-clause-leaves g c =
+    let loop = c.loop-turn in
+    let new = c.acts_once.new in
+    let meant = g.H.QueueHandlers.meant in
+    leaves_then g.V.Versions _ (meant c.args.handlers.now) (meant loop.handlers) (meant new.handlers) c.args.self.now loop.self new.self loop.invariant.leaves c.in-Err.ensures.leaves
 
 pub returns-clause-acted : goal.returns-clause-acted
 returns-clause-acted g c h now told means about at =

@@ -6,8 +6,8 @@ use Rattle.mega_meanings.specs.Means.{Means}
 use Rattle.mega_answers.specs.of_node_laws.About.{IsAbout}
 use Rattle.mega_rules.specs.Operations.{Now}
 use Rattle.mega_rules.specs.Steps.{ticked}
-use Rattle.mega_replica.specs.Used.{StoreUsed}
 use Rattle.mega_actions.specs.IsAt.{IsAt, setting_of}
+use Rattle.mega_actions.specs.Leaves.{Leaves}
 use Rattle.mega_actions.specs.Turns.{IsServable}
 use Rattle.mega_answers.specs.of_step_work.Working.{work_of}
 use Rattle.mega_actions.proofs.replica.Replica.all_ticked.Given as goal
@@ -21,11 +21,6 @@ invariant-loop-operation g l = record {
   work : (h : Meanings) (now : Now) → g.V.Versions.is_told ≡ true → Means (g.H.QueueHandlers.meant l.initial.handlers) h → All IsAbout l.yielded
       → IsAt g.V.Versions.version h l.initial.self now.met now.stored
       → l.initial.work ≡ work_of now → l.work ≡ work_of (fold (ticked (setting_of l.initial.self h) l.fn.clock) now l.yielded);
-  handlers : g.H.QueueHandlers.meant l.handlers ≡ g.H.QueueHandlers.meant l.initial.handlers;
-  members : l.self.members ≡ l.initial.self.members;
-  me : l.self.me ≡ l.initial.self.me;
-  voter : l.self.voter ≡ l.initial.self.voter;
-  indexed : l.self.indexed ≡ l.initial.self.indexed;
-  used : StoreUsed g.V.Versions None l.initial.self.rows.rows l.self.rows.rows;
+  leaves : Leaves g.V.Versions None (g.H.QueueHandlers.meant l.initial.handlers) (g.H.QueueHandlers.meant l.handlers) l.initial.self l.self;
   built : All IsServable l.fn.operations → All IsServable (into_iter_items l.operation-iterator);
 }

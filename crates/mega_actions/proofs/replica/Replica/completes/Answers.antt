@@ -1,10 +1,10 @@
 use Rattle.std.proofs.Common.{None, rules}
 use Rattle.mega_rules.specs.Acting.{completes_read}
 use Rattle.mega_answers.proofs.of_node_laws.Completed.{completed_applied}
-use Rattle.mega_replica.specs.Used.{StoreUsed}
-use Rattle.mega_replica.proofs.Using.{used_then}
 use Rattle.mega_answers.specs.Faults.{failed_by}
 use Rattle.mega_answers.specs.of_step_work.Settings.{setting}
+use Rattle.mega_actions.specs.Leaves.{Leaves}
+use Rattle.mega_actions.proofs.Leaving.{leaves_after}
 use Rattle.mega_actions.proofs.replica.Replica.completes.Goals as goal
 
 pub returns-clause-acted : goal.returns-clause-acted
@@ -23,13 +23,15 @@ returns-clause-acted g c h now told means of le at =
       rule_is = goes.rule_is;
     }
 
-pub returns-in_err-next-clause-used : goal.returns-in_err-next-clause-used
-returns-in_err-next-clause-used g c =
-    let before = c.args.self.now.rows.rows in
-    let mid = c.reads_through.new.rows.rows in
-    let new = c.goes_by.new.self.rows.rows in
-    let rest : StoreUsed g.V.Versions (failed_by c.from_residual.result) mid new = search rules in
-    used_then g.V.Versions (failed_by c.from_residual.result) before mid new c.in-Ok.ensures.used rest
+pub returns-in_err-next-clause-leaves : goal.returns-in_err-next-clause-leaves
+returns-in_err-next-clause-leaves g c =
+    let before = c.args.self.now in
+    let new = c.goes_by.new in
+    let meant = g.H.QueueHandlers.meant in
+    let rest : Leaves g.V.Versions (failed_by c.from_residual.result) (meant c.args.handlers.now) (meant new.handlers) (record before { leases = c.reads_through.new.leases; rows = c.reads_through.new.rows }) new.self = search rules in
+    leaves_after g.V.Versions (failed_by c.from_residual.result) (meant c.args.handlers.now) (meant new.handlers) before c.reads_through.new.leases c.reads_through.new.rows new.self c.in-Ok.ensures.used rest
 
-pub returns-clause-used : goal.returns-clause-used
-returns-clause-used g c = used_then g.V.Versions None c.args.self.now.rows.rows c.reads_through.new.rows.rows c.goes_by.new.self.rows.rows c.in-Ok.ensures.used c.in_ok-next.ensures.used
+pub returns-clause-leaves : goal.returns-clause-leaves
+returns-clause-leaves g c =
+    let meant = g.H.QueueHandlers.meant in
+    leaves_after g.V.Versions None (meant c.args.handlers.now) (meant c.goes_by.new.handlers) c.args.self.now c.reads_through.new.leases c.reads_through.new.rows c.goes_by.new.self c.in-Ok.ensures.used c.in_ok-next.ensures.leaves

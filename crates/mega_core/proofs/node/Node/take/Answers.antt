@@ -56,12 +56,12 @@ returns-clause-notes g c = λ told h node means stands owned placed.
     let t1 = setting r1.members r1.me h in
     let t2 = setting r2.members r2.me h in
     let t1_is : t1 ≡ s = (λ i. setting (c.in_ok-taken.ensures.members i) (c.in_ok-taken.ensures.me i) h) in
-    let t2_is : t2 ≡ t1 = (λ i. setting (c.in_ok-work.ensures.members i) (c.in_ok-work.ensures.me i) h) in
+    let t2_is : t2 ≡ t1 = (λ i. setting (c.in_ok-work.ensures.leaves.members i) (c.in_ok-work.ensures.leaves.me i) h) in
     let about = heard_are_about s node m r0.voter.logs.kept r0.leases version progress own_open begun heard represents taken.heard in
     let base = acted_on s node (Take m) in
     let stored = stored_after s base node.stored (decision_in s node m) in
     let acted = take_acts s node m t1 t2 r0.voter.logs.kept r1.voter.logs.kept r2.voter.logs.kept r0.leases r2.leases version (g.V.Versions.version r2.rows.rows) progress (progress_at r2.rows.progress) own_open begun
-    c.in_ok-work.work heard represents taken.heard t1_is t2_is (λ i. (c.in_ok-work.ensures.voter i).logs.kept) (c.in_ok-work.ensures.indexed ∙ c.in_ok-taken.ensures.indexed) taken.stands.stands.tells
+    c.in_ok-work.work heard represents taken.heard t1_is t2_is (λ i. (c.in_ok-work.ensures.leaves.voter i).logs.kept) (c.in_ok-work.ensures.leaves.indexed ∙ c.in_ok-taken.ensures.indexed) taken.stands.stands.tells
     (c.in_ok-work.ensures.state told h base stored means about taken.stands) (c.in_ok-work.ensures.work told h base stored means about taken.stands) in
     let is = take_is s node m t2 c.in_ok-taken.taken.sends c.new-2.result (t2_is ∙ t1_is) taken.sends c.new-2.ensures in
     let keeps = represents_keeps s r0.voter.logs.kept r0.leases version progress own_open begun node represents in
@@ -92,12 +92,12 @@ returns-clause-sends g c = λ told h node means stands owned placed.
     let t1 = setting r1.members r1.me h in
     let t2 = setting r2.members r2.me h in
     let t1_is : t1 ≡ s = (λ i. setting (c.in_ok-taken.ensures.members i) (c.in_ok-taken.ensures.me i) h) in
-    let t2_is : t2 ≡ t1 = (λ i. setting (c.in_ok-work.ensures.members i) (c.in_ok-work.ensures.me i) h) in
+    let t2_is : t2 ≡ t1 = (λ i. setting (c.in_ok-work.ensures.leaves.members i) (c.in_ok-work.ensures.leaves.me i) h) in
     let about = heard_are_about s node m r0.voter.logs.kept r0.leases version progress own_open begun heard represents taken.heard in
     let base = acted_on s node (Take m) in
     let stored = stored_after s base node.stored (decision_in s node m) in
     let acted = take_acts s node m t1 t2 r0.voter.logs.kept r1.voter.logs.kept r2.voter.logs.kept r0.leases r2.leases version (g.V.Versions.version r2.rows.rows) progress (progress_at r2.rows.progress) own_open begun
-    c.in_ok-work.work heard represents taken.heard t1_is t2_is (λ i. (c.in_ok-work.ensures.voter i).logs.kept) (c.in_ok-work.ensures.indexed ∙ c.in_ok-taken.ensures.indexed) taken.stands.stands.tells
+    c.in_ok-work.work heard represents taken.heard t1_is t2_is (λ i. (c.in_ok-work.ensures.leaves.voter i).logs.kept) (c.in_ok-work.ensures.leaves.indexed ∙ c.in_ok-taken.ensures.indexed) taken.stands.stands.tells
     (c.in_ok-work.ensures.state told h base stored means about taken.stands) (c.in_ok-work.ensures.work told h base stored means about taken.stands) in
     let is = take_is s node m t2 c.in_ok-taken.taken.sends c.new-2.result (t2_is ∙ t1_is) taken.sends c.new-2.ensures in
     let keeps = represents_keeps s r0.voter.logs.kept r0.leases version progress own_open begun node represents in
@@ -128,12 +128,12 @@ returns-clause-state g c = λ told h node means stands owned placed.
     let t1 = setting r1.members r1.me h in
     let t2 = setting r2.members r2.me h in
     let t1_is : t1 ≡ s = (λ i. setting (c.in_ok-taken.ensures.members i) (c.in_ok-taken.ensures.me i) h) in
-    let t2_is : t2 ≡ t1 = (λ i. setting (c.in_ok-work.ensures.members i) (c.in_ok-work.ensures.me i) h) in
+    let t2_is : t2 ≡ t1 = (λ i. setting (c.in_ok-work.ensures.leaves.members i) (c.in_ok-work.ensures.leaves.me i) h) in
     let about = heard_are_about s node m r0.voter.logs.kept r0.leases version progress own_open begun heard represents taken.heard in
     let base = acted_on s node (Take m) in
     let stored = stored_after s base node.stored (decision_in s node m) in
     let acted = take_acts s node m t1 t2 r0.voter.logs.kept r1.voter.logs.kept r2.voter.logs.kept r0.leases r2.leases version (g.V.Versions.version r2.rows.rows) progress (progress_at r2.rows.progress) own_open begun
-    c.in_ok-work.work heard represents taken.heard t1_is t2_is (λ i. (c.in_ok-work.ensures.voter i).logs.kept) (c.in_ok-work.ensures.indexed ∙ c.in_ok-taken.ensures.indexed) taken.stands.stands.tells
+    c.in_ok-work.work heard represents taken.heard t1_is t2_is (λ i. (c.in_ok-work.ensures.leaves.voter i).logs.kept) (c.in_ok-work.ensures.leaves.indexed ∙ c.in_ok-taken.ensures.indexed) taken.stands.stands.tells
     (c.in_ok-work.ensures.state told h base stored means about taken.stands) (c.in_ok-work.ensures.work told h base stored means about taken.stands) in
     let is = take_is s node m t2 c.in_ok-taken.taken.sends c.new-2.result (t2_is ∙ t1_is) taken.sends c.new-2.ensures in
     let keeps = represents_keeps s r0.voter.logs.kept r0.leases version progress own_open begun node represents in
@@ -171,14 +171,14 @@ returns-clause-staged g c = λ told h node means stands owned placed since stage
     let t1 = setting r1.members r1.me h in
     let t2 = setting r2.members r2.me h in
     let t1_is : t1 ≡ s = (λ i. setting (c.in_ok-taken.ensures.members i) (c.in_ok-taken.ensures.me i) h) in
-    let t2_is : t2 ≡ t1 = (λ i. setting (c.in_ok-work.ensures.members i) (c.in_ok-work.ensures.me i) h) in
+    let t2_is : t2 ≡ t1 = (λ i. setting (c.in_ok-work.ensures.leaves.members i) (c.in_ok-work.ensures.leaves.me i) h) in
     let about = heard_are_about s node m r0.voter.logs.kept r0.leases version progress own_open begun heard represents taken.heard in
     let base = acted_on s node (Take m) in
     let stored = stored_after s base node.stored (decision_in s node m) in
     let acted = take_acts s node m t1 t2 r0.voter.logs.kept r1.voter.logs.kept r2.voter.logs.kept r0.leases r2.leases version (g.V.Versions.version r2.rows.rows) progress (progress_at r2.rows.progress) own_open begun
-    c.in_ok-work.work heard represents taken.heard t1_is t2_is (λ i. (c.in_ok-work.ensures.voter i).logs.kept) (c.in_ok-work.ensures.indexed ∙ c.in_ok-taken.ensures.indexed) taken.stands.stands.tells
+    c.in_ok-work.work heard represents taken.heard t1_is t2_is (λ i. (c.in_ok-work.ensures.leaves.voter i).logs.kept) (c.in_ok-work.ensures.leaves.indexed ∙ c.in_ok-taken.ensures.indexed) taken.stands.stands.tells
     (c.in_ok-work.ensures.state told h base stored means about taken.stands) (c.in_ok-work.ensures.work told h base stored means about taken.stands) in
     let is = take_is s node m t2 c.in_ok-taken.taken.sends c.new-2.result (t2_is ∙ t1_is) taken.sends c.new-2.ensures in
-    let mid = coe 1 0 (i. Stages (c.in_ok-work.ensures.voter i).logs.staged.items since base) (c.in_ok-taken.ensures.staged h node own_open begun since represents heard_is stages) in
+    let mid = coe 1 0 (i. Stages (c.in_ok-work.ensures.leaves.voter i).logs.staged.items since base) (c.in_ok-taken.ensures.staged h node own_open begun since represents heard_is stages) in
     let after = c.in_ok-step.ensures.staged h node (Takes m) (told_notes s node.met m.from m.body) (decision_note (decision_in s node m)) (has_taken s node m) since acted (take_may s node m _ is) mid in
     subst (λ (step : RuleStep). Stages c.ends.new.self.replica.voter.logs.staged.items since step.node.met) is after

@@ -54,13 +54,13 @@ returns-clause-notes g c = λ told h node means stands owned placed.
     let t1 = setting r1.members r1.me h in
     let t2 = setting r2.members r2.me h in
     let t1_is : t1 ≡ s = (λ i. setting (c.in_ok-made.ensures.members i) (c.in_ok-made.ensures.me i) h) in
-    let t2_is : t2 ≡ t1 = (λ i. setting (c.in_ok-work.ensures.members i) (c.in_ok-work.ensures.me i) h) in
+    let t2_is : t2 ≡ t1 = (λ i. setting (c.in_ok-work.ensures.leaves.members i) (c.in_ok-work.ensures.leaves.me i) h) in
     let operations = c.replace-opened.result in
     let about = subst (All IsAbout) (sym c.replace-opened.ensures.value) represents.about in
     let base = acted_on s node (Tick now) in
     let stored = portion_of s node.met node.stored in
     let acted = tick_acts s node now t1 t2 r0.voter.logs.kept r1.voter.logs.kept r2.voter.logs.kept r0.leases r2.leases version (g.V.Versions.version r2.rows.rows) progress (progress_at r2.rows.progress) own_open begun
-    c.in_ok-work.work operations represents (c.replace-opened.ensures.value ∙ sym represents.opened) t1_is t2_is (λ i. (c.in_ok-work.ensures.voter i).logs.kept) (c.in_ok-work.ensures.indexed ∙ c.in_ok-made.ensures.indexed) made1.begun made1.stands.stands.tells
+    c.in_ok-work.work operations represents (c.replace-opened.ensures.value ∙ sym represents.opened) t1_is t2_is (λ i. (c.in_ok-work.ensures.leaves.voter i).logs.kept) (c.in_ok-work.ensures.leaves.indexed ∙ c.in_ok-made.ensures.indexed) made1.begun made1.stands.stands.tells
     (c.in_ok-work.ensures.state told h base stored means about made1.stands) (c.in_ok-work.ensures.work told h base stored means about made1.stands) in
     let is = tick_is s node now t2 c.in_ok-made.made.opening c.in_ok-made.made.closing (t2_is ∙ t1_is) made1.opening made1.closing in
     let groups = behind true node.met node.stored in
@@ -89,13 +89,13 @@ returns-clause-sends g c = λ told h node means stands owned placed.
     let t1 = setting r1.members r1.me h in
     let t2 = setting r2.members r2.me h in
     let t1_is : t1 ≡ s = (λ i. setting (c.in_ok-made.ensures.members i) (c.in_ok-made.ensures.me i) h) in
-    let t2_is : t2 ≡ t1 = (λ i. setting (c.in_ok-work.ensures.members i) (c.in_ok-work.ensures.me i) h) in
+    let t2_is : t2 ≡ t1 = (λ i. setting (c.in_ok-work.ensures.leaves.members i) (c.in_ok-work.ensures.leaves.me i) h) in
     let operations = c.replace-opened.result in
     let about = subst (All IsAbout) (sym c.replace-opened.ensures.value) represents.about in
     let base = acted_on s node (Tick now) in
     let stored = portion_of s node.met node.stored in
     let acted = tick_acts s node now t1 t2 r0.voter.logs.kept r1.voter.logs.kept r2.voter.logs.kept r0.leases r2.leases version (g.V.Versions.version r2.rows.rows) progress (progress_at r2.rows.progress) own_open begun
-    c.in_ok-work.work operations represents (c.replace-opened.ensures.value ∙ sym represents.opened) t1_is t2_is (λ i. (c.in_ok-work.ensures.voter i).logs.kept) (c.in_ok-work.ensures.indexed ∙ c.in_ok-made.ensures.indexed) made1.begun made1.stands.stands.tells
+    c.in_ok-work.work operations represents (c.replace-opened.ensures.value ∙ sym represents.opened) t1_is t2_is (λ i. (c.in_ok-work.ensures.leaves.voter i).logs.kept) (c.in_ok-work.ensures.leaves.indexed ∙ c.in_ok-made.ensures.indexed) made1.begun made1.stands.stands.tells
     (c.in_ok-work.ensures.state told h base stored means about made1.stands) (c.in_ok-work.ensures.work told h base stored means about made1.stands) in
     let is = tick_is s node now t2 c.in_ok-made.made.opening c.in_ok-made.made.closing (t2_is ∙ t1_is) made1.opening made1.closing in
     let groups = behind true node.met node.stored in
@@ -124,13 +124,13 @@ returns-clause-state g c = λ told h node means stands owned placed.
     let t1 = setting r1.members r1.me h in
     let t2 = setting r2.members r2.me h in
     let t1_is : t1 ≡ s = (λ i. setting (c.in_ok-made.ensures.members i) (c.in_ok-made.ensures.me i) h) in
-    let t2_is : t2 ≡ t1 = (λ i. setting (c.in_ok-work.ensures.members i) (c.in_ok-work.ensures.me i) h) in
+    let t2_is : t2 ≡ t1 = (λ i. setting (c.in_ok-work.ensures.leaves.members i) (c.in_ok-work.ensures.leaves.me i) h) in
     let operations = c.replace-opened.result in
     let about = subst (All IsAbout) (sym c.replace-opened.ensures.value) represents.about in
     let base = acted_on s node (Tick now) in
     let stored = portion_of s node.met node.stored in
     let acted = tick_acts s node now t1 t2 r0.voter.logs.kept r1.voter.logs.kept r2.voter.logs.kept r0.leases r2.leases version (g.V.Versions.version r2.rows.rows) progress (progress_at r2.rows.progress) own_open begun
-    c.in_ok-work.work operations represents (c.replace-opened.ensures.value ∙ sym represents.opened) t1_is t2_is (λ i. (c.in_ok-work.ensures.voter i).logs.kept) (c.in_ok-work.ensures.indexed ∙ c.in_ok-made.ensures.indexed) made1.begun made1.stands.stands.tells
+    c.in_ok-work.work operations represents (c.replace-opened.ensures.value ∙ sym represents.opened) t1_is t2_is (λ i. (c.in_ok-work.ensures.leaves.voter i).logs.kept) (c.in_ok-work.ensures.leaves.indexed ∙ c.in_ok-made.ensures.indexed) made1.begun made1.stands.stands.tells
     (c.in_ok-work.ensures.state told h base stored means about made1.stands) (c.in_ok-work.ensures.work told h base stored means about made1.stands) in
     let is = tick_is s node now t2 c.in_ok-made.made.opening c.in_ok-made.made.closing (t2_is ∙ t1_is) made1.opening made1.closing in
     let groups = behind true node.met node.stored in
@@ -166,15 +166,15 @@ returns-clause-staged g c = λ told h node means stands owned placed since stage
     let t1 = setting r1.members r1.me h in
     let t2 = setting r2.members r2.me h in
     let t1_is : t1 ≡ s = (λ i. setting (c.in_ok-made.ensures.members i) (c.in_ok-made.ensures.me i) h) in
-    let t2_is : t2 ≡ t1 = (λ i. setting (c.in_ok-work.ensures.members i) (c.in_ok-work.ensures.me i) h) in
+    let t2_is : t2 ≡ t1 = (λ i. setting (c.in_ok-work.ensures.leaves.members i) (c.in_ok-work.ensures.leaves.me i) h) in
     let operations = c.replace-opened.result in
     let about = subst (All IsAbout) (sym c.replace-opened.ensures.value) represents.about in
     let base = acted_on s node (Tick now) in
     let stored = portion_of s node.met node.stored in
     let acted = tick_acts s node now t1 t2 r0.voter.logs.kept r1.voter.logs.kept r2.voter.logs.kept r0.leases r2.leases version (g.V.Versions.version r2.rows.rows) progress (progress_at r2.rows.progress) own_open begun
-    c.in_ok-work.work operations represents (c.replace-opened.ensures.value ∙ sym represents.opened) t1_is t2_is (λ i. (c.in_ok-work.ensures.voter i).logs.kept) (c.in_ok-work.ensures.indexed ∙ c.in_ok-made.ensures.indexed) made1.begun made1.stands.stands.tells
+    c.in_ok-work.work operations represents (c.replace-opened.ensures.value ∙ sym represents.opened) t1_is t2_is (λ i. (c.in_ok-work.ensures.leaves.voter i).logs.kept) (c.in_ok-work.ensures.leaves.indexed ∙ c.in_ok-made.ensures.indexed) made1.begun made1.stands.stands.tells
     (c.in_ok-work.ensures.state told h base stored means about made1.stands) (c.in_ok-work.ensures.work told h base stored means about made1.stands) in
     let is = tick_is s node now t2 c.in_ok-made.made.opening c.in_ok-made.made.closing (t2_is ∙ t1_is) made1.opening made1.closing in
-    let mid = coe 1 0 (i. Stages (c.in_ok-work.ensures.voter i).logs.staged.items since base) (c.in_ok-made.ensures.staged h node own_open begun since represents stages) in
+    let mid = coe 1 0 (i. Stages (c.in_ok-work.ensures.leaves.voter i).logs.staged.items since base) (c.in_ok-made.ensures.staged h node own_open begun since represents stages) in
     let after = c.in_ok-step.ensures.staged h node (Ticks now) (lease_notes s node.met now) (lapse_notes s node.met now) (has_ticked s node now) since acted (tick_may s node now _ is) mid in
     subst (λ (step : RuleStep). Stages c.ends.new.self.replica.voter.logs.staged.items since step.node.met) is after

@@ -7,7 +7,7 @@ use Rattle.mega_rules.specs.Logs.{groups_of, log_of, prefix_of}
 use Rattle.mega_voter.specs.Journal.{journal_of}
 use Rattle.mega_node_laws.proofs.Applied.{applied_within}
 use Rattle.mega_node_laws.proofs.Logs.{log_is}
-use Rattle.mega_queues.proofs.HaveEntries.{has}
+use Rattle.mega_rules.proofs.Groups.{has}
 use Rattle.mega_pumps.specs.Reach.{through_at}
 use Rattle.mega_pumps.specs.Notes.{Notes}
 use Rattle.mega_pumps.proofs.Caught.{all_noted, looked_at, within_still}

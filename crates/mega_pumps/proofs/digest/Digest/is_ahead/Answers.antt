@@ -4,7 +4,7 @@ use Rattle.mega_replica.specs.Applying.{applied}
 use Rattle.mega_rules.specs.Logs.{groups_of, log_of}
 use Rattle.mega_voter.specs.Journal.{journal_of}
 use Rattle.mega_node_laws.proofs.Logs.{log_is}
-use Rattle.mega_queues.proofs.HaveEntries.{has}
+use Rattle.mega_rules.proofs.Groups.{has}
 use Rattle.mega_pumps.specs.Reach.{through_at}
 use Rattle.mega_pumps.proofs.Fronts.{front_more}
 use Rattle.mega_pumps.proofs.Lasting.{none_ahead, none_ahead_more}

@@ -5,7 +5,7 @@ use Rattle.mega_replica.specs.Following.{Follows, progress_at}
 use Rattle.mega_rules.specs.Logs.{log_of}
 use Rattle.mega_rules.specs.Met.{Met}
 use Rattle.mega_voter.specs.Telling.{Tells}
-use Rattle.mega_queues.proofs.HaveEntries.{has}
+use Rattle.mega_rules.proofs.Groups.{has}
 use Rattle.mega_pumps.specs.Reach.{through_at}
 use Rattle.mega_pumps.proofs.digest.Digest.is_ahead.Given as goal
 

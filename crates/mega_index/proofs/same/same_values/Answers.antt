@@ -1,6 +1,0 @@
-use Rattle.std.specs.Bool.{one_answer}
-use Rattle.mega_index.proofs.SameLemmas.{same_values-Decides}
-use Rattle.mega_index.proofs.same.same_values.Goals as goal
-
-pub returns : goal.returns
-returns c = one_answer _ _ (c.same_as.ensures.0, c.same_as.ensures.1) (same_values-Decides c.args.mine.now c.args.others.now)

@@ -1,6 +1,0 @@
--- Facts about what a call returned.
-use Rattle.std.specs.Prelude.{Result, Ok, Err, OnOk}
-
-pub both_ok : {T E P Q R : Type 0} (r : Result T E) → (P → Q → R) → OnOk r P → OnOk r Q → OnOk r R
-both_ok (Ok x) f p q = f p q
-both_ok (Err e) f p q = tt

@@ -1,8 +1,0 @@
-use Rattle.std.proofs.Common.{◌≡◌, drop}
-use Rattle.mega_index.specs.Rows.{Rows, written}
-use Rattle.mega_outcome.specs.Answers.{seen}
-use Rattle.mega_outcome.proofs.changing.note.Given as goal
-
-abbrev pub invariant-loop-write : goal.invariant-loop-write
-invariant-loop-write l =
-    (rows : Rows) → written l.writes (seen l.initial.pending rows) ≡ written (drop l.write-index l.writes) (seen l.pending rows)

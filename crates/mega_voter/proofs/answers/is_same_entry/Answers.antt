@@ -1,5 +1,0 @@
-use Rattle.mega_wal.proofs.Sames.{same_entry_is}
-use Rattle.mega_voter.proofs.answers.is_same_entry.Goals as goal
-
-pub returns : goal.returns
-returns c = same_entry_is c.same_as.result c.args.entry.now c.args.other.now c.same_as.ensures
