@@ -2,6 +2,7 @@ pub mod Decoding
 pub mod Keeps
 pub mod Longer
 pub mod Loops
+pub mod Mapped
 pub mod Ordered
 pub mod Powers
 pub mod Rising
