@@ -1,3 +1,4 @@
+pub mod Climbs
 pub mod Decoding
 pub mod Keeps
 pub mod Longer
