@@ -1,45 +1,15 @@
 -- How calls on rows fare one after another.
-use Rattle.std.proofs.Common.{◌≡◌, ◌∙◌, ◌≤◌, subst, sym, inl, inr, ⊎_elim, refl, ℕ, arith}
+use Rattle.std.proofs.Common.{◌≡◌, ◌∙◌, subst, sym, arith}
 use Rattle.std.specs.Prelude.{Option, Some, None, true}
-use Rattle.mega_base.specs.Causes.{Rose}
-use Rattle.mega_disk.specs.Fuse.{Fuse, Untold, Unset, Left, MayBurn, Burns}
+use Rattle.mega_disk.specs.Fuse.{Fuse, MayBurn}
 use Rattle.mega_disk.specs.declared.versions.StoreError.{StoreError}
 use Rattle.mega_disk.specs.declared.versions.StoreError.TheVariants.{DiskFault, Full, BadRecord}
 use Rattle.mega_disk.specs.declared.versions.Versions.{Ghosts}
+use Rattle.mega_disk.proofs.Burning.{burn_here, burn_then, burns_then, rose_later}
 use Rattle.mega_disk.specs.Images.{LeavesOnly}
 use Rattle.mega_disk.specs.VersionMaps.{Stored}
 use Rattle.mega_replica.specs.Used.{NothingSpilled, StoreUsed}
 use Rattle.mega_replica.specs.Puts.{OnlyPuts}
-
-burn_here : (f : Fuse) → MayBurn f f
-burn_here Untold = refl
-burn_here Unset = refl
-burn_here (Left n) = inr (n, refl, omega arith)
-
-burn_then : (f g h : Fuse) → MayBurn f g → MayBurn g h → MayBurn f h
-burn_then Untold g h first second = subst (λ (m : Fuse). MayBurn m h) first second
-burn_then Unset g h first second = subst (λ (m : Fuse). MayBurn m h) first second
-burn_then (Left n) g h first second =
-    ⊎_elim
-    (λ gone. inl (let P : Fuse → Type 0 = λ m. MayBurn m h in subst P gone second))
-    (λ left.
-    let P : Fuse → Type 0 = λ m. MayBurn m h in
-    ⊎_elim (λ gone. inl gone) (λ less. inr (less.0, less.1, omega (arith, less.2, left.2))) (subst P left.1 second))
-    first
-
-burns_then : (f g h : Fuse) → MayBurn f g → Burns g h → Burns f h
-burns_then Untold g h first burns = absurd (untold (sym first ∙ burns.was_set.1))
-  where
-    untold : Untold ≡ Left burns.was_set.0 → ⊥
-    untold e = cc
-burns_then Unset g h first burns = absurd (unset (sym first ∙ burns.was_set.1))
-  where
-    unset : Unset ≡ Left burns.was_set.0 → ⊥
-    unset e = cc
-burns_then (Left n) g h first burns = record { was_set = (n, refl); gone = burns.gone }
-
-rose_later : (a b c : ℕ) → a ≤ b → Rose b c → Rose a c
-rose_later a b c le rose = omega (arith, le, rose)
 
 -- nothing was spilled
 unspilled_here : {V : Type 0} (store : Ghosts V) (x : V) → NothingSpilled store x x
