@@ -2,6 +2,7 @@
 use Rattle.std.proofs.Common.{◌≡◌, ◌⊎◌, inl, inr, ℕ, zero, suc, ◌+◌, ◌≤◌, ◌<◌, nat_le, nat_lt, Bool, true, false, cond, List, [], ◌∷◌, ◌++◌, take, length, Option, Some, None, Result, Ok, Err, refl, sym, ap, ◌∙◌, subst, arith}
 use Rattle.std.proofs.lemmas.Bool.Decides.{nat_tests}
 use Rattle.std.specs.List.{list_any}
+use Rattle.std.specs.Result.{is_ok}
 use Rattle.mega_base.specs.declared.names.Epoch.{Epoch}
 use Rattle.mega_base.specs.declared.names.GroupId.{GroupId}
 use Rattle.mega_base.specs.declared.names.OpId.{OpId}
@@ -39,7 +40,7 @@ use Rattle.mega_cause_laws.specs.of_run_laws.of_tape_laws.of_promises.of_rules.L
 use Rattle.mega_cause_laws.specs.of_run_laws.of_tape_laws.of_promises.of_rules.Met.{Met, Answers, Validates}
 use Rattle.mega_cause_laws.specs.of_run_laws.of_tape_laws.of_promises.of_rules.Queues.{Posted, enter_entry, is_named, names_entered, next_to_enter, next_to_handle, oldest_unhandled}
 use Rattle.mega_cause_laws.specs.of_run_laws.of_tape_laws.of_promises.of_rules.Operations.{Now, Operation, Phase, Promised, Proposes, Reads, Replies, Results, Setting}
-use Rattle.mega_cause_laws.specs.of_run_laws.of_tape_laws.of_promises.of_rules.Acting.{ActsAgain, Next, Rests, acts, applied_logs, applied_marks, begins_read, committed, completes_read, ends, enters, finishes, goes_on, handles, handling, in_phase, is_taken, keeps, leader_after, listed_at, picks_group, picks_message, picks_to_enter, picks_to_handle, proposes, proposes_by, read_answer, read_begun, reader_of, reads_on, rests_within, rows_answer, rows_at, sealed, sends_more, stored_with, table_rows, unless_decided, unless_full, validated_by, validates, verdict}
+use Rattle.mega_cause_laws.specs.of_run_laws.of_tape_laws.of_promises.of_rules.Acting.{ActsAgain, Next, Rests, acts, applied_logs, applied_marks, begins_read, committed, completes_read, ends, enters, finishes, goes_on, handles, handling, in_phase, keeps, leader_after, listed_at, picks_group, picks_message, picks_to_enter, picks_to_handle, proposes, proposes_by, read_answer, read_begun, reader_of, reads_on, rests_within, rows_answer, rows_at, sealed, sends_more, stored_with, table_rows, unless_decided, unless_full, validated_by, validates, verdict}
 use Rattle.mega_cause_laws.specs.of_run_laws.of_tape_laws.of_promises.of_rules.of_replica.Applying.{after_read, writes_of}
 use Rattle.mega_wal.specs.Same.{same_group, same_op, same_option}
 use Rattle.mega_wal.proofs.Sames.{same_group_equal, same_op_equal}
@@ -437,7 +438,7 @@ module _ (s : Setting) (base : List Met) (first : GroupId → ℕ) (Of : OpId �
         (sealed_it now (Txn transaction) group r p (outcome s.cluster.schema transaction (rows_at now group p)) t (λ turn. tt) (λ done. tt))
     finishes_by now (BatchRequest own transactions) group r p le t =
         unless_full_it now (BatchRequest own transactions) group r p _ t (full_met now (BatchRequest own transactions) group r p le t (λ is. ap Some t.sound))
-        (either id (list_any is_taken (batch_outcome s.cluster.schema own transactions (rows_at now group p)).results) _ _
+        (either id (list_any is_ok (batch_outcome s.cluster.schema own transactions (rows_at now group p)).results) _ _
         (proposes_it now (one (BatchRequest own transactions) (Reads group r)) group r p (entry_of_batch id (batch_outcome s.cluster.schema own transactions (rows_at now group p))) (Results (batch_outcome s.cluster.schema own transactions (rows_at now group p)).results) t refl tt)
         (ends_it now (one (BatchRequest own transactions) (Reads group r)) (AllTurned (batch_outcome s.cluster.schema own transactions (rows_at now group p)).results) t tt))
     finishes_by now (ReadRequested request) group r p le t =

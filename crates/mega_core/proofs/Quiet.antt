@@ -1,6 +1,7 @@
 -- Operations that act answer no refresh: what they answer leaves the marks that a find on a global index shows.
 use Rattle.std.proofs.Common.{◌≡◌, ℕ, zero, suc, ◌+◌, nat_le, Bool, true, false, cond, ◌&&◌, List, [], ◌∷◌, ◌++◌, flat_map, take, length, fold, Option, Some, None, Result, Ok, Err, refl, ap}
 use Rattle.std.specs.List.{list_all, list_any}
+use Rattle.std.specs.Result.{is_ok}
 use Rattle.mega_base.specs.declared.names.Epoch.{Epoch}
 use Rattle.mega_base.specs.declared.names.GroupId.{GroupId}
 use Rattle.mega_base.specs.declared.names.OpId.{OpId}
@@ -45,7 +46,7 @@ use Rattle.mega_rules.specs.Met.{Met, Answers}
 use Rattle.mega_rules.specs.Queues.{Posted, enter_entry, is_named, names_entered, next_to_enter, next_to_handle, oldest_unhandled}
 use Rattle.mega_rules.specs.Members.{kind_of}
 use Rattle.mega_rules.specs.Operations.{Node, Now, Operation, Phase, Promised, Proposes, Reads, Replies, Results, Setting}
-use Rattle.mega_rules.specs.Acting.{ActsAgain, Next, Rests, acts, applied_logs, applied_marks, batch_sealed, begins_read, committed, completes_read, ends, enters, finishes, goes_on, handles, handling, in_phase, is_taken, leader_after, listed_at, picks_group, picks_message, proposes, proposes_by, read_answer, reader_of, reads_on, rests_within, rows_answer, rows_at, sealed, sends_more, table_rows, unless_decided, unless_full, validated_by, validates, verdict}
+use Rattle.mega_rules.specs.Acting.{ActsAgain, Next, Rests, acts, applied_logs, applied_marks, batch_sealed, begins_read, committed, completes_read, ends, enters, finishes, goes_on, handles, handling, in_phase, leader_after, listed_at, picks_group, picks_message, proposes, proposes_by, read_answer, reader_of, reads_on, rests_within, rows_answer, rows_at, sealed, sends_more, table_rows, unless_decided, unless_full, validated_by, validates, verdict}
 use Rattle.mega_rules.specs.Steps.{Heard, acts_first, acts_in_turn, all_act, applied_position, begins, does_due, find_begins, is_out, is_worn, last_answer, local_find_begins, missing_kind, onto, read_begins, refusal, snapshot_listed, stored_listed, ticked, unless_missing, unless_refused}
 use Rattle.mega_actions.specs.of_answers.Indexing.{marks_then}
 use Rattle.mega_node_events.specs.Beginning.{marks_unless}
@@ -162,7 +163,7 @@ module _ (s : Setting) where
   sealed_it now o group r p (Ok done) h = proposes_it now o group r p (entry_of_done o.id done) (Replies done.replies) h
 
   batch_sealed_it : (now : Now) (o : Operation) (group : GroupId) (r : Reading) (p : ℕ) (b : Batch) → Quiet now → Quiet (batch_sealed s now o group r p b)
-  batch_sealed_it now o group r p b h = either (list_any is_taken b.results) _ _ (proposes_it now o group r p (entry_of_batch o.id b) (Results b.results) h) (ends_it now o.id _ refl h)
+  batch_sealed_it now o group r p b h = either (list_any is_ok b.results) _ _ (proposes_it now o group r p (entry_of_batch o.id b) (Results b.results) h) (ends_it now o.id _ refl h)
 
   enters_it : (now : Now) (o : Operation) (group : GroupId) (r : Reading) (p : ℕ) (message : Option Enter) → Quiet now → Leads (enters s now o group r p message)
   enters_it now o group r p None h = picks_message_it now o (asked_by r) (next_to_enter o.id (applied_logs now)) h

@@ -2,6 +2,7 @@
 use Rattle.std.proofs.Common.{◌≡◌, ◌≤◌, ℕ, zero, suc, ◌+◌, nat_le, Bool, true, false, cond, List, [], ◌∷◌, take, length, fold, Option, Some, None, Result, Ok, Err, refl, ap, arith}
 use Rattle.std.specs.Prelude.{is_some}
 use Rattle.std.specs.List.{All, list_any}
+use Rattle.std.specs.Result.{is_ok}
 use Rattle.std.proofs.lemmas.List.Elements.{All-head, All-tail}
 use Rattle.mega_base.specs.declared.names.Epoch.{Epoch}
 use Rattle.mega_base.specs.declared.names.GroupId.{GroupId}
@@ -33,7 +34,7 @@ use Rattle.mega_rules.specs.Coordinators.{refused_at}
 use Rattle.mega_handler.specs.Named.{has as has_handler}
 use Rattle.mega_rules.specs.Queues.{Posted, enter_entry, is_named, names_entered, next_to_enter, next_to_handle, oldest_unhandled}
 use Rattle.mega_rules.specs.Operations.{Now, Operation, Phase, Promised, Proposes, Reads, Replies, Results, Setting}
-use Rattle.mega_rules.specs.Acting.{ActsAgain, Next, Rests, acts, applied_logs, batch_sealed, begins_read, completes_read, ends, enters, finishes, goes_on, handles, handling, in_phase, is_taken, keeps, leader_after, listed_at, picks_group, picks_message, proposes, proposes_by, read_begun, reader_of, reads_on, rests_within, rows_at, sealed, sends_more, stored_with, table_rows, unless_decided, unless_full, validated_by, validates}
+use Rattle.mega_rules.specs.Acting.{ActsAgain, Next, Rests, acts, applied_logs, batch_sealed, begins_read, completes_read, ends, enters, finishes, goes_on, handles, handling, in_phase, keeps, leader_after, listed_at, picks_group, picks_message, proposes, proposes_by, read_begun, reader_of, reads_on, rests_within, rows_at, sealed, sends_more, stored_with, table_rows, unless_decided, unless_full, validated_by, validates}
 use Rattle.mega_rules.specs.Steps.{Heard, acts_first, acts_in_turn, all_act, does_due, find_begins, is_out, local_find_begins, read_begins, ticked, unless_refused}
 use Rattle.mega_actions.specs.of_node_laws.About.{group_in}
 use Rattle.mega_actions.specs.of_step_work.Servable.{is_served, is_open, is_pump}
@@ -110,7 +111,7 @@ module _ (P : Now → Type 0) (Mine : GroupId → Type 0) (w : Walks P Mine) (s 
   sealed_walked now o group r p (Ok done) is h = proposes_walked now o group r p (entry_of_done o.id done) (Replies done.replies) is h
 
   batch_walked : (now : Now) (o : Operation) (group : GroupId) (r : Reading) (p : ℕ) (b : Batch) → IsServable o → P now → P (batch_sealed s now o group r p b)
-  batch_walked now o group r p b is h = either (list_any is_taken b.results) _ _ (proposes_walked now o group r p (entry_of_batch o.id b) (Results b.results) is h) (w.ends_it now o.id _ h)
+  batch_walked now o group r p b is h = either (list_any is_ok b.results) _ _ (proposes_walked now o group r p (entry_of_batch o.id b) (Results b.results) is h) (w.ends_it now o.id _ h)
 
   unless_full_walked : (now : Now) (o : Operation) (p : ℕ) (next : Next) → P now → Leads next → Leads (unless_full s now o p next)
   unless_full_walked now o p next h k = either_next (nat_le (s.cluster.limit).0 p) _ next (w.ends_it now o.id _ h) k

@@ -2,6 +2,7 @@
 use Rattle.std.proofs.Common.{◌≡◌, ℕ, zero, suc, ◌+◌, ◌≤◌, Bool, true, false, cond, List, [], ◌∷◌, length, Option, Some, None, Result, Ok, Err, refl, arith}
 use Rattle.std.specs.Prelude.{nat_le, slice_get, take}
 use Rattle.std.specs.List.{list_any}
+use Rattle.std.specs.Result.{is_ok}
 use Rattle.std.proofs.lemmas.Bool.Decides.{nat_tests}
 use Rattle.mega_base.specs.declared.names.Epoch.{Epoch}
 use Rattle.mega_base.specs.declared.names.GroupId.{GroupId}
@@ -37,7 +38,7 @@ use Rattle.mega_voter.specs.of_rules.Logs.{decided, groups_of, log_of, prefix_of
 use Rattle.mega_voter.specs.of_rules.Coordinators.{refused_at, serves_at, valid_at}
 use Rattle.mega_voter.specs.of_rules.Queues.{Posted, enter_entry, is_named, names_entered, next_to_enter, next_to_handle, oldest_unhandled}
 use Rattle.mega_voter.specs.of_rules.Operations.{Now, Operation, Phase, Promised, Proposes, Reads, Replies, Results, Setting}
-use Rattle.mega_voter.specs.of_rules.Acting.{ActsAgain, Next, Rests, acts, applied_logs, batch_sealed, begins_read, completes_read, ends, enters, finishes, goes_on, handles, handling, has_nothing, in_phase, is_taken, is_visited, keeps, leader_after, listed_at, named_leader, picks_group, picks_message, picks_to_enter, picks_to_handle, proposes, proposes_by, proposes_there, read_begun, reader_of, reads_on, rests_within, rows_at, sealed, seeks_on, sends_more, table_rows, unless_decided, unless_full, validated_by, validates, verdict}
+use Rattle.mega_voter.specs.of_rules.Acting.{ActsAgain, Next, Rests, acts, applied_logs, batch_sealed, begins_read, completes_read, ends, enters, finishes, goes_on, handles, handling, has_nothing, in_phase, is_visited, keeps, leader_after, listed_at, named_leader, picks_group, picks_message, picks_to_enter, picks_to_handle, proposes, proposes_by, proposes_there, read_begun, reader_of, reads_on, rests_within, rows_at, sealed, seeks_on, sends_more, table_rows, unless_decided, unless_full, validated_by, validates, verdict}
 use Rattle.mega_handler.specs.Named.{has}
 use Rattle.mega_format_laws.specs.Rounds.{AreMessages, Each, IsMember, IsMove, IsPlace, IsSender, IsShort}
 use Rattle.mega_format_laws.specs.Reads.{IsReadMove, IsReader, IsReading}
@@ -54,7 +55,7 @@ use Rattle.mega_format_laws.proofs.Queues.{IsNext, logs_formed, next_to_enter_fo
 pub record AreOutcomes (s : Setting) : Type 0 where
   pub txn : (t : Transaction) (log : List Content) (op : OpId) (done : Done) → IsTransaction t → Each IsShort log → IsSender op → outcome s.cluster.schema t (after log no_rows) ≡ Ok done → IsShort (entry_of_done op done)
   pub batch : (group : GroupId) (ts : List Transaction) (log : List Content) (op : OpId) → length ts ≤ 16 → Each IsTransaction ts → Each IsShort log → IsSender op
-      → list_any is_taken (batch_outcome s.cluster.schema group ts (after log no_rows)).results ≡ true → IsShort (entry_of_batch op (batch_outcome s.cluster.schema group ts (after log no_rows)))
+      → list_any is_ok (batch_outcome s.cluster.schema group ts (after log no_rows)).results ≡ true → IsShort (entry_of_batch op (batch_outcome s.cluster.schema group ts (after log no_rows)))
   pub handling : (op : OpId) (group : GroupId) (message : Enter) (log : List Content) → IsSender op → IsEntered message → Each IsShort log
       → IsShort (handling s op group message (table_rows s.cluster.schema group (list_after log [])))
 
@@ -174,10 +175,10 @@ sealed_formed s now o group r p t (Ok done) a h k i g le f comes = proposes_form
     (a.txn t (take p (log_of now.met group)) o.id done f (front_formed now group p k) i.id comes)
 
 batch_formed : (s : Setting) (now : Now) (o : Operation) (group : GroupId) (r : Reading) (p : ℕ) (b : BatchDone) → IsSetting s → IsNow now → IsOperation o → IsGroup group → p + 1 ≤ 1000000
-    → (list_any is_taken b.results ≡ true → IsShort (entry_of_batch o.id b)) → IsNow (batch_sealed s now o group r p b)
-batch_formed s now o group r p b h k i g le e = go (list_any is_taken b.results) refl
+    → (list_any is_ok b.results ≡ true → IsShort (entry_of_batch o.id b)) → IsNow (batch_sealed s now o group r p b)
+batch_formed s now o group r p b h k i g le e = go (list_any is_ok b.results) refl
   where
-    go : (t : Bool) → list_any is_taken b.results ≡ t → IsNow (cond t (proposes s now o group r p (entry_of_batch o.id b) (Results b.results)) (ends now o.id (AllTurned b.results)))
+    go : (t : Bool) → list_any is_ok b.results ≡ t → IsNow (cond t (proposes s now o group r p (entry_of_batch o.id b) (Results b.results)) (ends now o.id (AllTurned b.results)))
     go true is = proposes_formed s now o group r p (entry_of_batch o.id b) (Results b.results) h k i g le (e is)
     go false is = ends_formed now o.id (AllTurned b.results) k
 

@@ -3,6 +3,7 @@
 use Rattle.std.proofs.Common.{◌≡◌, ℕ, zero, suc, ◌+◌, ◌-◌, ◌≤◌, nat_le, Bool, true, false, cond, List, [], ◌∷◌, ◌++◌, take, length, Option, Some, None, Result, Ok, Err, refl, sym, ap, ◌∙◌, subst, arith}
 use Rattle.std.proofs.lemmas.Bool.Decides.{nat_tests}
 use Rattle.std.specs.List.{list_any}
+use Rattle.std.specs.Result.{is_ok}
 use Rattle.std.proofs.lemmas.Option.{same_Some}
 use Rattle.mega_base.specs.declared.names.Epoch.{Epoch}
 use Rattle.mega_base.specs.declared.names.GroupId.{GroupId}
@@ -53,7 +54,7 @@ use Rattle.mega_leased_laws.specs.of_settled_laws.of_run_laws.of_tape_laws.of_pr
 use Rattle.mega_leased_laws.specs.of_settled_laws.of_run_laws.of_tape_laws.of_promises.of_rules.Met.{Met, Answers, Validates}
 use Rattle.mega_leased_laws.specs.of_settled_laws.of_run_laws.of_tape_laws.of_promises.of_rules.Queues.{Posted, enter_entry, is_named, names_entered, next_to_enter, next_to_handle, oldest_unhandled}
 use Rattle.mega_leased_laws.specs.of_settled_laws.of_run_laws.of_tape_laws.of_promises.of_rules.Operations.{Now, Operation, Phase, Promised, Proposes, Reads, Replies, Results, Setting}
-use Rattle.mega_leased_laws.specs.of_settled_laws.of_run_laws.of_tape_laws.of_promises.of_rules.Acting.{ActsAgain, Next, Rests, acts, applied_logs, batch_sealed, begins_read, committed, completes_read, ends, enters, finishes, goes_on, handles, handling, in_phase, is_taken, is_visited, keeps, leader_after, listed_at, picks_group, picks_message, proposes, proposes_by, read_answer, read_begun, reader_of, reads_on, rests_within, rows_answer, rows_at, sealed, sends_more, table_rows, unless_decided, unless_full, validated_by, verdict, visiting}
+use Rattle.mega_leased_laws.specs.of_settled_laws.of_run_laws.of_tape_laws.of_promises.of_rules.Acting.{ActsAgain, Next, Rests, acts, applied_logs, batch_sealed, begins_read, committed, completes_read, ends, enters, finishes, goes_on, handles, handling, in_phase, is_visited, keeps, leader_after, listed_at, picks_group, picks_message, proposes, proposes_by, read_answer, read_begun, reader_of, reads_on, rests_within, rows_answer, rows_at, sealed, sends_more, table_rows, unless_decided, unless_full, validated_by, verdict, visiting}
 use Rattle.mega_leased_laws.specs.of_settled_laws.of_run_laws.of_tape_laws.of_promises.of_rules.Steps.{onto}
 use Rattle.mega_leased_laws.specs.of_settled_laws.of_run_laws.of_tape_laws.Lawful.{Lawful, message}
 use Rattle.mega_leased_laws.specs.of_settled_laws.of_run_laws.of_tape_laws.Places.{In}
@@ -397,7 +398,7 @@ module _ (Far : List Item → OpId → GroupId → ℕ → Type 0) (enough : Suf
         sealed_it transaction (Ok done) e w = proposed (Txn transaction) (entry_of_done id done) (Replies done.replies) w
 
         batch_sealed_it : (own : GroupId) (transactions : List Transaction) → W now (one (BatchRequest own transactions)) → P (batch_sealed s now (one (BatchRequest own transactions)) group r p (batch_outcome (s.cluster).schema own transactions (rows_at now group p)))
-        batch_sealed_it own transactions w = either (list_any is_taken (batch_outcome (s.cluster).schema own transactions (rows_at now group p)).results) _ _
+        batch_sealed_it own transactions w = either (list_any is_ok (batch_outcome (s.cluster).schema own transactions (rows_at now group p)).results) _ _
             (proposed (BatchRequest own transactions) (entry_of_batch id (batch_outcome (s.cluster).schema own transactions (rows_at now group p))) (Results (batch_outcome (s.cluster).schema own transactions (rows_at now group p)).results) w)
             (ends_it now (one (BatchRequest own transactions)) (AllTurned (batch_outcome (s.cluster).schema own transactions (rows_at now group p)).results) w (λ guard t.
             subst (λ g. ReadOver Far tape id g (λ n front. (batch_outcome (s.cluster).schema own transactions (after front no_rows)).results ≡ (batch_outcome (s.cluster).schema own transactions (rows_at now group p)).results)) (sym (((w guard).phase).1).0)

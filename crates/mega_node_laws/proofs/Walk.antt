@@ -1,6 +1,7 @@
 -- What lasts through all that operations do within a step, where they send what they may.
 use Rattle.std.proofs.Common.{◌≡◌, ℕ, zero, suc, ◌+◌, nat_le, Bool, true, false, cond, List, [], ◌∷◌, take, length, map, fold, Option, Some, None, Result, Ok, Err, refl}
 use Rattle.std.specs.List.{All, list_any}
+use Rattle.std.specs.Result.{is_ok}
 use Rattle.std.proofs.lemmas.List.Elements.{All-append, All-cons, All-head, All-nil, All-tail}
 use Rattle.mega_base.specs.declared.names.Epoch.{Epoch}
 use Rattle.mega_base.specs.declared.names.GroupId.{GroupId}
@@ -32,7 +33,7 @@ use Rattle.mega_voter.specs.of_rules.Logs.{decided, groups_of, log_of, prefix_of
 use Rattle.mega_voter.specs.of_rules.Coordinators.{refused_at, serves_at, valid_at}
 use Rattle.mega_voter.specs.of_rules.Queues.{Posted, enter_entry, is_named, names_entered, next_to_enter, next_to_handle, oldest_unhandled}
 use Rattle.mega_voter.specs.of_rules.Operations.{Now, Operation, Phase, Promised, Proposes, Reads, Replies, Results, Setting}
-use Rattle.mega_voter.specs.of_rules.Acting.{Next, Rests, ActsAgain, acts, applied_logs, batch_sealed, begins_read, completes_read, enters, finishes, goes_on, handles, handling, is_taken, is_visited, leader_after, listed_at, picks_group, picks_message, proposes, proposes_by, read_begun, reader_of, reads_on, rests_within, rows_at, sealed, sends_more, table_rows, unless_decided, unless_full, validated_by, validates, ends, keeps, in_phase}
+use Rattle.mega_voter.specs.of_rules.Acting.{Next, Rests, ActsAgain, acts, applied_logs, batch_sealed, begins_read, completes_read, enters, finishes, goes_on, handles, handling, is_visited, leader_after, listed_at, picks_group, picks_message, proposes, proposes_by, read_begun, reader_of, reads_on, rests_within, rows_at, sealed, sends_more, table_rows, unless_decided, unless_full, validated_by, validates, ends, keeps, in_phase}
 use Rattle.mega_voter.specs.of_rules.Steps.{Heard, acts_first, acts_in_turn, all_act, begins, does_due, find_begins, hears_message, is_out, local_find_begins, read_begins, ticked, unless_refused}
 use Rattle.mega_node_laws.specs.About.{IsAbout, IsOf, group_in}
 use Rattle.mega_node_laws.proofs.Rounds.{asks_hold}
@@ -141,7 +142,7 @@ module _ (A : Message → Type 0) (P : Now → Type 0) (wanted : Type 0) (l : La
   sealed_it now o group r p (Ok done) about of h = proposes_it now o group r p (entry_of_done o.id done) (Replies done.replies) about of h
 
   pub batch_sealed_it : (now : Now) (o : Operation) (group : GroupId) (r : Reading) (p : ℕ) (b : Batch) → (wanted → IsAbout o) → (wanted → IsOf o.request group) → P now → P (batch_sealed s now o group r p b)
-  batch_sealed_it now o group r p b about of h = either (list_any is_taken b.results) _ _ (proposes_it now o group r p (entry_of_batch o.id b) (Results b.results) about of h) (l.ends_it now o.id _ h)
+  batch_sealed_it now o group r p b about of h = either (list_any is_ok b.results) _ _ (proposes_it now o group r p (entry_of_batch o.id b) (Results b.results) about of h) (l.ends_it now o.id _ h)
 
   enters_it : (now : Now) (o : Operation) (group : GroupId) (r : Reading) (p : ℕ) (message : Option Enter) → (wanted → IsAbout o) → (wanted → (group : GroupId) → IsOf o.request group) → P now
       → Leads P wanted (enters s now o group r p message)

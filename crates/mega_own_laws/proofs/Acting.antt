@@ -2,6 +2,7 @@
 use Rattle.std.proofs.Common.{◌≡◌, ℕ, zero, suc, ◌+◌, List, [], length, Option, Some, None, Result, Ok, Err, refl}
 use Rattle.std.specs.Prelude.{nat_le, take}
 use Rattle.std.specs.List.{list_any}
+use Rattle.std.specs.Result.{is_ok}
 use Rattle.mega_base.specs.declared.names.Epoch.{Epoch}
 use Rattle.mega_base.specs.declared.names.GroupId.{GroupId}
 use Rattle.mega_base.specs.declared.names.OpId.{OpId}
@@ -38,7 +39,7 @@ use Rattle.mega_run_laws.specs.of_rules.Coordinators.{refused_at, serves_at, val
 use Rattle.mega_run_laws.specs.of_rules.Logs.{decided, groups_of, log_of, prefix_of, top_of}
 use Rattle.mega_run_laws.specs.of_rules.Queues.{Posted, enter_entry, is_named, names_entered, next_to_enter, next_to_handle, oldest_unhandled}
 use Rattle.mega_run_laws.specs.of_rules.Operations.{Now, Operation, Phase, Promised, Proposes, Reads, Replies, Results, Setting}
-use Rattle.mega_run_laws.specs.of_rules.Acting.{ActsAgain, Next, Rests, acts, applied_logs, batch_sealed, begins_read, completes_read, ends, enters, finishes, goes_on, handles, handling, in_phase, is_taken, is_visited, keeps, leader_after, listed_at, picks_group, picks_message, picks_to_enter, picks_to_handle, proposes, proposes_by, proposes_there, read_begun, reader_of, reads_on, rests_within, rows_at, sealed, seeks_on, sends_more, table_rows, unless_decided, unless_full, validated_by, validates, verdict}
+use Rattle.mega_run_laws.specs.of_rules.Acting.{ActsAgain, Next, Rests, acts, applied_logs, batch_sealed, begins_read, completes_read, ends, enters, finishes, goes_on, handles, handling, in_phase, is_visited, keeps, leader_after, listed_at, picks_group, picks_message, picks_to_enter, picks_to_handle, proposes, proposes_by, proposes_there, read_begun, reader_of, reads_on, rests_within, rows_at, sealed, seeks_on, sends_more, table_rows, unless_decided, unless_full, validated_by, validates, verdict}
 use Rattle.mega_run_laws.specs.of_rules.Steps.{acts_first, find_begins, local_find_begins, read_begins, unless_refused}
 use Rattle.mega_run_laws.specs.of_tape_laws.Indexed.{IsDeclared}
 use Rattle.mega_run_laws.specs.Justified.{Each}
@@ -154,7 +155,7 @@ module _ (s : Setting) where
 
     batch_sealed_own : (now : Now) (o : Operation) (group : GroupId) (r : Reading) (p : ℕ) (b : BatchDone) → IsOwnNow now → OperationOwn s.cluster.schema o → IsOf o.request group → IsOwn s.cluster.schema group (entry_of_batch o.id b)
         → IsOwnNow (batch_sealed s now o group r p b)
-    batch_sealed_own now o group r p b h k of e = either IsOwnNow (list_any is_taken b.results) (proposes s now o group r p (entry_of_batch o.id b) (Results b.results)) (ends now o.id (AllTurned b.results))
+    batch_sealed_own now o group r p b h k of e = either IsOwnNow (list_any is_ok b.results) (proposes s now o group r p (entry_of_batch o.id b) (Results b.results)) (ends now o.id (AllTurned b.results))
         (proposes_own now o group r p (entry_of_batch o.id b) (Results b.results) h k of e) (ends_own now o.id (AllTurned b.results) h)
 
     unless_full_own : (now : Now) (o : Operation) (p : ℕ) (next : Next) → IsOwnNow now → Leads next → Leads (unless_full s now o p next)

@@ -1,6 +1,7 @@
 -- What the operations of a step say: no beginning, and answers that fit.
 use Rattle.std.proofs.Common.{◌≡◌, ℕ, zero, suc, ◌+◌, nat_le, Bool, true, false, cond, List, [], ◌∷◌, ◌++◌, map, take, length, fold, Option, Some, None, Result, Ok, Err, refl}
 use Rattle.std.specs.List.{list_any}
+use Rattle.std.specs.Result.{is_ok}
 use Rattle.mega_base.specs.declared.names.Epoch.{Epoch}
 use Rattle.mega_base.specs.declared.names.GroupId.{GroupId}
 use Rattle.mega_base.specs.declared.names.OpId.{OpId}
@@ -41,7 +42,7 @@ use Rattle.mega_rules.specs.Coordinators.{refused_at}
 use Rattle.mega_rules.specs.Finding.{refreshed_marks}
 use Rattle.mega_rules.specs.Queues.{Posted, enter_entry, is_named, names_entered, next_to_enter, next_to_handle, oldest_unhandled}
 use Rattle.mega_rules.specs.Operations.{Node, Now, Operation, Phase, Promised, Proposes, Reads, Replies, Results, Setting}
-use Rattle.mega_rules.specs.Acting.{ActsAgain, Next, Rests, acts, applied_logs, batch_sealed, begins_read, committed, completes_read, ends, enters, finishes, goes_on, handles, handling, is_taken, keeps, leader_after, listed_at, picks_group, picks_message, proposes, proposes_by, read_answer, read_begun, reads_on, rests_within, rows_answer, rows_at, sealed, sends_more, table_rows, unless_decided, unless_full, validated_by, validates, verdict}
+use Rattle.mega_rules.specs.Acting.{ActsAgain, Next, Rests, acts, applied_logs, batch_sealed, begins_read, committed, completes_read, ends, enters, finishes, goes_on, handles, handling, keeps, leader_after, listed_at, picks_group, picks_message, proposes, proposes_by, read_answer, read_begun, reads_on, rests_within, rows_answer, rows_at, sealed, sends_more, table_rows, unless_decided, unless_full, validated_by, validates, verdict}
 use Rattle.mega_rules.specs.Replies.{reply_to}
 use Rattle.mega_rules.specs.Steps.{Begin, Decision, Event, Heard, Take, Tick, acts_first, acts_in_turn, all_act, applied_position, apply_notes, at_first, at_open, begin_step, decision_note, does_due, find_begins, first_settled, hears_message, if_new, is_out, is_worn, lapse_notes, last_answer, lease_notes, local_find_begins, missing_kind, needs_full, new_operation, news, onto, op_of, portion_of, read_begins, refusal, snapshot_listed, step, stored_after, stored_listed, take_step, taken, tick_step, ticked, told_decision, told_notes, unless_busy, unless_missing, unless_refused}
 use Rattle.mega_node_laws.proofs.Ending.{taken_by}
@@ -137,9 +138,9 @@ module _ (s : Setting) where
   sealed_it now o group r p (Ok done) w h = proposes_it now o group r p (entry_of_done o.id done) (Replies done.replies) h
 
   batch_it : (now : Now) (o : Operation) (group : GroupId) (r : Reading) (p : ℕ) (b : Batch) → AreWords b.results → Said k now → Said k (batch_sealed s now o group r p b)
-  batch_it now o group r p b w h = by (list_any is_taken b.results) refl
+  batch_it now o group r p b w h = by (list_any is_ok b.results) refl
     where
-      by : (t : Bool) → list_any is_taken b.results ≡ t → Said k (cond t (proposes s now o group r p (entry_of_batch o.id b) (Results b.results)) (ends now o.id (AllTurned b.results)))
+      by : (t : Bool) → list_any is_ok b.results ≡ t → Said k (cond t (proposes s now o group r p (entry_of_batch o.id b) (Results b.results)) (ends now o.id (AllTurned b.results)))
       by true is = proposes_it now o group r p (entry_of_batch o.id b) (Results b.results) h
       by false is = ends_it now o.id (AllTurned b.results) (all_refused b.results w is) h
 

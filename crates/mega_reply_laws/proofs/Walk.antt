@@ -1,6 +1,7 @@
 -- An operation that acts within a step either stays open or is answered: one walk through all that it may do.
 use Rattle.std.proofs.Common.{◌≡◌, ℕ, zero, suc, ◌+◌, nat_le, Bool, true, false, cond, List, [], take, length, Option, Some, None, Result, Ok, Err, refl, subst}
 use Rattle.std.specs.List.{list_any}
+use Rattle.std.specs.Result.{is_ok}
 use Rattle.mega_base.specs.declared.names.GroupId.{GroupId}
 use Rattle.mega_base.specs.declared.names.OpId.{OpId}
 use Rattle.mega_base.specs.declared.names.Epoch.{Epoch}
@@ -30,7 +31,7 @@ use Rattle.mega_promises.specs.of_rules.Logs.{decided, groups_of, log_of, prefix
 use Rattle.mega_promises.specs.of_rules.Coordinators.{refused_at}
 use Rattle.mega_promises.specs.of_rules.Queues.{Posted, enter_entry, is_named, names_entered, next_to_enter, next_to_handle, oldest_unhandled}
 use Rattle.mega_promises.specs.of_rules.Operations.{Now, Operation, Phase, Promised, Proposes, Reads, Replies, Results, Setting}
-use Rattle.mega_promises.specs.of_rules.Acting.{ActsAgain, Next, Rests, acts, applied_logs, batch_sealed, begins_read, completes_read, ends, enters, finishes, goes_on, handles, in_phase, is_taken, keeps, leader_after, listed_at, handling, picks_group, picks_message, proposes, proposes_by, read_begun, reader_of, reads_on, rests_within, rows_at, sealed, sends_more, table_rows, unless_decided, unless_full, validated_by, validates}
+use Rattle.mega_promises.specs.of_rules.Acting.{ActsAgain, Next, Rests, acts, applied_logs, batch_sealed, begins_read, completes_read, ends, enters, finishes, goes_on, handles, in_phase, keeps, leader_after, listed_at, handling, picks_group, picks_message, proposes, proposes_by, read_begun, reader_of, reads_on, rests_within, rows_at, sealed, sends_more, table_rows, unless_decided, unless_full, validated_by, validates}
 use Rattle.mega_promises.specs.of_rules.Steps.{Heard, acts_first, acts_in_turn, does_due, find_begins, hears_message, is_out, local_find_begins, read_begins, ticked, unless_refused}
 
 -- what holds of a node within a step while an operation acts, and what holds once that operation stays open or was answered
@@ -101,7 +102,7 @@ module _ (P : Now → Type 0) (Q : OpId → Now → Type 0) (l : Walks P Q) (s :
   sealed_it now o group r p (Ok done) h = proposes_it now o group r p (entry_of_done o.id done) (Replies done.replies) h
 
   batch_it : (now : Now) (o : Operation) (group : GroupId) (r : Reading) (p : ℕ) (b : Batch) → P now → Q o.id (batch_sealed s now o group r p b)
-  batch_it now o group r p b h = either o.id (list_any is_taken b.results) _ _ (proposes_it now o group r p (entry_of_batch o.id b) (Results b.results) h) (l.ends_it now o.id _ h)
+  batch_it now o group r p b h = either o.id (list_any is_ok b.results) _ _ (proposes_it now o group r p (entry_of_batch o.id b) (Results b.results) h) (l.ends_it now o.id _ h)
 
   enters_it : (now : Now) (o : Operation) (group : GroupId) (r : Reading) (p : ℕ) (message : Option Enter) → P now → Leads P Q o.id (enters s now o group r p message)
   enters_it now o group r p None h = picks_message_it now o (asked_by r) (next_to_enter o.id (applied_logs now)) h

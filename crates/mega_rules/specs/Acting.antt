@@ -146,12 +146,9 @@ abbrev pub sealed : Setting → Now → Operation → GroupId → Reading → �
 sealed s now o group r p (Err turn) = ends now o.id (Turned turn)
 sealed s now o group r p (Ok done) = proposes s now o group r p (entry_of_done o.id done) (Replies done.replies)
 
-abbrev pub is_taken : Result (List (Option Shown)) Turn → Bool
-is_taken result = is_ok result
-
 abbrev pub batch_sealed : Setting → Now → Operation → GroupId → Reading → ℕ → Batch → Now
 batch_sealed s now o group r p b =
-    if list_any is_taken b.results
+    if list_any is_ok b.results
     then proposes s now o group r p (entry_of_batch o.id b) (Results b.results)
     else ends now o.id (AllTurned b.results)
 

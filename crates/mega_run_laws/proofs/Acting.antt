@@ -2,6 +2,7 @@
 use Rattle.std.proofs.Common.{◌≡◌, inl, inr, ℕ, zero, suc, ◌+◌, ◌≤◌, ◌<◌, nat_le, Bool, true, false, cond, List, [], ◌∷◌, ◌++◌, take, length, Option, Some, None, Result, Ok, Err, refl, sym, ap, ◌∙◌, subst, arith}
 use Rattle.std.proofs.lemmas.Bool.Decides.{nat_tests}
 use Rattle.std.specs.List.{list_any}
+use Rattle.std.specs.Result.{is_ok}
 use Rattle.mega_base.specs.declared.names.GroupId.{GroupId}
 use Rattle.mega_base.specs.declared.names.OpId.{OpId}
 use Rattle.mega_base.specs.declared.names.Epoch.{Epoch}
@@ -41,7 +42,7 @@ use Rattle.mega_tape_laws.specs.of_rules.Coordinators.{refused_at, serves_at, va
 use Rattle.mega_tape_laws.specs.of_rules.Queues.{Posted, enter_entry, is_named, names_entered, next_to_enter, next_to_handle, oldest_unhandled}
 use Rattle.mega_index.specs.Rows.{Listed}
 use Rattle.mega_tape_laws.specs.of_rules.Operations.{Now, Operation, Phase, Promised, Proposes, Reads, Replies, Results, Setting}
-use Rattle.mega_tape_laws.specs.of_rules.Acting.{ActsAgain, Next, Rests, acts, applied_logs, batch_sealed, begins_read, completes_read, ends, enters, finishes, goes_on, handles, handling, in_phase, is_taken, is_visited, keeps, leader_after, listed_at, named_leader, picks_group, picks_message, picks_to_enter, picks_to_handle, proposes, proposes_by, proposes_there, read_begun, reads_on, rests_within, rows_at, sealed, seeks_on, sends_more, table_rows, unless_decided, unless_full, validated_by, validates, visiting}
+use Rattle.mega_tape_laws.specs.of_rules.Acting.{ActsAgain, Next, Rests, acts, applied_logs, batch_sealed, begins_read, completes_read, ends, enters, finishes, goes_on, handles, handling, in_phase, is_visited, keeps, leader_after, listed_at, named_leader, picks_group, picks_message, picks_to_enter, picks_to_handle, proposes, proposes_by, proposes_there, read_begun, reads_on, rests_within, rows_at, sealed, seeks_on, sends_more, table_rows, unless_decided, unless_full, validated_by, validates, visiting}
 use Rattle.mega_tape_laws.specs.Places.{In, Place, Proposes as ProposesMove, moves}
 use Rattle.mega_tape_laws.specs.Writes.{AreWritten, OwnEntry, Own, Usage, enters as enters_one, handles as handles_one, own as own_one, runs, runs_all, Knows}
 use Rattle.mega_run_laws.specs.Usages.{Brought}
@@ -347,7 +348,7 @@ sealed_done users s brought f now o group r p transaction is (Ok done) comes h =
     (record { below = take p (log_of now.met group); done = done; knows = full_below users s f now o group p h; comes = comes; shows = refl }))
 
 batch_done : (users : Users) → (s : Setting) → (users.fits → Brought users.usage s.handlers) → (f : Frame) (now : Now) (o : Operation) (group : GroupId) (r : Reading) (p : ℕ) (theirs : GroupId) (transactions : List Transaction) → o.request ≡ BatchRequest theirs transactions → (b : Batch) → batch_outcome s.cluster.schema theirs transactions (rows_at now group p) ≡ b → FullAt users s f now o group p → DoneAt users s f o (batch_sealed s now o group r p b)
-batch_done users s brought f now o group r p theirs transactions is b comes h = done_if users s brought f o (list_any is_taken b.results) (proposes s now o group r p (entry_of_batch o.id b) (Results b.results)) _
+batch_done users s brought f now o group r p theirs transactions is b comes h = done_if users s brought f o (list_any is_ok b.results) (proposes s now o group r p (entry_of_batch o.id b) (Results b.results)) _
     (proposes_done users s brought f now o group r p (entry_of_batch o.id b) (Results b.results) h
     (λ fits. let same = subst (λ q. Serves (tape_of f now.sends) o.id q o.message group) is (h.serves fits) in
     runs_all transactions (full_asked users s f now o group p h fits ∙ ap Some is ∙ ap (λ g. Some (BatchRequest g transactions)) same)

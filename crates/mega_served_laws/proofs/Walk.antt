@@ -1,6 +1,7 @@
 -- What operations do within a step is the same wherever what was met tells the node the same.
 use Rattle.std.proofs.Common.{◌≡◌, ℕ, zero, suc, ◌+◌, nat_le, Bool, true, false, cond, List, [], ◌∷◌, ◌++◌, take, length, fold, map, flat_map, filter_map, Option, Some, None, Result, Ok, Err, refl, ap, subst}
 use Rattle.std.specs.List.{list_any}
+use Rattle.std.specs.Result.{is_ok}
 use Rattle.mega_base.specs.declared.names.Epoch.{Epoch}
 use Rattle.mega_base.specs.declared.names.GroupId.{GroupId}
 use Rattle.mega_base.specs.declared.names.OpId.{OpId}
@@ -42,7 +43,7 @@ use Rattle.mega_rules.specs.Members.{voters}
 use Rattle.mega_rules.specs.Coordinators.{refused_at}
 use Rattle.mega_rules.specs.Queues.{Posted, enter_entry, is_named, names_entered, next_to_enter, next_to_handle, oldest_unhandled}
 use Rattle.mega_rules.specs.Operations.{Now, Operation, Phase, Promised, Proposes, Reads, Replies, Results, Setting}
-use Rattle.mega_rules.specs.Acting.{ActsAgain, Next, Rests, acts, applied_logs, applied_marks, batch_sealed, begins_read, completes_read, ends, enters, finishes, goes_on, handles, handling, has_nothing, in_phase, is_taken, is_visited, keeps, leader_after, listed_at, mark_of, named_leader, picks_group, picks_message, picks_to_enter, picks_to_handle, proposes, proposes_by, proposes_there, read_answer, read_begun, reader_of, reads_on, rests_within, rows_at, sealed, seeks_on, sends_more, stored_with, table_rows, unless_decided, unless_full, validated_by, validates, verdict, visiting}
+use Rattle.mega_rules.specs.Acting.{ActsAgain, Next, Rests, acts, applied_logs, applied_marks, batch_sealed, begins_read, completes_read, ends, enters, finishes, goes_on, handles, handling, has_nothing, in_phase, is_visited, keeps, leader_after, listed_at, mark_of, named_leader, picks_group, picks_message, picks_to_enter, picks_to_handle, proposes, proposes_by, proposes_there, read_answer, read_begun, reader_of, reads_on, rests_within, rows_at, sealed, seeks_on, sends_more, stored_with, table_rows, unless_decided, unless_full, validated_by, validates, verdict, visiting}
 use Rattle.mega_rules.specs.Steps.{Heard, acts_first, acts_in_turn, all_act, applied_position, begins, does_due, find_begins, is_out, last_answer, local_find_begins, read_begins, snapshot_listed, snapshot_rows, stored_listed, stored_rows, ticked, unless_refused}
 use Rattle.mega_served_laws.proofs.Alike.{Alike, Scope, alike_more}
 use Rattle.mega_served_laws.proofs.Logs.{log_alike, prefix_alike}
@@ -194,7 +195,7 @@ module _ (w : Scope) (s : Setting) where
 
   batch_sealed_alike : (a b : Now) (o : Operation) (group : GroupId) (r : Reading) (p : ℕ) (one : Batch) → R a b → R (batch_sealed s a o group r p one) (batch_sealed s b o group r p one)
   batch_sealed_alike a b o group r p one h =
-      either (list_any is_taken one.results) _ _ _ _ (proposes_alike a b o group r p (entry_of_batch o.id one) (Results one.results) h) (ends_alike a b o.id _ _ refl h)
+      either (list_any is_ok one.results) _ _ _ _ (proposes_alike a b o group r p (entry_of_batch o.id one) (Results one.results) h) (ends_alike a b o.id _ _ refl h)
 
   unless_full_alike : (a b : Now) (o : Operation) (p : ℕ) (x y : Next) → R a b → N x y → N (unless_full s a o p x) (unless_full s b o p y)
   unless_full_alike a b o p x y h k = either_next (nat_le (s.cluster.limit).0 p) _ _ x y (ends_alike a b o.id _ _ refl h) k

@@ -2,6 +2,7 @@
 -- is decided, and the first read of an operation that begins stands apart.
 use Rattle.std.proofs.Common.{◌≡◌, ℕ, zero, suc, ◌+◌, nat_le, Bool, true, false, cond, List, [], take, length, Option, Some, None, Result, Ok, Err, refl, subst}
 use Rattle.std.specs.List.{list_any}
+use Rattle.std.specs.Result.{is_ok}
 use Rattle.mega_base.specs.declared.names.Epoch.{Epoch}
 use Rattle.mega_base.specs.declared.names.GroupId.{GroupId}
 use Rattle.mega_base.specs.declared.names.OpId.{OpId}
@@ -29,7 +30,7 @@ use Rattle.mega_run_laws.specs.of_rules.Clock.{clock_of}
 use Rattle.mega_run_laws.specs.of_rules.Logs.{decided, groups_of, log_of, prefix_of}
 use Rattle.mega_run_laws.specs.of_rules.Queues.{Posted, enter_entry, is_named, names_entered, next_to_enter, next_to_handle, oldest_unhandled}
 use Rattle.mega_run_laws.specs.of_rules.Operations.{Now, Operation, Phase, Promised, Proposes, Reads, Replies, Results, Setting}
-use Rattle.mega_run_laws.specs.of_rules.Acting.{ActsAgain, Next, Rests, acts, applied_logs, batch_sealed, begins_read, completes_read, ends, enters, finishes, goes_on, handles, handling, in_phase, is_taken, keeps, leader_after, listed_at, picks_group, picks_message, proposes, proposes_by, read_begun, reader_of, reads_on, rests_within, rows_at, sealed, sends_more, table_rows, unless_decided, unless_full, visiting}
+use Rattle.mega_run_laws.specs.of_rules.Acting.{ActsAgain, Next, Rests, acts, applied_logs, batch_sealed, begins_read, completes_read, ends, enters, finishes, goes_on, handles, handling, in_phase, keeps, leader_after, listed_at, picks_group, picks_message, proposes, proposes_by, read_begun, reader_of, reads_on, rests_within, rows_at, sealed, sends_more, table_rows, unless_decided, unless_full, visiting}
 use Rattle.mega_run_laws.specs.of_rules.Steps.{acts_first, find_begins, local_find_begins, new_operation, read_begins, unless_refused}
 
 -- where an operation that begins stands
@@ -109,7 +110,7 @@ module _ (s : Setting) (B P : OpId → Now → Type 0) (W : Now → Operation �
   sealed_it now o group noted asked p search (Ok done) h = proposes_it now o group noted asked p search (entry_of_done o.id done) (Replies done.replies) h
 
   batch_sealed_it : (now : Now) (o : Operation) (group : GroupId) (noted : Option Epoch) (asked : List ℕ) (p : ℕ) (search : Option Search) (b : Batch) → W now (in_phase o (Reads group (caught noted asked p search))) → P o.id (batch_sealed s now (in_phase o (Reads group (caught noted asked p search))) group (caught noted asked p search) p b)
-  batch_sealed_it now o group noted asked p search b h = either o.id (list_any is_taken b.results) _ _ (proposes_it now o group noted asked p search (entry_of_batch o.id b) (Results b.results) h) (l.ends_it now (in_phase o (Reads group (caught noted asked p search))) _ h)
+  batch_sealed_it now o group noted asked p search b h = either o.id (list_any is_ok b.results) _ _ (proposes_it now o group noted asked p search (entry_of_batch o.id b) (Results b.results) h) (l.ends_it now (in_phase o (Reads group (caught noted asked p search))) _ h)
 
   enters_it : (now : Now) (o : Operation) (group : GroupId) (noted : Option Epoch) (asked : List ℕ) (p : ℕ) (search : Option Search) (message : Option Enter) → W now (in_phase o (Reads group (caught noted asked p search))) → Leads o.id (enters s now (in_phase o (Reads group (caught noted asked p search))) group (caught noted asked p search) p message)
   enters_it now o group noted asked p search None h = picks_message_it now o group (caught noted asked p search) (next_to_enter o.id (applied_logs now)) h
