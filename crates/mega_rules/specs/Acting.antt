@@ -63,7 +63,7 @@ sends_more now sends = record now { sends = now.sends ++ sends }
 abbrev pub in_phase : Operation → Phase → Operation
 in_phase o phase = record o { phase = phase }
 
--- what an operation comes to as it acts: it rests, since it ended or stays as it is, or it began to read a group and acts again in this step
+-- what an operation comes to as it acts: it rests, since it ended or stays open, or it began to read a group and acts again in this step
 pub data Next : Type 0 where
   Rests : (now : Now) → Next
   ActsAgain : (now : Now) (operation : Operation) → Next
