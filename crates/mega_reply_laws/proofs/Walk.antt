@@ -45,7 +45,7 @@ pub record Walks (P : Now → Type 0) (Q : OpId → Now → Type 0) : Type 0 whe
 -- what an operation comes to: it stays open or was answered, or it acts again under its own id
 abbrev pub Leads : (Now → Type 0) → (OpId → Now → Type 0) → OpId → Next → Type 0
 Leads P Q id (Rests now) = Q id now
-Leads P Q id (ActsAgain now o) = P now × (o.id ≡ id)
+Leads P Q id (ActsAgain now o) = (o.id ≡ id) × P now
 
 -- an operation hears a message, or does what is due, under its own id
 module _ (s : Setting) where
@@ -69,7 +69,7 @@ module _ (P : Now → Type 0) (Q : OpId → Now → Type 0) (l : Walks P Q) (s :
   either_next id false one other h k = k
 
   begins_read_it : (now : Now) (o : Operation) (group : GroupId) (message : Option Enter) (asked : List ℕ) → P now → Leads P Q o.id (begins_read s now o group message asked)
-  begins_read_it now o group message asked h = (l.sends_it now (read_begun s now o group asked).sends h, refl)
+  begins_read_it now o group message asked h = (refl, l.sends_it now (read_begun s now o group asked).sends h)
 
   picks_message_it : (now : Now) (o : Operation) (asked : List ℕ) (one : Option Posted) → P now → Leads P Q o.id (picks_message s now o asked one)
   picks_message_it now o asked None h = l.ends_it now o.id _ h
@@ -153,12 +153,12 @@ module _ (P : Now → Type 0) (Q : OpId → Now → Type 0) (l : Walks P Q) (s :
   -- until it rests
   rests_within_it : (most : ℕ) (id : OpId) (next : Next) → Leads P Q id next → Q id (rests_within most s next)
   rests_within_it most id (Rests now) h = h
-  rests_within_it zero id (ActsAgain now o) h = subst (λ own. Q own (keeps now o)) h.1 (l.keeps_it now o h.0)
+  rests_within_it zero id (ActsAgain now o) h = subst (λ own. Q own (keeps now o)) h.0 (l.keeps_it now o h.1)
   rests_within_it (suc most) id (ActsAgain now o) h =
-      rests_within_it most id (acts s now o) (subst (λ own. Leads P Q own (acts s now o)) h.1 (acts_by now o.id o.request o.began o.visited o.message o.phase h.0))
+      rests_within_it most id (acts s now o) (subst (λ own. Leads P Q own (acts s now o)) h.0 (acts_by now o.id o.request o.began o.visited o.message o.phase h.1))
 
   pub goes_on_it : (now : Now) (o : Operation) → P now → Q o.id (goes_on s now o)
-  goes_on_it now o h = rests_within_it (length (groups_of now.met) + 2) o.id (ActsAgain now o) (h, refl)
+  goes_on_it now o h = rests_within_it (length (groups_of now.met) + 2) o.id (ActsAgain now o) (refl, h)
 
   pub heard_it : (now : Now) (t : Heard) → P now → Q (t.operation).id (acts_in_turn s now t)
   heard_it now t h = goes_on_it (sends_more now t.sends) t.operation (l.sends_it now t.sends h)
