@@ -24,7 +24,7 @@ returns-then-stays-clause-acted g c h now told means about at =
       stands = at;
       work = λ was. ap (λ kept. record before { kept = kept }) pushed ∙ ap (λ (work : Work). record work { kept = work.kept ++ o ∷ [] }) was;
       about = tt;
-      rule_is = λ again. c.stays.ensures c.if-stays.true (setting c.args.self.now.members c.args.self.now.me h) again now at.stands.tells;
+      leads = c.stays.ensures c.if-stays.true (setting c.args.self.now.members c.args.self.now.me h) now at.stands.tells;
     }
 
 pub returns-in_ok-next-in-Reads-clause-acted : goal.returns-in_ok-next-in-Reads-clause-acted
@@ -42,7 +42,7 @@ returns-in_ok-next-in-Reads-clause-acted g c h now told means about at =
       stands = inner.stands;
       work = inner.work;
       about = inner.about;
-      rule_is = λ again. ap (acts s again now) (sym whole_is) ∙ inner.rule_is again;
+      leads = ap (acts s now) (sym whole_is) ∙ inner.leads;
     }
 
 pub returns-in_ok-next-in-Reads-clause-asked : goal.returns-in_ok-next-in-Reads-clause-asked
@@ -64,5 +64,5 @@ returns-in_ok-checks-in-Proposes-clause-acted g c h now told means about at =
       stands = coe 0 1 (i. StandsAt s before.voter.logs.kept before.leases before.digest version (progress_at before.rows.progress) (sym (unless_met now o own.position promised found) i) (sym (unless_stored now o own.position promised found) i)) at;
       work = λ was. c.in_ok-checks-in-Proposes.ensures.work now at.stands.tells was;
       about = tt;
-      rule_is = λ again. ap (acts s again now) (sym whole_is);
+      leads = ap (acts s now) (sym whole_is);
     }
