@@ -1,5 +1,5 @@
 -- How calls on rows fare one after another.
-use Rattle.std.proofs.Common.{◌≡◌, ◌∙◌, subst, sym, arith}
+use Rattle.std.proofs.Common.{◌≡◌, ◌∙◌, ◌≤◌, subst, sym, inl, ⊎_elim, inr, refl, ℕ, arith}
 use Rattle.std.specs.Prelude.{Option, Some, None, true}
 use Rattle.mega_disk.specs.Fuse.{Fuse, MayBurn}
 use Rattle.mega_disk.specs.declared.versions.StoreError.{StoreError}
