@@ -93,7 +93,7 @@ fn seeks(
 }
 
 /// Whether an operation that acts stays as it is: it does not know through where it reads, or its position is not decided.
-fn stays<R: Records>(voter: &Voter<R>, operation: &Operation) -> bool
+pub(crate) fn stays<R: Records>(voter: &Voter<R>, operation: &Operation) -> bool
     ensures { result ≡ true → (s : Setting) (again : Now → OpenOne → Now) (now : Now) → Tells voter.now.logs.kept now.met → acts s again now operation.now ≡ keeps now operation.now }
 {
     match &operation.phase {
