@@ -1,5 +1,5 @@
 -- An operation that acts again and again in a step, by the turns that it has left.
-use Rattle.std.proofs.Common.{◌≡◌, ◌∙◌, ℕ, suc, ◌+◌, ◌-◌, ◌<◌, ◌≤◌, Some, None, ap, subst, sym, arith}
+use Rattle.std.proofs.Common.{◌≡◌, ◌∙◌, ◌++◌, ◌∷◌, [], ℕ, suc, ◌+◌, ◌-◌, ◌<◌, ◌≤◌, Some, None, ap, subst, sym, arith}
 use Rattle.mega_disk.specs.VersionMaps.{Versions}
 use Rattle.mega_handler.specs.Named.{Meanings}
 use Rattle.mega_answers.specs.of_node_laws.About.{IsAbout}
@@ -54,3 +54,14 @@ module _ {R V : Type 0} (version : V → Versions) (h : Meanings) (new : Replica
 
   pub once_work : was ≡ work_of now → made ≡ work_of (goes_on s now o)
   once_work is = only.work is ∙ ap work_of (sym once_is)
+
+-- one that waits stays open, with no turn more
+module _ {R V : Type 0} (version : V → Versions) (h : Meanings) (replica : Replica R V) (s : Setting) (now : Now) (o : Operation) (waits : acts s now o ≡ Rests (keeps now o)) where
+  waits_is : goes_on s now o ≡ keeps now o
+  waits_is = goes_on_acts s now o ∙ ap (later s now) waits
+
+  pub waits_stands : IsAt version h replica now.met now.stored → IsAt version h replica (goes_on s now o).met (goes_on s now o).stored
+  waits_stands at = subst (λ (then : Now). IsAt version h replica then.met then.stored) (sym waits_is) at
+
+  pub waits_work : (was made : Work) → made ≡ record was { kept = was.kept ++ o ∷ [] } → was ≡ work_of now → made ≡ work_of (goes_on s now o)
+  waits_work was made pushed is = pushed ∙ ap (λ (work : Work). record work { kept = work.kept ++ o ∷ [] }) is ∙ ap work_of (sym waits_is)

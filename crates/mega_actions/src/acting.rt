@@ -93,7 +93,7 @@ fn seeks(
 }
 
 /// Whether an operation that acts stays as it is: it does not know through where it reads, or its position is not decided.
-fn stays<R: Records>(voter: &Voter<R>, operation: &Operation) -> bool
+pub(crate) fn stays<R: Records>(voter: &Voter<R>, operation: &Operation) -> bool
     ensures { result ≡ true → (s : Setting) (now : Now) → Tells voter.now.logs.kept now.met → acts s now operation.now ≡ Rests (keeps now operation.now) }
 {
     match &operation.phase {
@@ -294,10 +294,6 @@ impl<R: Records, V: Versions> Replica<R, V> {
         ensures leaves { Leaves V.Versions (failed_by result) (H.meant handlers.old) (H.meant handlers.new) self.old self.new }
         ensures unserved { result ≡ Err Unserved → is_open operation.request ≡ false }
     {
-        if stays(&self.voter, &operation) {
-            work.kept.push(operation)?;
-            return Ok(None);
-        }
         let (kept, phase) = operation.parts();
         match phase {
             Phase::Reads { group, reading } => {
@@ -354,6 +350,7 @@ impl<R: Records, V: Versions> Replica<R, V> {
     }
 
     /// An operation acts, and a pump again while it picks again: at most as often as there are groups, and two times more.
+    #[tactic(auto, using(mega_replica::proofs::Using::used_here, mega_answers::proofs::Refused::used_unkept))]
     pub fn acts<H: QueueHandlers>(
         &mut self,
         alloc: Global,
@@ -371,6 +368,11 @@ impl<R: Records, V: Versions> Replica<R, V> {
         ensures leaves { Leaves V.Versions (failed_by result) (H.meant handlers.old) (H.meant handlers.new) self.old self.new }
         ensures unserved { result ≡ Err Unserved → is_open operation.request ≡ false }
     {
+        // Most operations only wait, and go on with no other move.
+        if stays(&self.voter, &operation) {
+            work.kept.push(operation)?;
+            return Ok(());
+        }
         match self.acts_once(alloc, handlers, work, operation) {
             Ok(Some(next)) => {
                 self.acts_again(alloc, handlers, work, next)?;
