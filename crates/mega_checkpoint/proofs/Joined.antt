@@ -6,15 +6,11 @@ use Rattle.std.proofs.lemmas.Bool.{cases_lt}
 use Rattle.std.proofs.lemmas.List.{ext_get_or, get_or-take, get_or-drop, get_or_append_left, get_or-append_right}
 use Rattle.std.proofs.lemmas.List.FromFn.{get_or-map-range_with_len, length-map-range_with_len}
 use Rattle.mega_areas.specs.declared.area.Area.{Area}
-use Rattle.mega_areas.specs.Pages.{first_page, offset, pages_in, space}
+use Rattle.mega_areas.specs.Pages.{first_page, offset}
 use Rattle.mega_areas.proofs.Offsets.{page_offset}
 
 abbrev pub front_of : Area → List ℕ → ℕ → List ℕ
 front_of area file pages = map (λ place. get_or file (offset area place) 0) (range_with_len 0 (4096 * pages))
-
-pub space_is : (area : Area) (file : List ℕ) → space area file ≡ front_of area file (pages_in (length file))
-unfolding space
-space_is area file = refl
 
 -- one page more
 pub joined_more : (area : Area) (file : List ℕ) (page at : ℕ) → at ≡ 4096 * (2 * page + first_page area) → at + 4096 ≤ length file → front_of area file page ++ slice_range file at (at + 4096) ≡ front_of area file (page + 1)

@@ -31,15 +31,6 @@ IsWriteStop Unformed = Unit {0}
 IsWriteStop NoMemory = Unit {0}
 IsWriteStop _ = ⊥
 
--- a fault of the device or of the sink, a log that is full, what is none of the formats, or want of memory
-abbrev pub IsServeStop : Stop → Type 0
-IsServeStop Device = Unit {0}
-IsServeStop Sink = Unit {0}
-IsServeStop (Full length) = Unit {0}
-IsServeStop Unformed = Unit {0}
-IsServeStop NoMemory = Unit {0}
-IsServeStop _ = ⊥
-
 -- no rule that the header breaks
 abbrev pub IsNoRule : Stop → Type 0
 IsNoRule (Header rule) = ⊥

@@ -7,7 +7,6 @@ ghost use Rattle.mega_serve.specs.declared.waiting.Waiting.{Waiting as Waits};
 ghost use Rattle.mega_serve.specs.Causes.{HaveGone};
 ghost use Rattle.mega_serve.specs.Turns.{EndsIn, HasBegun, HasTurned, Runs};
 ghost use Rattle.mega_node.specs.Serving.{IsDue, node_stop, serve_stop};
-ghost use Rattle.mega_node.specs.Stops.{IsServeStop};
 
 use crate::stop::Stop;
 use mega_io::Sink;

@@ -2,6 +2,6 @@ pub mod Walk
 pub mod Plain
 pub mod Steps
 pub mod Ending
-pub mod Told
+pub mod Refusals
 pub mod Serving
 pub mod Twice

@@ -32,8 +32,8 @@ use Rattle.mega_reply_laws.specs.Fates.{AreApart, Ends, Fate, Stays, among, answ
 use Rattle.mega_reply_laws.specs.Requests.{Agrees, AreReplied, Asked, RequestState, Ended, HasOpen, Heard, IsAsItStands, Opened, Refused, asked_by, asked_in, behind_line, begun_as, comes_to, is_reply, op_awaited, replies, reply_to, requests, waits, waits_by, waits_in, wished_for}
 use Rattle.mega_reply_laws.proofs.Ending.{all_end, all_pass, all_pass_each, apart_less, ends, given, many, many_both, not_first, open_or_ended, others_staying, passes, passes_ended, passes_opened, passes_refused, replies_of, staying_apart, stays_untold, told_to}
 use Rattle.mega_reply_laws.proofs.Plain.{IsPlain, start_plain}
-use Rattle.mega_reply_laws.proofs.Told.{refused_at_once}
-use Rattle.mega_reply_laws.proofs.Steps.{AreBelow, IsBelow, IsWithin, Went, all_leave, begin_went, begins_new, begun_left, below_begun, below_still, take_went, tick_went, within_still, within_with_new}
+use Rattle.mega_reply_laws.proofs.Refusals.{refused_at_once}
+use Rattle.mega_reply_laws.proofs.Steps.{AreBelow, IsBelow, IsWithin, LedOn, all_leave, begin_went, begins_new, begun_left, below_begun, below_still, take_went, tick_went, within_still, within_with_new}
 
 -- ---- what is said of each request
 
@@ -255,7 +255,7 @@ module _ (c : Cluster) (me : ℕ) (wish : List ℕ → Wish) where
     pub apart : AreApart before
     pub alone : AreApart (map op_awaited (waits asked))
 
-  module _ (now : Served) (before : List OpId) (base : List Met) (made : Step) (own : List Line) (waiting : List Waiting) (asked : List Asked) (w : Went before base made) (r : Ready now before own waiting asked) where
+  module _ (now : Served) (before : List OpId) (base : List Met) (made : Step) (own : List Line) (waiting : List Waiting) (asked : List Asked) (w : LedOn before base made) (r : Ready now before own waiting asked) where
     abbrev pub next : Served
     next = recorded c me now own waiting made
 
@@ -355,7 +355,7 @@ module _ (c : Cluster) (me : ℕ) (wish : List ℕ → Wish) where
       alone = h.alone;
     }
 
-    still_serves : (own : List Line) (base : List Met) (made : Step) → Went (ids now.node.open_operations) base made → begun_of base ≡ begun_of now.node.met
+    still_serves : (own : List Line) (base : List Met) (made : Step) → LedOn (ids now.node.open_operations) base made → begun_of base ≡ begun_of now.node.met
         → after_lines asked_now own ≡ asked_now → replies own ≡ [] → Serves (recorded c me now own now.waiting made)
     still_serves own base made w same are silent =
         recorded_serves now (ids now.node.open_operations) base made own now.waiting asked_now w (ready_still own are silent) out (below_still now.node base made w same h.below)
@@ -542,7 +542,7 @@ module _ (c : Cluster) (me : ℕ) (wish : List ℕ → Wish) where
       abbrev made : Step
       made = step s now.node (Begin request text)
 
-      w : Went (open_ids ++ new ∷ []) (Begins new text ∷ now.node.met) made
+      w : LedOn (open_ids ++ new ∷ []) (Begins new text ∷ now.node.met) made
       w = begin_went s now.node request text
 
       out_then : Each (EndedOut (ids made.node.open_operations)) asked_then_new

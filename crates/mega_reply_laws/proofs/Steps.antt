@@ -144,7 +144,7 @@ sends_leave (m ∷ ms) = All-cons LeavesBegun (Sends m) (map Sends ms) refl (sen
 -- ---- a step
 
 -- of the operations that were open before, and one that begins, each has its fate; what it notes is plain, and behind it stand its answers
-pub record Went (before : List OpId) (base : List Met) (made : Step) : Type 0 where
+pub record LedOn (before : List OpId) (base : List Met) (made : Step) : Type 0 where
   pub fates : List Fate
   pub plain : List Met
   pub ops_are : map op_in fates ≡ before
@@ -154,7 +154,7 @@ pub record Went (before : List OpId) (base : List Met) (made : Step) : Type 0 wh
   pub begun : begun_of made.node.met ≡ begun_of base
 
 went : (node : Node) (own : Met) (locks durable applies : List Met) (sends : List Message) (now : Now) (before : List OpId) → All IsPlain locks → All IsPlain durable → All IsPlain applies
-    → AllBecame [] [] before now → Went before (own ∷ node.met) (step_of node own locks durable applies sends now)
+    → AllBecame [] [] before now → LedOn before (own ∷ node.met) (step_of node own locks durable applies sends now)
 went node own locks durable applies sends now before l d a came = record {
   fates = came.fates;
   plain = ((locks ++ durable) ++ applies) ++ now.valid;
@@ -175,7 +175,7 @@ first_of : (met : List Met) (stored : GroupId → ℕ) → Sofar [] [] (at_first
 first_of met stored = record { kept_are = refl; answers_are = refl; valid = nothing }
 
 -- a tick, and a message
-pub tick_went : (s : Setting) (node : Node) (now : ℕ) → Went (ids node.open_operations) (Ticks now ∷ node.met) (tick_step s node now)
+pub tick_went : (s : Setting) (node : Node) (now : ℕ) → LedOn (ids node.open_operations) (Ticks now ∷ node.met) (tick_step s node now)
 tick_went s node now =
     went node (Ticks now) (lease_notes s node.met now) (lapse_notes s node.met now) (apply_notes s node.met node.stored acc.met acc.stored)
     ((acquires_at s.cluster s.me node.met now ++ acc.sends) ++ background s node.met now) acc (ids node.open_operations)
@@ -192,7 +192,7 @@ tick_went s node now =
     acc = fold (ticked s now) first node.open_operations
 
 taken_went : (s : Setting) (node : Node) (m : Message) (ts : List Heard) (d : Option Decision) (told_news : List Message)
-    → Went (map heard_op ts) (Takes m ∷ node.met) (taken s node m (told_notes s node.met m.from m.body) ts d (reply_to s.cluster s.me node.met m) told_news)
+    → LedOn (map heard_op ts) (Takes m ∷ node.met) (taken s node m (told_notes s node.met m.from m.body) ts d (reply_to s.cluster s.me node.met m) told_news)
 taken_went s node m ts d told_news =
     went node (Takes m) (told_notes s node.met m.from m.body) (decision_note d) (apply_notes s node.met node.stored now.met now.stored) ((reply_to s.cluster s.me node.met m ++ told_news) ++ now.sends) now (map heard_op ts)
     (told_plain s node.met m.from m.body) (decision_plain d) (applies_plain s node.met node.stored now.met now.stored)
@@ -213,12 +213,12 @@ taken_by s node m ts None =
     taken s node m (told_notes s node.met m.from m.body) ts (if_new node.met (first_settled ts)) (reply_to s.cluster s.me node.met m)
     (news s (if_new node.met (first_settled ts)))
 
-by_told : (s : Setting) (node : Node) (m : Message) (ts : List Heard) (told : Option Decision) → Went (map heard_op ts) (Takes m ∷ node.met) (taken_by s node m ts told)
+by_told : (s : Setting) (node : Node) (m : Message) (ts : List Heard) (told : Option Decision) → LedOn (map heard_op ts) (Takes m ∷ node.met) (taken_by s node m ts told)
 by_told s node m ts (Some d) = taken_went s node m ts (if_new node.met (Some d)) []
 by_told s node m ts None = taken_went s node m ts (if_new node.met (first_settled ts)) (news s (if_new node.met (first_settled ts)))
 
-pub take_went : (s : Setting) (node : Node) (m : Message) → Went (ids node.open_operations) (Takes m ∷ node.met) (take_step s node m)
-take_went s node m = subst (λ before. Went before (Takes m ∷ node.met) (take_step s node m)) (heard_ops s (clock_of node.met) m node.open_operations)
+pub take_went : (s : Setting) (node : Node) (m : Message) → LedOn (ids node.open_operations) (Takes m ∷ node.met) (take_step s node m)
+take_went s node m = subst (λ before. LedOn before (Takes m ∷ node.met) (take_step s node m)) (heard_ops s (clock_of node.met) m node.open_operations)
     (by_told s node m (map (hears_message s (clock_of node.met) m) node.open_operations) (told_decision m.body))
 
 -- a begin: all that were open stay so, and the new operation stays or is answered at once
@@ -253,7 +253,7 @@ with_new open_ones op now came = record {
 }
 
 pub begin_went : (s : Setting) (node : Node) (request : Request) (text : List ℕ)
-    → Went (ids node.open_operations ++ op_of s node.met ∷ []) (Begins (op_of s node.met) text ∷ node.met) (begin_step s node request text)
+    → LedOn (ids node.open_operations ++ op_of s node.met ∷ []) (Begins (op_of s node.met) text ∷ node.met) (begin_step s node request text)
 begin_went s node request text =
     went node own [] [] (apply_notes s node.met node.stored now.met now.stored) now.sends now (ids node.open_operations ++ op_of s node.met ∷ [])
     nothing nothing (applies_plain s node.met node.stored now.met now.stored)
@@ -283,7 +283,7 @@ staying_all P [] h = All-nil P
 staying_all P (Stays op ∷ fates) h = All-cons P op (flat_map staying fates) (All-head P op (map op_in fates) h) (staying_all P fates (All-tail P op (map op_in fates) h))
 staying_all P (Ends op answer ∷ fates) h = staying_all P fates (All-tail P op (map op_in fates) h)
 
-open_all : (P : OpId → Type 0) (before : List OpId) (base : List Met) (made : Step) → Went before base made → All P before → All P (ids made.node.open_operations)
+open_all : (P : OpId → Type 0) (before : List OpId) (base : List Met) (made : Step) → LedOn before base made → All P before → All P (ids made.node.open_operations)
 open_all P before base made w h = subst (All P) (sym w.open_are) (staying_all P w.fates (subst (All P) (sym w.ops_are) h))
 
 less_is : (a b : ℕ) → nat_le a b ≡ false → b < a
@@ -305,7 +305,7 @@ next_within b last = omega arith
 abbrev pub AreBelow : Node → Type 0
 AreBelow node = All (IsBelow (min (begun_of node.met + 1) last_number)) (ids node.open_operations)
 
-pub below_still : (node : Node) (base : List Met) (made : Step) → Went (ids node.open_operations) base made → begun_of base ≡ begun_of node.met → AreBelow node → AreBelow made.node
+pub below_still : (node : Node) (base : List Met) (made : Step) → LedOn (ids node.open_operations) base made → begun_of base ≡ begun_of node.met → AreBelow node → AreBelow made.node
 below_still node base made w same h =
     subst (λ b. All (IsBelow (min (b + 1) last_number)) (ids made.node.open_operations)) (sym (w.begun ∙ same))
     (open_all (IsBelow (min (begun_of node.met + 1) last_number)) (ids node.open_operations) base made w h)
@@ -323,7 +323,7 @@ below_begun s node request text h = subst (λ b. All (IsBelow (min (b + 1) last_
     made : Step
     made = begin_step s node request text
 
-    w : Went (ids node.open_operations ++ op_of s node.met ∷ []) (Begins (op_of s node.met) text ∷ node.met) made
+    w : LedOn (ids node.open_operations ++ op_of s node.met ∷ []) (Begins (op_of s node.met) text ∷ node.met) made
     w = begin_went s node request text
 
     next : ℕ
@@ -376,7 +376,7 @@ all_answers [] = refl
 all_answers (Stays op ∷ fates) = all_answers fates
 all_answers (Ends op answer ∷ fates) = ap (λ those. Answers op answer ∷ those) (all_answers fates)
 
-fates_of : (before : List OpId) (base : List Met) (made : Step) → Went before base made → HaveFates before made
+fates_of : (before : List OpId) (base : List Met) (made : Step) → LedOn before base made → HaveFates before made
 fates_of before base made w = record {
   fates = w.fates;
   ops_are = w.ops_are;
