@@ -22,7 +22,7 @@ use Rattle.mega_wire.specs.declared.message.Message.{Message}
 use Rattle.mega_cause_laws.specs.of_run_laws.Justified.{Each}
 use Rattle.mega_cause_laws.proofs.of_run_laws.Turns.{IsRising}
 use Rattle.mega_answer_laws.proofs.Reasons.{IsSound, SoundReads}
-use Rattle.mega_answer_laws.proofs.Walk.{Acting, Turn, acting_sends, acting_up, begins_read_it, ends_at, goes_on_it, picks_group_it, picks_message_it, rests_within_it}
+use Rattle.mega_answer_laws.proofs.Walk.{Acting, acting_sends, acting_up, begins_read_it, ends_at, goes_on_it, picks_group_it, picks_message_it, rests_within_it}
 
 -- ---- acting in turn
 

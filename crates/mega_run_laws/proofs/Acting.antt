@@ -56,7 +56,7 @@ use Rattle.mega_run_laws.proofs.Causing.{found_cause, given_none, read_cause, ve
 use Rattle.mega_outcome.specs.declared.answer.Answer.TheVariants.{AllTurned, Turned}
 use Rattle.mega_run_laws.proofs.Wrote.{WroteBy, local_wrote, polled_wrote, seeks_wrote}
 use Rattle.mega_run_laws.proofs.Written.{Unproposed}
-use Rattle.mega_tape_laws.specs.Lawful.{Leads, asks as asks_leader, lowest, named}
+use Rattle.mega_tape_laws.specs.Lawful.{Leads as LeadsAt, asks as asks_leader, lowest, named}
 use Rattle.mega_tape_laws.proofs.Lists.{some_is}
 use Rattle.mega_run_laws.specs.Justified.{here, sent}
 use Rattle.mega_run_laws.proofs.Prefixes.{prefix_decided, prefix_more}
@@ -188,11 +188,11 @@ named_is : (members : List ℕ) (entry : Content) (leader : ℕ) → named_leade
 named_is members entry leader h = some_is (entry.leader).0 leader h
 
 leads_there : (users : Users) → (s : Setting) → (users.fits → Brought users.usage s.handlers) → (f : Frame) (now : Now) (op : OpId) (group : GroupId) (p leader : ℕ) → TurnAt users s f now op → p ≤ prefix_of now.met group → leader_after s now group p ≡ Some leader
-    → Leads s.cluster (tape_of f now.sends) op.node.0 (at_place group (p + 1)) leader
+    → LeadsAt s.cluster (tape_of f now.sends) op.node.0 (at_place group (p + 1)) leader
 leads_there users s brought f now op group zero leader h le e = lowest refl e
 leads_there users s brought f now op group (suc p) leader h le e =
     let d = prefix_decided now.met group (suc p) (omega arith) le in
-    subst (λ node. Leads s.cluster (tape_of f now.sends) node (at_place group (suc p + 1)) leader) (sym h.node)
+    subst (λ node. LeadsAt s.cluster (tape_of f now.sends) node (at_place group (suc p + 1)) leader) (sym h.node)
     (named (record { 0 = suc p }) d.entry (omega arith) (omega arith) (stood_sent f.next now.sends f.base _ (h.known group (suc p) d.entry d.is))
     (named_is (voters s.cluster) d.entry leader (ap (named_leader (voters s.cluster)) (sym d.is) ∙ e)))
 
@@ -216,7 +216,7 @@ proposes_there_done users s brought f now o group p asked own promised leader h 
     turn : TurnAt users s f now o.id
     turn = (h.ready).turn
 
-    leads : Leads s.cluster (tape_of f now.sends) (o.id).node.0 (at_place group (p + 1)) leader
+    leads : LeadsAt s.cluster (tape_of f now.sends) (o.id).node.0 (at_place group (p + 1)) leader
     leads = leads_there users s brought f now o.id group p leader turn h.through e
 
     t : RoundMove
