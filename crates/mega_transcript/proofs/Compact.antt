@@ -20,7 +20,7 @@ use Rattle.serde_json.specs.Read.{of_json, of_items, of_members, read, max_depth
 use Rattle.serde_json.specs.Written.{number_text, outline, items_outline, members_outline, comma_if, compact_text, items_text, members_text}
 use Rattle.serde_json.proofs.Numbers.{number_of-decimal, number_of-negative}
 use Rattle.serde_json.proofs.Texts.{print-outline}
-use Rattle.mega_json_laws.proofs.Joining.{AreBelowFirst, below_first, join, join_nil, none_below, put_last}
+use Rattle.mega_json_laws.proofs.Joining.{AreBelowFirst, below_first, join, join_nil, join_one, none_below, put_last}
 use Rattle.mega_json_laws.specs.Whole.{IsBelow}
 use Rattle.mega_transcript.specs.Requests.{json_of}
 use Rattle.mega_transcript.proofs.Forms.{lacks, decimal-lacks}

@@ -11,7 +11,7 @@ use Rattle.serde_json.specs.Find.{is_float}
 use Rattle.serde_json.specs.Read.{of_json, of_items, of_members}
 use Rattle.serde_json.specs.Written.{number_text, outline, items_outline, members_outline, has_float, items_have_float, members_have_float}
 use Rattle.serde_json.proofs.Numbers.{number_of-decimal, number_of-negative}
-use Rattle.mega_json_laws.proofs.Joining.{AreBelowFirst, below_first, join, join_nil, none_below, put_last}
+use Rattle.mega_json_laws.proofs.Joining.{AreBelowFirst, below_first, join, join_nil, join_one, none_below, put_last}
 use Rattle.mega_json_laws.specs.Whole.{AreWholeItems, AreWholeMembers, IsWhole, IsWholeNumber}
 use Rattle.mega_two_outcome_laws.proofs.Trees.{IsGood, AreGood, HasGood}
 
