@@ -260,7 +260,7 @@ module _ (s : Setting) (node : Node) (none : node.open_operations ≡ []) (other
     ends_bare : (answer : Answer) → IsBare (ends begin (op_of s node.met) answer)
     ends_bare answer = record { kept = none; sends = refl }
 
-    most : ℕ
+    abbrev most : ℕ
     most = length (groups_of begin.met) + 2
 
     read_bare : (r : ReadRequest) (mode : Mode) → is_current mode ≡ false → IsBare (rests_within most s (read_begins s begin own r mode))
