@@ -27,9 +27,9 @@ returns-in_ok-all_act-in-Ok-clause-state g c told h met stored means =
     let ts = c.heard.inside.heard in
     subst (λ (all : List Heard). All IsHeardAbout all → IsAt version h before met stored → IsAt version h new (all_act s first all).met (all_act s first all).stored) c.heard.view_is
     (λ about at.
-        let rested = c.in-Ok.ensures.state h met stored told means (all_of_unheard IsHeardAbout os (all_first IsHeardAbout (map unheard os) ts about)) at in
-        subst (λ (then : Now). IsAt version h new then.met then.stored) (acts_both s t first os ts same)
-        (c.in_ok-all_act-in-Ok.ensures.state h (all_act s first (map unheard os)) told (means_still _ _ h left.handlers means) (all_second IsHeardAbout (map unheard os) ts about) rested))
+    let rested = c.in-Ok.ensures.state h met stored told means (all_of_unheard IsHeardAbout os (all_first IsHeardAbout (map unheard os) ts about)) at in
+    subst (λ (then : Now). IsAt version h new then.met then.stored) (acts_both s t first os ts same)
+    (c.in_ok-all_act-in-Ok.ensures.state h (all_act s first (map unheard os)) told (means_still _ _ h left.handlers means) (all_second IsHeardAbout (map unheard os) ts about) rested))
 
 pub returns-in_ok-all_act-in-Ok-clause-work : goal.returns-in_ok-all_act-in-Ok-clause-work
 returns-in_ok-all_act-in-Ok-clause-work g c told h met stored means =
@@ -45,10 +45,10 @@ returns-in_ok-all_act-in-Ok-clause-work g c told h met stored means =
     let ts = c.heard.inside.heard in
     subst (λ (all : List Heard). All IsHeardAbout all → IsAt version h before met stored → c.all_act.new.work ≡ work_of (all_act s first all)) c.heard.view_is
     (λ about at.
-        let quiet = all_of_unheard IsHeardAbout os (all_first IsHeardAbout (map unheard os) ts about) in
-        c.in_ok-all_act-in-Ok.ensures.work h (all_act s first (map unheard os)) told (means_still _ _ h left.handlers means) (all_second IsHeardAbout (map unheard os) ts about)
-        (c.in-Ok.ensures.state h met stored told means quiet at) (c.in-Ok.ensures.work h met stored told means quiet at)
-        ∙ ap work_of (acts_both s t first os ts same))
+    let quiet = all_of_unheard IsHeardAbout os (all_first IsHeardAbout (map unheard os) ts about) in
+    c.in_ok-all_act-in-Ok.ensures.work h (all_act s first (map unheard os)) told (means_still _ _ h left.handlers means) (all_second IsHeardAbout (map unheard os) ts about)
+    (c.in-Ok.ensures.state h met stored told means quiet at) (c.in-Ok.ensures.work h met stored told means quiet at)
+    ∙ ap work_of (acts_both s t first os ts same))
 
 pub returns-in_ok-all_act-in-Ok-clause-leaves : goal.returns-in_ok-all_act-in-Ok-clause-leaves
 returns-in_ok-all_act-in-Ok-clause-leaves g c =
