@@ -8,6 +8,7 @@ ghost use Rattle.mega_step_parts.specs.of_leases.Opening.{AreOwed};
 ghost use Rattle.mega_step_parts.specs.of_leases.Tells.{Tells as TellsLeases};
 ghost use Rattle.mega_locks.specs.History.{nodes};
 ghost use Rattle.mega_replica.specs.Following.{Follows, progress_at};
+ghost use Rattle.mega_replica.specs.Puts.{OnlyPuts};
 ghost use Rattle.mega_replica.specs.Stored.{stored_with};
 ghost use Rattle.mega_rules.specs.Locks.{last_grant};
 ghost use Rattle.mega_rules.specs.Logs.{groups_of, log_of, prefix_of};
@@ -144,6 +145,7 @@ fn apply<R: Records, V: Versions>(
         Follows (V.version rows.old.rows) (progress_at rows.old.progress) (log_of met) stored →
         Follows (V.version rows.new.rows) (progress_at rows.new.progress) (log_of met) (stored_with stored group.now (max (stored group.now) (apply_all met group.now)))) }
     ensures prefix { IfOk result (λ prefix. (met : List Met) → Tells voter.now.logs.kept met → prefix ≡ prefix_of met group.now) }
+    ensures only { OnOk result (OnlyPuts V.Versions rows.old.rows rows.new.rows) }
 {
     let prefix = voter.prefix(group);
     match rows.apply_through(alloc, group, &voter.logs, prefix) {
@@ -173,6 +175,7 @@ fn apply_all<R: Records, V: Versions>(
         Follows (V.version rows.old.rows) (progress_at rows.old.progress) (log_of met) stored →
         Follows (V.version rows.new.rows) (progress_at rows.new.progress) (log_of met) (apply_all met)) }
     ensures notes { IfOk result (λ notes. (met : List Met) → Tells voter.now.logs.kept met → map met_of notes ≡ flat_map (start_note met) (groups_of met)) }
+    ensures only { OnOk result (OnlyPuts V.Versions rows.old.rows rows.new.rows) }
 {
     let mut notes = Items::new(alloc);
     let groups = voter.groups(alloc)?;
@@ -195,6 +198,7 @@ fn apply_where_kept<R: Records, V: Versions>(
         HaveFollowed cluster.now me (V.version rows.old.rows) (progress_at rows.old.progress) met →
         Follows (V.version rows.new.rows) (progress_at rows.new.progress) (log_of met) (applied_at_start (setting cluster.now me h) met)) }
     ensures notes { IfOk result (λ notes. (h : Meanings) (met : List Met) → Tells voter.now.logs.kept met → map met_of notes ≡ start_notes (setting cluster.now me h) met) }
+    ensures only { OnOk result (OnlyPuts V.Versions rows.old.rows rows.new.rows) }
 {
     if has_rows(cluster, me) {
         let notes = apply_all(alloc, voter, rows)?;
@@ -223,6 +227,7 @@ impl<R: Records + Drop, V: Versions + Drop> Node<R, V> {
         ensures few { OnOk result (voter.logs.kept.starts < 4294967295) }
         ensures staged { IfOk result (λ made. made.node.replica.voter.logs.staged.items ≡ voter.logs.staged.items ++ StartItem ∷ []) }
         ensures records { IfOk result (λ made. made.node.replica.voter.logs.records ≡ voter.logs.records) }
+        ensures puts { IfOk result (λ made. OnlyPuts V.Versions rows.rows made.node.replica.rows.rows) }
         ensures members { IfOk result (λ made. made.node.replica.members ≡ cluster) }
         ensures me { IfOk result (λ made. made.node.replica.me ≡ me) }
         ensures full { result ≡ Err StartsFull → voter.logs.kept.starts ≡ 4294967295 }

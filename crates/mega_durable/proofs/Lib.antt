@@ -12,3 +12,5 @@ pub mod Burning
 pub mod Refusing
 pub mod Summing
 pub mod AfterSpill
+pub mod Filled
+pub mod Recalled

@@ -104,3 +104,12 @@ pub kept_used : {V : Type 0} (store : Rows V) (old : V) (mid new : StoredRows V)
     → StoreUsed store (failed_by {T = Step} (Err refused)) old new.rows
 kept_used store old mid new made replies refused taken same used =
     coe 0 1 (i. StoreUsed store (sym (log_alone made replies refused taken) i) old (sym same i).rows) used
+
+-- what is handed back is what was there
+value_in : {X : Type 0} → X → Option X → X
+value_in other None = other
+value_in other (Some x) = x
+
+pub handed : {X : Type 0} {one two : X} → Some one ≡ Some two → one ≡ two
+unfolding value_in
+handed {X} {one} {two} is = ap (value_in one) is

@@ -6,6 +6,7 @@ pub mod Stepped
 pub mod Starting
 pub mod Compacting
 pub mod Spilling
+pub mod Filling
 pub mod Fusing
 pub use Rattle.mega_core.specs.of_actions as of_actions
 pub use Rattle.mega_core.specs as of_core

@@ -25,6 +25,7 @@ impl<R: Records, V: Versions> Down<R, V> {
     /// A node that is down over these logs, where its rows hold nothing.
     pub fn new(alloc: Global, voter: Voter<R>, rows: V) -> Down<R, V>
         ensures voter { result.voter ≡ voter }
+        ensures store { result.rows.rows ≡ rows }
         ensures rows { (c : ClusterValue) (me : ℕ) (met : List Met) → ((key : List ℕ) (n : ℕ) → V.version rows key n ≡ None) → HaveFollowed c me (V.version result.rows.rows) (progress_at result.rows.progress) met }
     {
         Down {
@@ -55,5 +56,15 @@ impl<R: Records, V: Versions> Down<R, V> {
         ensures voter { self.new.voter ≡ self.old.voter }
     {
         self.rows.rows.fuse(calls, image);
+    }
+
+    /// The records of a node that starts no more, and the store of its rows.
+    pub fn close_both(self) -> (R, V)
+        ensures records { result.0 ≡ self.voter.logs.records }
+        ensures rows { result.1 ≡ self.rows.rows }
+    {
+        let Down { voter, rows } = self;
+        let StoredRows { rows, .. } = rows;
+        (voter.close().close(), rows)
     }
 }

@@ -2,6 +2,7 @@
 ghost use Rattle.std.specs.Prelude.{◌≡◌, ◌+◌, ◌∷◌, [], ℕ, List, map, None, Some, true, false, IfOk, IfErr, MatchResult};
 ghost use Rattle.mega_disk.specs.Images.{LeavesOnly};
 ghost use Rattle.mega_handler.specs.Named.{Meanings};
+ghost use Rattle.mega_replica.specs.Puts.{OnlyPuts};
 ghost use Rattle.mega_rules.specs.Members.{is_node};
 ghost use Rattle.mega_rules.specs.Clock.{start_of};
 ghost use Rattle.mega_rules.specs.Met.{Crashes, Met, Starts};
@@ -15,6 +16,7 @@ ghost use Rattle.mega_core.specs.of_step_parts.Notes.{met_of};
 ghost use Rattle.mega_core.specs.Served.{IsServed};
 ghost use Rattle.mega_core.specs.Standing.{StandsFor};
 ghost use Rattle.mega_durable.specs.Cut.{IsCutStart, IsWhole, LogProceeds, MayLeaveStart};
+ghost use Rattle.mega_durable.specs.Spilling.{rows_in};
 ghost use Rattle.mega_durable.specs.Standing.{IsUp, MayStart, records_in};
 ghost use Rattle.mega_durable.specs.Starting.{AtEachStart, AtStarts, IsCutOff, IsRefused, LeavesStart, refused_by};
 
@@ -27,6 +29,8 @@ use mega_core::mega_actions::Replica;
 use mega_core::mega_step_parts::Note;
 use mega_core::{Node, RestartFault, Restarted};
 use mega_disk::{Records, Versions};
+use mega_replica::StoredRows;
+use mega_voter::Voter;
 use mega_wal::LogFault;
 use std::alloc::Global;
 
@@ -51,6 +55,24 @@ pub enum NotStarted<R: Records> {
     NoMemory,
 }
 
+/// Why a node did not start, and the store of its rows, where that is not lost.
+#[derive(Drop)]
+pub struct HandedBack<R: Records, V: Versions> {
+    pub why: NotStarted<R>,
+    pub rows: Option<V>,
+}
+
+/// The records of a node, and the store of its rows.
+fn into_both<R: Records + Drop, V: Versions + Drop>(node: Node<R, V>) -> (R, V)
+    ensures records { result.0 ≡ records_in node }
+    ensures rows { result.1 ≡ rows_in node }
+{
+    let Node { replica, .. } = node;
+    let Replica { voter, rows, .. } = replica;
+    let StoredRows { rows, .. } = rows;
+    (voter.close().close(), rows)
+}
+
 /// The records of a node.
 pub(crate) fn into_records<R: Records + Drop, V: Versions + Drop>(node: Node<R, V>) -> R
     ensures { result ≡ records_in node }
@@ -64,7 +86,7 @@ pub(crate) fn into_records<R: Records + Drop, V: Versions + Drop>(node: Node<R, 
 fn kept<R: Records + Drop, V: Versions + Drop>(
     alloc: Global,
     made: Restarted<R, V>,
-) -> Result<Started<R, V>, (LogFault, R)>
+) -> Result<Started<R, V>, (LogFault, R, V)>
     requires one { made.node.replica.voter.logs.staged.items ≡ StartItem ∷ [] }
     ensures stands { IfOk result (λ started. (h : Meanings) (node : RuleNode) → StandsFor V.version h made.node node → StandsFor V.version h started.up.node node) }
     ensures empty { IfOk result (λ started. started.up.node.replica.voter.logs.staged.items ≡ []) }
@@ -77,6 +99,7 @@ fn kept<R: Records + Drop, V: Versions + Drop>(
     ensures whole { R.by_four ≡ true → IfOk result (λ started. IsWhole R.Records true (records_in made.node) (records_in started.up.node)) }
     ensures burnt { R.is_told ≡ true → R.by_four ≡ true → IfErr result (λ refused. refused.0 ≡ DiskFault → AtStarts R.Records (records_in made.node) (λ starts met. IsCutStart R.Records starts met (records_in made.node) refused.1)) }
     ensures proceeds { MatchResult result (λ started. LogProceeds R.Records None (records_in made.node) (records_in started.up.node)) (λ refused. LogProceeds R.Records (Some refused.0) (records_in made.node) refused.1) }
+    ensures rows { MatchResult result (λ started. rows_in started.up.node ≡ rows_in made.node) (λ refused. refused.2 ≡ rows_in made.node) }
     ensures start { IfOk result (λ started. started.start ≡ made.start) }
     ensures notes { IfOk result (λ started. started.notes ≡ made.notes) }
     ensures members { IfOk result (λ started. started.up.node.replica.members ≡ made.node.replica.members) }
@@ -92,7 +115,8 @@ fn kept<R: Records + Drop, V: Versions + Drop>(
         }),
         Err(fault) => {
             drop(notes);
-            Err((fault, into_records(node)))
+            let (records, rows) = into_both(node);
+            Err((fault, records, rows))
         }
     }
 }
@@ -107,9 +131,86 @@ fn refused<R: Records>(fault: LogFault, records: R) -> NotStarted<R>
     NotStarted::Log { fault, records }
 }
 
+/// The node started too often.
+fn too_often<R: Records, V: Versions>(down: Down<R, V>) -> HandedBack<R, V>
+    ensures why { result.why ≡ NotStarted.StartsFull down.voter.logs.records }
+    ensures rows { result.rows ≡ Some down.rows.rows }
+    ensures puts { (left : V) → result.rows ≡ Some left → OnlyPuts V.Versions down.rows.rows left }
+{
+    let (records, rows) = down.close_both();
+    HandedBack {
+        why: NotStarted::StartsFull { records },
+        rows: Some(rows),
+    }
+}
+
+/// Why a node did not start, without its rows.
+fn without_rows<R: Records, V: Versions + Drop>(refused: HandedBack<R, V>) -> NotStarted<R>
+    ensures { result ≡ refused.why }
+{
+    let HandedBack { why, .. } = refused;
+    why
+}
+
 impl<R: Records + Drop, V: Versions + Drop> Up<R, V> {
     /// The node of this number starts once more, over the logs that its earlier starts left, of which nothing is staged, and
-    /// rows that follow these. The record of the start is kept before anything of it is given out.
+    /// rows that follow these. The record of the start is kept before anything of it is given out. A refusal hands the records and
+    /// the rows back, where they are not lost.
+    pub fn start_over(
+        alloc: Global,
+        cluster: Cluster,
+        me: u8,
+        down: Down<R, V>,
+    ) -> Result<Started<R, V>, HandedBack<R, V>>
+        requires served { IsServed cluster }
+        requires member { is_node cluster me ≡ true }
+        requires flushed { down.voter.logs.staged.items ≡ [] }
+        ensures state { IfOk result (λ made. AtEachStart R.Records V.version cluster me down (λ h starts met owed. IsUp R.Records V.version h made.up.node (start (setting cluster me h) (starts + 1) owed met))) }
+        ensures notes { IfOk result (λ made. AtEachStart R.Records V.version cluster me down (λ h starts met owed. map met_of made.notes ≡ start_notes (setting cluster me h) (onto owed (Starts (starts + 1) ∷ met)))) }
+        ensures number { IfOk result (λ made. made.start ≡ down.voter.logs.kept.starts + 1) }
+        ensures counted { IfOk result (λ made. R.count_of (records_in made.up.node) ≡ R.count_of down.voter.logs.records + 1) }
+
+        // A crash at any moment of the start leaves the records from before, or these with the record of the start.
+        ensures cut { R.is_told ≡ true → MatchResult result (λ made. AtEachStart R.Records V.version cluster me down (λ h starts met owed. LeavesOnly R.moment R.opened_since down.voter.logs.records (records_in made.up.node) (MayLeaveStart starts (onto owed met))))
+            (λ refused. AtEachStart R.Records V.version cluster me down (λ h starts met owed. LeavesStart R.Records starts (onto owed met) down.voter.logs.records refused.why)) }
+
+        // The log's fuse cuts the start exactly where it has no append left for it.
+        ensures whole { R.by_four ≡ true → IfOk result (λ made. IsWhole R.Records true down.voter.logs.records (records_in made.up.node)) }
+        ensures burnt { R.is_told ≡ true → R.by_four ≡ true → IfErr result (λ refused. AtEachStart R.Records V.version cluster me down (λ h starts met owed. IsCutOff R.Records starts (onto owed met) down.voter.logs.records refused.why)) }
+
+        ensures proceeds { MatchResult result (λ made. LogProceeds R.Records None down.voter.logs.records (records_in made.up.node)) (λ refused. IsRefused R.Records down.voter refused.why) }
+
+        // Of the store of the rows nothing changes but versions, and it is lost only where memory was wanting.
+        ensures puts { MatchResult result (λ made. OnlyPuts V.Versions down.rows.rows (rows_in made.up.node)) (λ refused. (left : V) → refused.rows ≡ Some left → OnlyPuts V.Versions down.rows.rows left) }
+        ensures lost { IfErr result (λ refused. refused.rows ≡ None → refused.why ≡ NotStarted.NoMemory) }
+
+        ensures members { IfOk result (λ made. made.up.node.replica.members ≡ cluster) }
+        ensures me { IfOk result (λ made. made.up.node.replica.me ≡ me) }
+    {
+        if down.voter.start() == u32::MAX {
+            return Err(too_often(down));
+        }
+        let Down { voter, rows } = down;
+        let made = match Node::restart(alloc, cluster, me, voter, rows) {
+            Ok(made) => made,
+            Err(_refused) => {
+                return Err(HandedBack {
+                    why: NotStarted::NoMemory,
+                    rows: None,
+                });
+            }
+        };
+        match kept(alloc, made) {
+            Ok(started) => Ok(started),
+            Err((fault, records, rows)) => Err(HandedBack {
+                why: refused(fault, records),
+                rows: Some(rows),
+            }),
+        }
+    }
+
+    /// The node of this number starts once more, over the logs that its earlier starts left, of which nothing is staged, and
+    /// rows that follow these, as `start_over` has it. A refusal hands the records back.
     pub fn start(
         alloc: Global,
         cluster: Cluster,
@@ -136,19 +237,9 @@ impl<R: Records + Drop, V: Versions + Drop> Up<R, V> {
         ensures members { IfOk result (λ made. made.up.node.replica.members ≡ cluster) }
         ensures me { IfOk result (λ made. made.up.node.replica.me ≡ me) }
     {
-        let Down { voter, rows } = down;
-        if voter.start() == u32::MAX {
-            return Err(NotStarted::StartsFull {
-                records: voter.close().close(),
-            });
-        }
-        let made = match Node::restart(alloc, cluster, me, voter, rows) {
-            Ok(made) => made,
-            Err(_refused) => return Err(NotStarted::NoMemory),
-        };
-        match kept(alloc, made) {
+        match Up::start_over(alloc, cluster, me, down) {
             Ok(started) => Ok(started),
-            Err((fault, records)) => Err(refused(fault, records)),
+            Err(refused) => Err(without_rows(refused)),
         }
     }
 
@@ -169,5 +260,14 @@ impl<R: Records + Drop, V: Versions + Drop> Up<R, V> {
     {
         let Up { node } = self;
         into_records(node)
+    }
+
+    /// The records of a node that goes on no more, and the store of its rows.
+    pub fn close_both(self) -> (R, V)
+        ensures records { result.0 ≡ records_in self.node }
+        ensures rows { result.1 ≡ rows_in self.node }
+    {
+        let Up { node } = self;
+        into_both(node)
     }
 }

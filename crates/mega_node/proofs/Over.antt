@@ -1,5 +1,5 @@
--- A node over its log device, from what the opening found to what it leaves.
-use Rattle.std.proofs.Common.{ℕ, List, Option}
+-- A node over its devices, from what the opening found to what it leaves.
+use Rattle.std.proofs.Common.{◌≡◌, ℕ, true, List, Option}
 use Rattle.mega_cluster.specs.declared.cluster.Cluster.{Cluster}
 use Rattle.mega_server.specs.of_core.of_step_parts.declared.note.Note.{Note}
 use Rattle.mega_disk.specs.declared.disk.Disk.{Ghosts as DiskGhosts}
@@ -31,27 +31,27 @@ may_turn disks steps makes c me log found one start notes may are started given 
 
 pub ran : {D S : Type 0} (disks : DiskGhosts D) (steps : StepsGhosts S) (makes : List ℕ → Option Meaning) (c : Cluster) (me turns : ℕ) (log left : D) (before after : Outside) (found : List (List ℕ)) (one last : S) (start : ℕ) (notes : List Note)
     → ((s : Setting) (node : Node) (event : Event) → MayStep s node event → steps.may_happen s node event)
-    → AreFound disks log found → HasStarted steps makes c me found one start notes → HasTurnedOn steps one last start notes turns before after
-    → ((h : Meanings) (waiting : List Waiting) (now : Served) → IsServing steps h last waiting now → KeepsMet disks left now)
+    → AreFound disks log found → (disks.is_told ≡ true → HasStarted steps makes c me found one start notes) → HasTurnedOn steps one last start notes turns before after
+    → (disks.is_told ≡ true → (h : Meanings) (waiting : List Waiting) (now : Served) → IsServing steps h last waiting now → KeepsMet disks left now)
     → AtHandlers makes (λ h. Ran disks h c me turns log left before after)
 ran disks steps makes c me turns log left before after found one last start notes may are started turned keeps h means handlers = record {
   found = found;
   are_found = are;
   given = turned.given;
   turned = turned.turned;
-  recorded = λ own. turned.recorded makes c me found started h means (may_turn disks steps makes c me log found one start notes may are started turned.given h handlers turned.turned.times own);
-  kept = λ own.
-      let serving = turned.serving makes c me found started h means (may_turn disks steps makes c me log found one start notes may are started turned.given h handlers turned.turned.times own) in
-      keeps serving.0 serving.1 _ serving.2;
+  recorded = λ told own. turned.recorded makes c me found (started told) h means (may_turn disks steps makes c me log found one start notes may are (started told) turned.given h handlers turned.turned.times own);
+  kept = λ told own.
+      let serving = turned.serving makes c me found (started told) h means (may_turn disks steps makes c me log found one start notes may are (started told) turned.given h handlers turned.turned.times own) in
+      keeps told serving.0 serving.1 _ serving.2;
 }
 
 pub halted : {D S : Type 0} (disks : DiskGhosts D) (steps : StepsGhosts S) (makes : List ℕ → Option Meaning) (c : Cluster) (me : ℕ) (log : D) (before after : Outside) (found : List (List ℕ)) (one : S) (start : ℕ) (notes : List Note)
     → ((s : Setting) (node : Node) (event : Event) → MayStep s node event → steps.may_happen s node event)
-    → AreFound disks log found → HasStarted steps makes c me found one start notes → HasTurnedOff steps one start notes before after → AtHandlers makes (λ h. Halted disks h c me log before after)
+    → AreFound disks log found → (disks.is_told ≡ true → HasStarted steps makes c me found one start notes) → HasTurnedOff steps one start notes before after → AtHandlers makes (λ h. Halted disks h c me log before after)
 halted disks steps makes c me log before after found one start notes may are started turned h means handlers = record {
   found = found;
   are_found = are;
   given = turned.given;
   begun = turned.begun;
-  stops = λ own. turned.stops makes c me found started h means (may_turn disks steps makes c me log found one start notes may are started turned.given h handlers turned.begun.times own);
+  stops = λ told own. turned.stops makes c me found (started told) h means (may_turn disks steps makes c me log found one start notes may are (started told) turned.given h handlers turned.begun.times own);
 }

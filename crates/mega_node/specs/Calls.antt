@@ -42,25 +42,26 @@ IfOwn h c number found given Is =
 
 -- the log holds what the node met
 abbrev pub KeepsMet : {D : Type 0} → DiskGhosts D → D → Served → Type 0
-KeepsMet disks log now = disks.is_told ≡ true → HoldsMet (list_of (disks.seen log)) (start_of now.node.met) now.node.met
+KeepsMet disks log now = HoldsMet (list_of (disks.seen log)) (start_of now.node.met) now.node.met
 
--- the node of this number started over what its log held and made so many turns, those that clock and link tell: its record is held, what stands
--- there was sent, and its log holds what it met
+-- the node of this number started over what its log held and made so many turns, those that clock and link tell: where its devices tell what they hold,
+-- its record is held, what stands there was sent, and its log holds what it met. Of devices that tell nothing, as files, its reads of its rows are told by
+-- none of these
 pub record Ran {D : Type 0} (disks : DiskGhosts D) (h : Meanings) (c : Cluster) (number turns : ℕ) (log left : D) (before after : Outside) : Type 0 where
   pub found : List (List ℕ)
   pub are_found : AreFound disks log found
   pub given : List (ℕ × Option Datagram)
   pub turned : HasTurned turns before.readings after.readings before.taken after.taken given
-  pub recorded : IfOwn h c number found given (λ now. GoesOn c.schema before.held after.held before.sent after.sent now.lines)
-  pub kept : IfOwn h c number found given (KeepsMet disks left)
+  pub recorded : disks.is_told ≡ true → IfOwn h c number found given (λ now. GoesOn c.schema before.held after.held before.sent after.sent now.lines)
+  pub kept : disks.is_told ≡ true → IfOwn h c number found given (KeepsMet disks left)
 
--- it started, began turns, and ended on its way: a front of its record is held, and what was sent stands in it
+-- it started, began turns, and ended on its way: where its devices tell what they hold, a front of its record is held, and what was sent stands in it
 pub record Halted {D : Type 0} (disks : DiskGhosts D) (h : Meanings) (c : Cluster) (number : ℕ) (log : D) (before after : Outside) : Type 0 where
   pub found : List (List ℕ)
   pub are_found : AreFound disks log found
   pub given : List (ℕ × Option Datagram)
   pub begun : HasBegun before.readings after.readings before.taken after.taken given
-  pub stops : IfOwn h c number found given (λ now. Stops c.schema before.held after.held before.sent after.sent now.lines)
+  pub stops : disks.is_told ≡ true → IfOwn h c number found given (λ now. Stops c.schema before.held after.held before.sent after.sent now.lines)
 
 -- the same, in the cluster of the header
 abbrev pub HasRun : {D : Type 0} → DiskGhosts D → Meanings → ℕ → ℕ → Option (List ℕ) → D → D → Outside → Outside → Type 0

@@ -6,3 +6,4 @@ pub mod Logs
 pub mod Calls
 pub mod Starting
 pub mod Serving
+pub use Rattle.mega_serve.specs.Causes

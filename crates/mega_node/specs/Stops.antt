@@ -16,11 +16,29 @@ IsOpeningStop (BadRecord number) = Unit {0}
 IsOpeningStop NoMemory = Unit {0}
 IsOpeningStop _ = ⊥
 
--- a fault of the device, a log that is full, a node that started too often, or want of memory
+-- a fault of the rows' device, a file of rows that is full, bytes of it that are none of the format, or want of memory
+abbrev pub IsRowsStop : Stop → Type 0
+IsRowsStop Device = Unit {0}
+IsRowsStop (Full length) = Unit {0}
+IsRowsStop Unformed = Unit {0}
+IsRowsStop NoMemory = Unit {0}
+IsRowsStop _ = ⊥
+
+-- what is met as the devices are opened: the same, or a record of the log that is none of the format
+abbrev pub IsDevicesStop : Stop → Type 0
+IsDevicesStop Device = Unit {0}
+IsDevicesStop (Full length) = Unit {0}
+IsDevicesStop Unformed = Unit {0}
+IsDevicesStop (BadRecord number) = Unit {0}
+IsDevicesStop NoMemory = Unit {0}
+IsDevicesStop _ = ⊥
+
+-- a fault of a device, a file that is full, a run that is none of the format, a node that started too often, or want of memory
 abbrev pub IsStartStop : Stop → Type 0
 IsStartStop Device = Unit {0}
 IsStartStop (Full length) = Unit {0}
 IsStartStop StartsFull = Unit {0}
+IsStartStop Unformed = Unit {0}
 IsStartStop NoMemory = Unit {0}
 IsStartStop _ = ⊥
 
@@ -31,7 +49,7 @@ IsWriteStop Unformed = Unit {0}
 IsWriteStop NoMemory = Unit {0}
 IsWriteStop _ = ⊥
 
--- a fault of the device or of the sink, a log that is full, what is none of the formats, or want of memory
+-- a fault of a device or of the sink, a file that is full, what is none of the formats, or want of memory
 abbrev pub IsServeStop : Stop → Type 0
 IsServeStop Device = Unit {0}
 IsServeStop Sink = Unit {0}

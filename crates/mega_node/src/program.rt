@@ -12,7 +12,9 @@ ghost use Rattle.mega_wal.specs.Records.{first_bad, history_of};
 ghost use Rattle.mega_node.specs.Calls.{AtHandlers, HasRun, IsCut};
 ghost use Rattle.mega_node.specs.Headers.{IsBroken, IsHeaded, header_line};
 ghost use Rattle.mega_node.specs.Outside.{OnlyWrites, told_by};
+ghost use Rattle.mega_node.specs.Starting.{counts_of};
 ghost use Rattle.mega_node.specs.Stops.{IsBeforeOpening, IsBehindHeader, IsHeaderStop, IsNoRule, IsTellingStop};
+ghost use Rattle.mega_serve.specs.Causes.{HaveFailed, HaveGone};
 
 use crate::heading::read_members;
 use crate::running::run_over;
@@ -87,7 +89,7 @@ fn tell<O: Sink>(alloc: Global, stop: Stop, out: &mut O) -> Stop
 }
 
 /// Runs the node of this number for so many turns over these devices, with these handlers, in the cluster of the header: it binds
-/// the link to its address, starts over what the log holds, and is served.
+/// the link to its address, makes its rows anew from what the log holds, starts over both, and is served.
 pub fn run_node<I: Source, O: Sink, D: Disk + Drop, L: Link, C: Clock, H: QueueHandlers + Drop>(
     alloc: Global,
     number: Number,
@@ -99,20 +101,21 @@ pub fn run_node<I: Source, O: Sink, D: Disk + Drop, L: Link, C: Clock, H: QueueH
     clock: &mut C,
     handlers: H,
 ) -> Outcome<D>
-    // With all turns made the sink holds the whole record, the link sent what stands in it, and the log holds what the node met.
+    // With all turns made the sink holds the whole record, the link sent what stands in it, and the log holds what the node met, where the
+    // devices tell what they hold.
     ensures ran { OnOk result.ended ((left : Devices D) × (result.devices ≡ Some left) × AtHandlers (H.meant handlers) (λ h. HasRun D.Disk h number.of turns (I.left input.old) devices.log left.log (told_by L.Link C.Clock O.Sink link.old clock.old out.old) (told_by L.Link C.Clock O.Sink link.new clock.new out.new))) }
 
     // A header that breaks a rule is told of in the last line, and nothing else is done.
     ensures header { (rule : ℕ) → result.ended ≡ Err (Stop.Header rule) → IsBroken number.of (I.left input.old) rule × OnlyWrites (told_by L.Link C.Clock O.Sink link.old clock.old out.old) (told_by L.Link C.Clock O.Sink link.new clock.new out.new) (λ held more_held. Appends held more_held (header_line rule)) }
     ensures headed { IfErr result.ended (λ stop. IsBehindHeader stop → (c : Members) × IsHeaded number.of (I.left input.old) c) }
 
-    // At any other end a front of what there was to write is held.
+    // At any other end a front of what there was to write is held; of the record of the turns where the devices tell what they hold.
     ensures cut { IfErr result.ended (λ stop. IsNoRule stop → AtHandlers (H.meant handlers) (λ h. IsCut D.Disk h number.of (I.left input.old) devices.log (told_by L.Link C.Clock O.Sink link.old clock.old out.old) (told_by L.Link C.Clock O.Sink link.new clock.new out.new))) }
 
     // Why it ends.
     ensures source { result.ended ≡ Err Stop.Source → Rose (I.faults input.old) (I.faults input.new) × HeaderFails (I.left input.old) (I.left input.new) }
     ensures sink { result.ended ≡ Err Stop.Sink → Rose (O.faults out.old) (O.faults out.new) }
-    ensures device { result.ended ≡ Err Stop.Device → (left : Devices D) × (result.devices ≡ Some left) × Rose (D.faults devices.log) (D.faults left.log) }
+    ensures device { result.ended ≡ Err Stop.Device → (left : Devices D) × (result.devices ≡ Some left) × HaveFailed (counts_of D.faults devices) (counts_of D.faults left) }
     ensures link { result.ended ≡ Err Stop.Link → Rose (L.faults link.old) (L.faults link.new) }
     ensures full { (length : ℕ) → result.ended ≡ Err (Stop.Full length) → 2 ^ 40 < length }
     ensures starts { result.ended ≡ Err Stop.StartsFull → D.is_told ≡ true → starts_of (history_of (list_of (D.seen devices.log))) ≡ 4294967295 }
@@ -120,20 +123,18 @@ pub fn run_node<I: Source, O: Sink, D: Disk + Drop, L: Link, C: Clock, H: QueueH
 
     // What it leaves.
     ensures lost { result.devices ≡ None → result.ended ≡ Err Stop.NoMemory }
-    ensures runs { (left : Devices D) → result.devices ≡ Some left → left.runs ≡ devices.runs }
-    ensures log { (left : Devices D) → result.devices ≡ Some left → D.faults devices.log ≤ D.faults left.log }
+    ensures later { (left : Devices D) → result.devices ≡ Some left → HaveGone (counts_of D.faults devices) (counts_of D.faults left) }
     ensures unopened { IfErr result.ended (λ stop. IsBeforeOpening stop → result.devices ≡ Some devices) }
     ensures inputs { I.faults input.old ≤ I.faults input.new }
     ensures outs { O.faults out.old ≤ O.faults out.new }
 {
-    let Pair { log, runs } = devices;
     let cluster = match read_members(alloc, number.get(), input) {
         Ok(cluster) => cluster,
         Err(stop) => {
             drop(handlers);
             return Outcome {
                 ended: Err(tell(alloc, stop, out)),
-                devices: Some(Pair { log, runs }),
+                devices: Some(devices),
             };
         }
     };
@@ -144,16 +145,12 @@ pub fn run_node<I: Source, O: Sink, D: Disk + Drop, L: Link, C: Clock, H: QueueH
             drop(handlers);
             return Outcome {
                 ended: Err(Stop::Link),
-                devices: Some(Pair { log, runs }),
+                devices: Some(devices),
             };
         }
     }
-    let (ended, left) = run_over(
-        alloc, number, turns, cluster, log, handlers, link, clock, out,
+    let (ended, devices) = run_over(
+        alloc, number, turns, cluster, devices, handlers, link, clock, out,
     );
-    let devices = match left {
-        Some(log) => Some(Pair { log, runs }),
-        None => None,
-    };
     Outcome { ended, devices }
 }

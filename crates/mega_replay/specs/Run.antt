@@ -19,8 +19,10 @@ use Rattle.mega_replay_output.specs.LastLines.{header_line, limit_line, refused_
 use Rattle.mega_replay_output.specs.Statuses.{IsCutStatus}
 use Rattle.mega_replay_loop.specs.Replaying.{InputIsBroken, InputIsCut, InputIsDone, InputIsFailed, InputIsNoEvent, InputIsPastLast, InputIsRefused}
 use Rattle.mega_node.specs.Calls.{HasRun, IsCut}
+use Rattle.mega_node.specs.Causes.{HaveFailed, HaveGone}
 use Rattle.mega_node.specs.Headers.{IsBroken, IsHeaded, header_line as node_header_line}
 use Rattle.mega_node.specs.Outside.{OnlyWrites, Outside}
+use Rattle.mega_node.specs.Starting.{counts_of}
 use Rattle.mega_backup_words.specs.Backing.{BacksUp}
 use Rattle.mega_backup_words.specs.Endings.{is_cut as is_backup_cut}
 use Rattle.mega_backup_words.specs.Inputs.{restore_of}
@@ -57,19 +59,18 @@ pub record HasReplayed (report : Report) (input rest before after : Option (List
   pub cut : IsCutStatus status → IfKnown input (λ input. InputIsCut report input (AppendsFront before after))
 
 -- `node`: the node of this number was to make so many turns, with these handlers, and ended with this status. With all turns made its record is held, what stands there was
--- sent, and its log holds what it met; a header that breaks a rule is told of, and nothing else is done; at every other end a front of what there
--- was to write is held. Devices that fail are handed back, as are all others but where memory was wanting
+-- sent, and its log holds what it met, where its devices tell what they hold; a header that breaks a rule is told of, and nothing else is done; at every other end
+-- a front of what there was to write is held. Devices that fail are handed back, as are all others but where memory was wanting
 pub record HasRunNode {D : Type 0} (disks : DiskGhosts D) (h : Meanings) (number turns : ℕ) (input rest : Option (List ℕ)) (devices : Pair D) (handed : Option (Pair D)) (before after : Outside) (status : ℕ) : Type 0 where
   pub ran : status ≡ 0 → (left : Pair D) × (handed ≡ Some left) × HasRun disks h number turns input devices.log left.log before after
   pub header : status ≡ 3 → (rule : ℕ) × IsBroken number input rule × OnlyWrites before after (λ held more_held. Appends held more_held (node_header_line rule))
   pub headed : IsBehindHeader status → (c : Cluster) × IsHeaded number input c
   pub cut : status ≢ 0 → status ≢ 3 → IsCut disks h number input devices.log before after
   pub source : status ≡ 5 → HeaderFails input rest
-  pub device : status ≡ 7 → (left : Pair D) × (handed ≡ Some left) × Rose (disks.faults devices.log) (disks.faults left.log)
+  pub device : status ≡ 7 → (left : Pair D) × (handed ≡ Some left) × HaveFailed (counts_of disks.faults devices) (counts_of disks.faults left)
   pub bad : status ≡ 16 → disks.is_told ≡ true → (n : ℕ) × (first_bad (list_of (disks.seen devices.log)) ≡ Some n)
   pub unopened : IsBeforeOpening status → handed ≡ Some devices
-  pub runs : (left : Pair D) → handed ≡ Some left → left.runs ≡ devices.runs
-  pub later : (left : Pair D) → handed ≡ Some left → disks.faults devices.log ≤ disks.faults left.log
+  pub later : (left : Pair D) → handed ≡ Some left → HaveGone (counts_of disks.faults devices) (counts_of disks.faults left)
   pub lost : handed ≡ None → status ≡ 8
 
 -- `backup`: a backup of a group through a position was asked for, from the log of the node of this number, and ended with this status: unless a call failed or

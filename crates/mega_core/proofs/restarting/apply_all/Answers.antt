@@ -4,6 +4,7 @@ use Rattle.std.proofs.lemmas.List.{nil_from_length}
 use Rattle.mega_base.specs.declared.names.GroupId.{GroupId}
 use Rattle.mega_rules.specs.Steps.{start_note}
 use Rattle.mega_replica.specs.Following.{progress_at}
+use Rattle.mega_replica.proofs.Only.{only_here, only_then}
 use Rattle.mega_step_parts.specs.Notes.{met_of}
 use Rattle.mega_rules.proofs.Left.{one_less}
 use Rattle.mega_core.proofs.Anew.{AppliedSo, applied_first, applied_last, applied_next, noted}
@@ -16,6 +17,7 @@ loop-group-init g c = record {
       subst (AppliedSo (g.V.Versions.version c.args.rows.now.rows) (progress_at c.args.rows.now.progress) met) (sym (c.into_iter-group-iterator.ensures.into_iter_gives.0 ∙ c.in_ok-groups.ensures met tells))
       (applied_first (g.V.Versions.version c.args.rows.now.rows) (progress_at c.args.rows.now.progress) met stored follows);
   notes = λ met tells. (λ i. map met_of (c.new-notes.ensures i) ++ flat_map (start_note met) ((c.into_iter-group-iterator.ensures.into_iter_gives.0 ∙ c.in_ok-groups.ensures met tells) i));
+  only = only_here g.V.Versions c.args.rows.now.rows;
 }
 
 pub loop-group-preserved : goal.loop-group-preserved
@@ -30,6 +32,7 @@ loop-group-preserved g c = record {
   notes = λ met tells.
       noted met c.in-Some.group c.in_ok-position.position (map met_of c.loop-group.notes) (map met_of c.note.new.notes) (into_iter_items c.loop-group.group-iterator) (into_iter_items c.next.new.self)
       (c.in_ok-position.ensures.prefix met tells) c.in_ok-note.ensures c.in-Some.ensures.steps.0 (c.loop-group.invariant.notes met tells);
+  only = only_then g.V.Versions c.args.rows.now.rows c.loop-group.rows.rows c.apply.new.rows.rows c.loop-group.invariant.only c.in_ok-position.ensures.only;
 }
 
 pub returns-clause-follows : goal.returns-clause-follows

@@ -1,6 +1,7 @@
 use Rattle.std.proofs.Common.{◌≡◌, ◌∙◌, ℕ, true, false, ap, cond, subst, sym}
 use Rattle.mega_base.specs.declared.names.GroupId.{GroupId}
 use Rattle.mega_replica.specs.Following.{Follows, progress_at}
+use Rattle.mega_replica.proofs.Only.{only_here}
 use Rattle.mega_rules.specs.Logs.{log_of}
 use Rattle.mega_rules.specs.Members.{has_rows}
 use Rattle.mega_rules.specs.Steps.{apply_all}
@@ -19,3 +20,6 @@ returns-clause-follows g c = λ h met tells have.
     let none : has_rows c.args.cluster.now c.args.me ≡ false = sym c.has_rows.ensures ∙ c.if-has_rows.false in
     subst (λ (counts : GroupId → ℕ). Follows (g.V.Versions.version old.rows) (progress_at old.progress) (log_of met) counts)
     (λ i group. (have.bare none group ∙ ap (λ t. cond t (apply_all met group) 0) (sym none)) i) have.follows
+
+pub returns-clause-only : goal.returns-clause-only
+returns-clause-only g c = only_here g.V.Versions c.args.rows.now.rows

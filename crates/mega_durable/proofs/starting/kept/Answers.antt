@@ -52,7 +52,7 @@ returns-in-Ok-clause-cut g c = λ seen ready starts met few holds.
 
 pub returns-in-Err-clause-cut : goal.returns-in-Err-clause-cut
 returns-in-Err-clause-cut g c = λ seen ready starts met few holds.
-    subst (λ (one : _). LeavesOnly g.R.Records.moment g.R.Records.opened_since (records_in c.args.made.node) one (MayLeaveStart starts met)) (sym c.into_records.ensures)
+    subst (λ (one : _). LeavesOnly g.R.Records.moment g.R.Records.opened_since (records_in c.args.made.node) one (MayLeaveStart starts met)) (sym c.into_both-records.ensures.records)
     (leaves_weaker g.R.Records.moment g.R.Records.opened_since (records_in c.args.made.node) c.flush.new.self.logs.records _ (MayLeaveStart starts met) (λ found. left_by_start starts met _ found c.requires.one few)
     (c.in-Err.ensures.any_moment seen ready starts met met holds (same_goes starts met _ c.requires.one few holds.later holds.honest)))
 
@@ -61,7 +61,7 @@ returns-in-Ok-clause-proceeds g c = (length (record_text c.args.made.node.replic
 
 pub returns-in-Err-clause-proceeds : goal.returns-in-Err-clause-proceeds
 returns-in-Err-clause-proceeds g c =
-    subst (λ (one : _). LogProceeds g.R.Records (Some c.in-Err.fault) (records_in c.args.made.node) one) (sym c.into_records.ensures) (length (record_text c.args.made.node.replica.voter.logs.staged.items), c.in-Err.ensures.used)
+    subst (λ (one : _). LogProceeds g.R.Records (Some c.in-Err.fault) (records_in c.args.made.node) one) (sym c.into_both-records.ensures.records) (length (record_text c.args.made.node.replica.voter.logs.staged.items), c.in-Err.ensures.used)
 
 pub returns-in-Ok-clause-whole : goal.returns-in-Ok-clause-whole
 returns-in-Ok-clause-whole g c = λ four.
@@ -73,7 +73,7 @@ returns-in-Err-clause-burnt g c = λ seen four is starts met few holds.
     let old = records_in c.args.made.node in
     let new = c.flush.new.self.logs.records in
     let staged = c.args.made.node.replica.voter.logs.staged.items in
-    subst (λ (one : _). IsCutStart g.R.Records starts met old one) (sym c.into_records.ensures) (record {
+    subst (λ (one : _). IsCutStart g.R.Records starts met old one) (sym c.into_both-records.ensures.records) (record {
       burnt = burnt_is g.R.Records true staged old new (ap (λ (items : List JournalItem). length (flushed items)) c.requires.one)
           (λ none. false≢true (c.in-Err.ensures.nothing none).0) (c.in-Err.ensures.short four (ap Err is)) (c.in-Err.ensures.burnt four (ap Err is));
       holds = cut_start_holds starts met staged (g.R.Records.list new) (keeps_record (g.R.Records.fuse_left old) (g.R.Records.fuse_image old)) c.requires.one few

@@ -1,13 +1,12 @@
-use Rattle.std.proofs.Common.{◌≡◌, Err, ap, refl, subst, sym, true, ◌∙◌}
-use Rattle.std.specs.Prelude.{option_map}
+use Rattle.std.proofs.Common.{◌≡◌, Err, ap, refl, subst, true}
 use Rattle.mega_rules.specs.Members.{is_node}
 use Rattle.mega_node.specs.declared.stop.Stop.TheVariants.{Header}
 use Rattle.mega_node.specs.Headers.{IsBroken}
 use Rattle.mega_node.specs.Outside.{told_by}
+use Rattle.mega_node.specs.Starting.{counts_of}
 use Rattle.mega_node.proofs.Called.{device_back, has_run, is_cut}
 use Rattle.mega_node.proofs.Members.{is_member, is_served}
 use Rattle.mega_node.proofs.program.run_node.Goals as goal
-use Rattle.mega_node.proofs.program.run_node.Goals.{in-None, in-Some}
 
 pub returns-in-Err-clause-header : goal.returns-in-Err-clause-header
 returns-in-Err-clause-header g c rule is =
@@ -23,12 +22,9 @@ run_over-ended-requires-clause-member g c = subst (λ n. is_node c.in-Ok.cluster
 
 pub returns-clause-ran : goal.returns-clause-ran
 returns-clause-ran g c =
-    let runs = c.args.devices.runs in
-    let same : c.match-left.devices ≡ option_map (λ log. record { log = log; runs = runs }) c.run_over-ended.result.1 =
-    elim c.match-left.branch [ in-Some w ↦ w.devices-is ∙ ap (option_map (λ log. record { log = log; runs = runs })) (sym w.in-Some.is) | in-None w ↦ w.devices-is ∙ ap (option_map (λ log. record { log = log; runs = runs })) (sym w.in-None.is) ] in
     has_run g.D.Disk (g.H.QueueHandlers.meant c.args.handlers) c.get.result c.args.number.of c.args.turns (g.I.Source.left c.args.input.now) c.args.devices.log
     (told_by g.L.Link g.C.Clock g.O.Sink c.args.link.now c.args.clock.now c.args.out.now) (told_by g.L.Link g.C.Clock g.O.Sink c.bind.new.self c.args.clock.now c.args.out.now) _ c.in-Ok.cluster
-    c.match-left.devices c.run_over-ended.result.1 runs c.run_over-ended.result.0 same
+    c.run_over-ended.result.1 c.run_over-ended.result.0
     (λ i. record { readings = g.C.Clock.readings c.args.clock.now; taken = c.bind.ensures.taken i; sent = c.bind.ensures.sent i; held = g.O.Sink.held c.args.out.now })
     c.get.ensures.number c.in-Ok.ensures.headed c.run_over-ended.ensures.ran
 
@@ -40,8 +36,4 @@ returns-clause-cut g c =
     c.get.ensures.number c.in-Ok.ensures.headed c.run_over-ended.ensures.cut
 
 pub returns-clause-device : goal.returns-clause-device
-returns-clause-device g c is =
-    let runs = c.args.devices.runs in
-    let same : c.match-left.devices ≡ option_map (λ log. record { log = log; runs = runs }) c.run_over-ended.result.1 =
-    elim c.match-left.branch [ in-Some w ↦ w.devices-is ∙ ap (option_map (λ log. record { log = log; runs = runs })) (sym w.in-Some.is) | in-None w ↦ w.devices-is ∙ ap (option_map (λ log. record { log = log; runs = runs })) (sym w.in-None.is) ] in
-    device_back g.D.Disk.faults (g.D.Disk.faults c.args.devices.log) c.match-left.devices c.run_over-ended.result.1 runs c.run_over-ended.result.0 same c.run_over-ended.ensures.back is
+returns-clause-device g c is = device_back g.D.Disk.faults (counts_of g.D.Disk.faults c.args.devices) c.run_over-ended.result.1 c.run_over-ended.result.0 c.run_over-ended.ensures.back is

@@ -37,7 +37,6 @@ returns-clause-node g c = λ h means handlers.
           let record_of = bad_by ended (sym status ∙ is) in
           (record_of.0, c.run_node-outcome.ensures.bad record_of.0 record_of.1 told);
       unopened = λ is. before_by ended _ (subst IsBeforeOpening status is) c.run_node-outcome.ensures.unopened;
-      runs = c.run_node-outcome.ensures.runs;
-      later = c.run_node-outcome.ensures.log;
+      later = c.run_node-outcome.ensures.later;
       lost = λ none. status ∙ ap ended_with (c.run_node-outcome.ensures.lost none);
     }
