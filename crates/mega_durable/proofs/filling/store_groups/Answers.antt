@@ -38,7 +38,7 @@ returns-in-Err-clause-used g c =
 pub returns-clause-stores : goal.returns-clause-stores
 returns-clause-stores g c = λ lists. record {
   follows = λ told none met stored tells follows.
-      let left : into_iter_items c.loop-group.group-iterator ≡ [] = nil_from_length {xs = into_iter_items c.loop-group.group-iterator} (sym c.loop-group.invariant.count ∙ c.in-None.ensures.steps.0) in
+      let left : into_iter_items c.loop-group.group-iterator ≡ [] = nil_from_length (into_iter_items c.loop-group.group-iterator) (sym c.loop-group.invariant.count ∙ c.in-None.ensures.steps.0) in
       let version = g.V.Versions.version c.loop-group.rows.rows in
       let progress = progress_at c.loop-group.rows.progress in
       applied_last version progress met (subst (AppliedSo version progress met) left (c.loop-group.invariant.all told none met stored tells (lists met tells) follows));
