@@ -1,5 +1,6 @@
 #!/usr/bin/env python3
-"""Prints what the READMEs of crates leave out: public calls that are not named, those with a `requires` first, and sections.
+"""Prints what the READMEs of crates leave out: public calls that are not named, those with a `requires` first, and sections;
+and the files and the modules of definitions that they name and their crates have not.
 
 Usage, at the top of the repository: docs/check_readmes.py [CRATE ..]
 """
@@ -13,6 +14,8 @@ BODY = re.compile(r"^\s*\{", re.MULTILINE)
 IMPL = re.compile(r"^impl(?:<[^\n{]*?>)?\s+(?:[\w:<>, ]+ for )?(\w+)", re.MULTILINE)
 EXPORT = re.compile(r"^pub use (?:\w+::)+(?:\{([^}]*)\}|(\w+))\s*;", re.MULTILINE)
 SECTIONS = ("reading order", "no clause says")
+FILE = re.compile(r"`(\w+\.rt)`")
+MODULES = re.compile(r"((?:`\w+`(?:, | and )?)+) \(specs\)")
 
 
 def exported(crate):
@@ -49,10 +52,20 @@ def left_out(crate):
             yield f"no section: {section}"
 
 
+def not_there(crate):
+    readme = (crate / "README.md").read_text()
+    for name in FILE.findall(readme):
+        if not any(crate.glob(f"src/**/{name}")):
+            yield f"no file: {name}"
+    for name in re.findall(r"`(\w+)`", " ".join(MODULES.findall(readme))):
+        if not any(crate.glob(f"specs/**/{name}.antt")):
+            yield f"no module of definitions: {name}"
+
+
 def main():
     crates = sys.argv[1:] or sorted(path.parent.name for path in TOP.glob("crates/*/README.md"))
     for name in crates:
-        for line in left_out(TOP / "crates" / name):
+        for line in [*left_out(TOP / "crates" / name), *not_there(TOP / "crates" / name)]:
             print(f"{name}: {line}")
 
 

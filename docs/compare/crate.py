@@ -83,7 +83,7 @@ class ScratchCrate:
             "use Rattle.std.specs.Prelude.{ℕ, List, [], ◌∷◌, ◌++◌, codes}",
             "use Rattle.mega_cluster.specs.Header.{read_of}",
             "use Rattle.mega_promises.specs.Runs.{AsItWas, Recorded}",
-            f"use Rattle.{NAME}.specs.Told.{{DataCut, replayed, without_mark}}",
+            f"use Rattle.{NAME}.specs.Computed.{{DataCut, replayed, without_mark}}",
             "",
             "abbrev pub header : List ℕ",
             f"header = {text_of(case.header)}",
@@ -99,7 +99,7 @@ class ScratchCrate:
     def source(self, claim):
         return f"""//! {claim.name}
 ghost use Rattle.std.specs.Prelude.{{◌≡◌, None, Some, take}};
-ghost use Rattle.{NAME}.specs.Told.{{first_other}};
+ghost use Rattle.{NAME}.specs.Computed.{{first_other}};
 ghost use Rattle.{NAME}.specs.Given_{claim.case.name}.{{expected, told}};
 
 /// The run of the definitions is told by this transcript.
@@ -132,8 +132,8 @@ pub fn agrees()
         cases = sorted({it.case.name: it.case for it in claims}.items())
         modules = "".join(f"pub mod case_{it.name};\n" for it in claims)
         write(self.folder / "src/lib.rt", f"//! Cases, as contracts of functions that do nothing.\n#![tactic(auto)]\n\n{modules}")
-        write(self.folder / "specs/Lib.antt", "pub mod Told\n" + "".join(f"pub mod Given_{name}\n" for name, _ in cases))
-        write(self.folder / "specs/Told.antt", (pathlib.Path(__file__).parent / "told.txt").read_text(encoding="utf-8"))
+        write(self.folder / "specs/Lib.antt", "pub mod Computed\n" + "".join(f"pub mod Given_{name}\n" for name, _ in cases))
+        write(self.folder / "specs/Computed.antt", (pathlib.Path(__file__).parent / "computed.txt").read_text(encoding="utf-8"))
         for name, case in cases:
             write(self.folder / f"specs/Given_{name}.antt", self.given(case))
         for claim in claims:

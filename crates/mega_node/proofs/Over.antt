@@ -17,6 +17,9 @@ use Rattle.mega_turn_laws.proofs.Turns.{may_serve}
 use Rattle.mega_node_laws.specs.Own.{HasOwnRows}
 use Rattle.mega_promises.specs.Runs.{setting}
 use Rattle.mega_promises.specs.Served.{Served}
+use Rattle.mega_reply_laws.proofs.Serving.{are_replied}
+use Rattle.mega_serve.specs.Wishes.{wish_of}
+use Rattle.mega_wal.specs.Records.{history_of}
 use Rattle.mega_node.specs.Calls.{AtHandlers, Halted, KeepsMet, Ran, served_over, started_over}
 use Rattle.mega_node.specs.Logs.{AreFound}
 use Rattle.mega_node.specs.Outside.{Outside}
@@ -43,6 +46,7 @@ ran disks steps makes c me turns log left before after found one last start note
   kept = λ told own.
       let serving = turned.serving makes c me found (started told) h means (may_turn disks steps makes c me log found one start notes may are (started told) turned.given h handlers turned.turned.times own) in
       keeps told serving.0 serving.1 _ serving.2;
+  replied = are_replied c me (wish_of c.schema me) h (history_of found) (turns_of h turned.given);
 }
 
 pub halted : {D S : Type 0} (disks : DiskGhosts D) (steps : StepsGhosts S) (makes : List ℕ → Option Meaning) (c : Cluster) (me : ℕ) (log : D) (before after : Outside) (found : List (List ℕ)) (one : S) (start : ℕ) (notes : List Note)

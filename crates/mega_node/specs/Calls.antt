@@ -11,6 +11,7 @@ use Rattle.mega_meanings.specs.Means.{Means}
 use Rattle.mega_node_laws.specs.Own.{HasOwnRows}
 use Rattle.mega_promises.specs.Runs.{setting}
 use Rattle.mega_promises.specs.Served.{Served, Turn, served, served_start}
+use Rattle.mega_reply_laws.specs.Requests.{AreReplied}
 use Rattle.mega_rules.specs.Clock.{start_of}
 use Rattle.mega_rules.specs.Logs.{log_of}
 use Rattle.mega_rules.specs.Operations.{Setting}
@@ -45,8 +46,8 @@ abbrev pub KeepsMet : {D : Type 0} → DiskGhosts D → D → Served → Type 0
 KeepsMet disks log now = HoldsMet (list_of (disks.seen log)) (start_of now.node.met) now.node.met
 
 -- the node of this number started over what its log held and made so many turns, those that clock and link tell: where its devices tell what they hold,
--- its record is held, what stands there was sent, and its log holds what it met. Of devices that tell nothing, as files, its reads of its rows are told by
--- none of these
+-- its record is held, what stands there was sent, and its log holds what it met; and each request of a client got one reply at most. Of devices that tell
+-- nothing, as files, its reads of its rows are told by none of these
 pub record Ran {D : Type 0} (disks : DiskGhosts D) (h : Meanings) (c : Cluster) (number turns : ℕ) (log left : D) (before after : Outside) : Type 0 where
   pub found : List (List ℕ)
   pub are_found : AreFound disks log found
@@ -54,6 +55,7 @@ pub record Ran {D : Type 0} (disks : DiskGhosts D) (h : Meanings) (c : Cluster) 
   pub turned : HasTurned turns before.readings after.readings before.taken after.taken given
   pub recorded : disks.is_told ≡ true → IfOwn h c number found given (λ now. GoesOn c.schema before.held after.held before.sent after.sent now.lines)
   pub kept : disks.is_told ≡ true → IfOwn h c number found given (KeepsMet disks left)
+  pub replied : AreReplied c number (wish_of c.schema number) (served_over (setting c h number) found (turns_of h given))
 
 -- it started, began turns, and ended on its way: where its devices tell what they hold, a front of its record is held, and what was sent stands in it
 pub record Halted {D : Type 0} (disks : DiskGhosts D) (h : Meanings) (c : Cluster) (number : ℕ) (log : D) (before after : Outside) : Type 0 where

@@ -104,9 +104,6 @@ latest_among vs lists key row bounded orderly is =
     subst (IsLatest (layered (vs ∷ lists) key)) (sym is)
     (latest_is (layered (vs ∷ lists) key) 18446744073709551615 (λ q lt. ap (λ (r : Option (Option Row)). or_else r (layered lists key q)) (none_above vs key q bounded (omega arith)) ∙ none_above_lists lists key q orderly (omega arith)))
 
--- ---- what openings find
-module _ {D : Type 0} (moment : D → ℕ) (left_since : D → ℕ → List ℕ → Type 0) where
-
 -- ---- a spill
 pub spilled_or : (marks : Marks) (cs : List Cleaned) (recent : List Version) (lists : List (List Version)) (run : Run) (images : List ℕ → Type 0) (file : List ℕ) → IsSpillOf marks cs recent lists run → HoldsOr images (kept_with run lists) file
     → SpilledOr images marks cs (layered (recent ∷ lists)) file
