@@ -3,10 +3,12 @@ pub mod Burning
 pub mod Chains
 mod Changed
 mod Filled
+pub mod Frames
 pub mod Leaves
 mod Left
 mod Moments
 pub mod Outcomes
+pub mod Readings
 mod Rows
 mod Scanned
 pub mod Steps

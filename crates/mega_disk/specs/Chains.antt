@@ -1,5 +1,17 @@
 -- Files of records, one behind another: their bodies, by what stands at the front of a file.
-use Rattle.std.specs.Prelude.{ℕ, zero, suc, List, [], ◌∷◌, length, get_or, Bool, not, nat_lt, ◌==◌, ◌&&◌, Option, Some, None}
+use Rattle.std.specs.Prelude.{ℕ, zero, suc, ◌+◌, List, [], ◌∷◌, ◌++◌, length, take, drop, get_or, Bool, not, nat_lt, ◌==◌, ◌&&◌, if◌then◌else◌, Option, Some, None}
+
+-- a record with an open gate, and the length of its body, so spelled, in front of the body
+abbrev pub record_by : (ℕ → List ℕ) → List ℕ → List ℕ
+record_by spell body = 1 ∷ (spell (length body) ++ body)
+
+-- the body of the record at the front of the file, and what is behind it: where its gate is open, and it and the
+-- next gate lie whole within the file; its length is read of so many bytes
+abbrev pub first_by : ℕ → (List ℕ → ℕ) → List ℕ → Option (List ℕ × List ℕ)
+first_by width read [] = None
+first_by width read (gate ∷ rest) =
+    let size = read (take width rest) in
+    if (gate == 1) && nat_lt (width + size) (length rest) then Some (take size (drop width rest), drop (width + size) rest) else None
 
 -- the body, and those in what is behind it
 abbrev pub body_and : (List ℕ → List (List ℕ)) → Option (List ℕ × List ℕ) → List (List ℕ)

@@ -1,71 +1,50 @@
 -- What files of records hold.
-use Rattle.std.proofs.Common.{◌≡◌, ◌≢◌, ℕ, suc, ◌+◌, ◌<◌, ◌≤◌, ◌^◌, List, [], ◌∷◌, ◌++◌, length, take, drop, refl, sym, ◌∙◌, ap, subst, arith, append_assoc, length-append, length-take-le, length-drop, take-append-drop, Bool, true, cond}
-use Rattle.std.specs.Prelude.{Some, None, ◌==◌, ◌&&◌, nat_lt}
+use Rattle.std.proofs.Common.{◌≡◌, ◌≢◌, ℕ, ◌+◌, ◌<◌, ◌≤◌, ◌^◌, List, [], ◌∷◌, ◌++◌, length, take, refl, arith}
+use Rattle.std.specs.Prelude.{Some, None}
 use Rattle.std.specs.Int.{from_be_bytes, to_be_bytes, w32}
-use Rattle.std.proofs.lemmas.Bool.{and_parts}
-use Rattle.std.proofs.lemmas.Bool.Decides.{nat_tests}
-use Rattle.std.proofs.lemmas.List.{take_at, drop_at, drop-drop}
 use Rattle.std.proofs.lemmas.Nat.{from_be_bytes-to_be_bytes_4, be_bytes_4}
-use Rattle.std.proofs.lemmas.Option.{cond_some}
 use Rattle.mega_disk.proofs.Chains as chains
-use Rattle.mega_disk.proofs.Chains.{IsBytes, IsChain, bytes_drop, bytes_take, parts_of}
+use Rattle.mega_disk.proofs.Chains.{IsBytes, IsChain}
+use Rattle.mega_disk.proofs.Frames as frames
+use Rattle.mega_disk.proofs.Frames.{Spells}
 use Rattle.mega_journal.specs.Chain.{record_of, chain_of, first_record, records_of, AreShort, IsShort}
 
--- what a record at the front says of the file
-pub record Begins (gate : ℕ) (tail body rest : List ℕ) : Type 0 where
-  pub is_open : gate ≡ 1
-  pub fits : 4 + from_be_bytes w32 (take 4 tail) < length tail
-  pub body_is : take (from_be_bytes w32 (take 4 tail)) (drop 4 tail) ≡ body
-  pub rest_is : drop (4 + from_be_bytes w32 (take 4 tail)) tail ≡ rest
+-- ---- a length in four bytes
 
-pub begins : (gate : ℕ) (tail body rest : List ℕ) → first_record (gate ∷ tail) ≡ Some (body, rest) → Begins gate tail body rest
-begins gate tail body rest is =
-    let size = from_be_bytes w32 (take 4 tail) in
-    let chosen = cond_some ((gate == 1) && nat_lt (4 + size) (length tail)) (take size (drop 4 tail), drop (4 + size) tail) (body, rest) is in
-    let tests = and_parts (gate == 1) (nat_lt (4 + size) (length tail)) chosen.0 in
-    let parts = parts_of (take size (drop 4 tail)) body (drop (4 + size) tail) rest chosen.1 in
-    record {
-      is_open = (let e : (gate == 1) ≡ true = tests.0 in grind (arith, nat_tests));
-      fits = (let e : nat_lt (4 + size) (length tail) ≡ true = tests.1 in grind (arith, nat_tests));
-      body_is = parts.0;
-      rest_is = parts.1;
-    }
+below : (bytes : List ℕ) → length bytes ≡ 4 → IsBytes bytes → from_be_bytes w32 bytes < 2 ^ 32
+below (a ∷ b ∷ c ∷ d ∷ []) four fits = let w = fits 0 in let x = fits 1 in let y = fits 2 in let z = fits 3 in omega (arith, w, x, y, z)
+below [] four fits = absurd (omega arith)
+below (a ∷ []) four fits = absurd (omega arith)
+below (a ∷ b ∷ []) four fits = absurd (omega arith)
+below (a ∷ b ∷ c ∷ []) four fits = absurd (omega arith)
+below (a ∷ b ∷ c ∷ d ∷ e ∷ more) four fits = absurd (omega arith)
 
--- what is behind a record is shorter than the file
-pub shorter : (file body rest : List ℕ) → first_record file ≡ Some (body, rest) → length rest < length file
-shorter [] body rest is = absurd (cc)
-shorter (gate ∷ tail) body rest is =
-    let b = begins gate tail body rest is in
-    omega (arith, ap length b.rest_is, length-drop (4 + from_be_bytes w32 (take 4 tail)) tail)
+pub four : Spells 4 (to_be_bytes w32) (from_be_bytes w32) (2 ^ 32)
+four = record {
+  long = λ n. refl;
+  again = λ n short. from_be_bytes-to_be_bytes_4 n short;
+  below = below;
+  whole = λ bytes n long fits is. be_bytes_4 bytes n long fits is;
+}
+
+-- ---- the record at the front
 
 -- a closed gate
 pub first_closed : (gate : ℕ) (tail : List ℕ) → gate ≢ 1 → first_record (gate ∷ tail) ≡ None
-first_closed gate tail shut = grind (arith, nat_tests)
+first_closed = frames.first_closed 4 (from_be_bytes w32)
 
 -- an open gate whose record, with the gate behind it, has no room
 pub first_torn : (tail : List ℕ) → length tail ≤ 4 + from_be_bytes w32 (take 4 tail) → first_record (1 ∷ tail) ≡ None
-first_torn tail short = grind (arith, nat_tests)
+first_torn = frames.first_torn 4 (from_be_bytes w32)
 
 -- a whole record, with a gate behind it
 pub first_whole : (body rest : List ℕ) → length body < 2 ^ 32 → 0 < length rest → first_record (record_of body ++ rest) ≡ Some (body, rest)
-first_whole body rest short behind =
-    let bytes = to_be_bytes w32 (length body) in
-    let tail = (bytes ++ body) ++ rest in
-    let four : length bytes ≡ 4 = refl in
-    let front : take 4 tail ≡ bytes = ap (take 4) (append_assoc bytes body rest) ∙ take_at bytes (body ++ rest) 4 four in
-    let size : from_be_bytes w32 (take 4 tail) ≡ length body = ap (from_be_bytes w32) front ∙ from_be_bytes-to_be_bytes_4 (length body) short in
-    let back : drop 4 tail ≡ body ++ rest = ap (drop 4) (append_assoc bytes body rest) ∙ drop_at bytes (body ++ rest) 4 four in
-    let body_is : take (from_be_bytes w32 (take 4 tail)) (drop 4 tail) ≡ body = ap (λ (n : ℕ). take n (drop 4 tail)) size ∙ ap (take (length body)) back ∙ take_at body rest (length body) refl in
-    let rest_is : drop (4 + from_be_bytes w32 (take 4 tail)) tail ≡ rest = ap (λ (n : ℕ). drop (4 + n) tail) size ∙ sym (drop-drop (length body) 4 tail) ∙ ap (drop (length body)) back ∙ drop_at body rest (length body) refl in
-    let fits : 4 + from_be_bytes w32 (take 4 tail) < length tail = omega (arith, size, four, length-append (bytes ++ body) rest, length-append bytes body) in
-    let test : nat_lt (4 + from_be_bytes w32 (take 4 tail)) (length tail) ≡ true = grind (arith, nat_tests) in
-    ap (λ (b : Bool). cond b (Some (take (from_be_bytes w32 (take 4 tail)) (drop 4 tail), drop (4 + from_be_bytes w32 (take 4 tail)) tail)) None) test
-    ∙ ap (λ (p : List ℕ × List ℕ). Some p) (λ i. (body_is i, rest_is i))
+first_whole = frames.first_whole 4 (to_be_bytes w32) (from_be_bytes w32) (2 ^ 32) four
 
 -- so its records are those of a chain
-is_chain : IsChain record_of first_record IsShort records_of
+pub is_chain : IsChain record_of first_record IsShort records_of
 unfolding records_of
-is_chain = record { shorter = shorter; whole = first_whole; closed = first_closed; read = λ file. refl }
+is_chain = record { shorter = frames.shorter 4 (from_be_bytes w32); whole = first_whole; closed = first_closed; read = λ file. refl }
 
 pub records_none : (file : List ℕ) → first_record file ≡ None → records_of file ≡ []
 records_none = chains.records_none record_of first_record IsShort records_of is_chain
@@ -80,41 +59,8 @@ pub records_closed : (bodies : List (List ℕ)) (gate : ℕ) (rest : List ℕ) �
 records_closed = chains.records_closed record_of first_record IsShort records_of is_chain
 
 -- the bytes of a record at the front are those that spell its body
-pub record Spelled (file body rest : List ℕ) : Type 0 where
-  pub spelled : file ≡ record_of body ++ rest
-  pub short : length body < 2 ^ 32
-  pub behind : 0 < length rest
-  pub bytes : IsBytes rest
-
-bytes_below : (bytes : List ℕ) → length bytes ≡ 4 → IsBytes bytes → from_be_bytes w32 bytes < 2 ^ 32
-bytes_below (a ∷ b ∷ c ∷ d ∷ []) four fits = let w = fits 0 in let x = fits 1 in let y = fits 2 in let z = fits 3 in omega (arith, w, x, y, z)
-bytes_below [] four fits = absurd (omega arith)
-bytes_below (a ∷ []) four fits = absurd (omega arith)
-bytes_below (a ∷ b ∷ []) four fits = absurd (omega arith)
-bytes_below (a ∷ b ∷ c ∷ []) four fits = absurd (omega arith)
-bytes_below (a ∷ b ∷ c ∷ d ∷ e ∷ more) four fits = absurd (omega arith)
+abbrev pub Spelled : List ℕ → List ℕ → List ℕ → Type 0
+Spelled file body rest = frames.Spelled (to_be_bytes w32) (2 ^ 32) file body rest
 
 pub spelled_by : (file body rest : List ℕ) → IsBytes file → first_record file ≡ Some (body, rest) → Spelled file body rest
-spelled_by [] body rest fits is = absurd (cc)
-spelled_by (gate ∷ tail) body rest fits is =
-    let b = begins gate tail body rest is in
-    let head = take 4 tail in
-    let size = from_be_bytes w32 head in
-    let enough = b.fits in
-    let four : length head ≡ 4 = length-take-le 4 tail (omega arith) in
-    let tail_fits : IsBytes tail = λ i. fits (suc i) in
-    let head_fits : IsBytes head = bytes_take 4 tail tail_fits in
-    let below : size < 2 ^ 32 = bytes_below head four head_fits in
-    let count : length body ≡ size = ap length (sym b.body_is) ∙ length-take-le size (drop 4 tail) (omega (arith, length-drop 4 tail)) in
-    let head_is : to_be_bytes w32 (length body) ≡ head = be_bytes_4 head (length body) four head_fits count in
-    let tail_is : tail ≡ head ++ body ++ rest =
-    sym (take-append-drop 4 tail) ∙ ap (λ (l : List ℕ). head ++ l) (sym (take-append-drop size (drop 4 tail)))
-    ∙ ap (λ (l : List ℕ). head ++ (l ++ drop size (drop 4 tail))) b.body_is
-    ∙ ap (λ (l : List ℕ). head ++ (body ++ l)) (drop-drop size 4 tail ∙ b.rest_is)
-    ∙ sym (append_assoc head body rest) in
-    record {
-      spelled = ap (λ (n : ℕ). n ∷ tail) b.is_open ∙ ap (λ (l : List ℕ). 1 ∷ l) tail_is ∙ ap (λ (l : List ℕ). 1 ∷ (l ++ body ++ rest)) (sym head_is);
-      short = omega (arith, count, below);
-      behind = omega (arith, ap length b.rest_is, length-drop (4 + size) tail);
-      bytes = subst IsBytes b.rest_is (bytes_drop (4 + size) tail tail_fits);
-    }
+spelled_by = frames.spelled_by 4 (to_be_bytes w32) (from_be_bytes w32) (2 ^ 32) four

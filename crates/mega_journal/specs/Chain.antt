@@ -1,12 +1,12 @@
 -- The journal's file: a chain of records, each a gate, the length of its body, the body; the next gate follows.
-use Rattle.std.specs.Prelude.{◌+◌, ◌<◌, ◌^◌, ℕ, List, [], ◌∷◌, ◌++◌, length, take, drop, Option, Some, None, if◌then◌else◌, ◌==◌, ◌&&◌, nat_lt}
+use Rattle.std.specs.Prelude.{◌<◌, ◌^◌, ℕ, List, [], ◌∷◌, ◌++◌, length, Option}
 use Rattle.std.specs.Int.{from_be_bytes, to_be_bytes, w32}
 use Rattle.std.specs.List.{flat_map, AllByRecursion}
-use Rattle.mega_disk.specs.Chains.{bodies_by}
+use Rattle.mega_disk.specs.Chains.{bodies_by, first_by, record_by}
 
 -- a record with an open gate
 abbrev pub record_of : List ℕ → List ℕ
-record_of body = 1 ∷ (to_be_bytes w32 (length body) ++ body)
+record_of body = record_by (to_be_bytes w32) body
 
 abbrev pub chain_of : List (List ℕ) → List ℕ
 chain_of bodies = flat_map record_of bodies
@@ -14,10 +14,7 @@ chain_of bodies = flat_map record_of bodies
 -- the body of the record at the front of the file, and what is behind it: where its gate is open, and it and the
 -- next gate lie whole within the file
 abbrev pub first_record : List ℕ → Option (List ℕ × List ℕ)
-first_record [] = None
-first_record (gate ∷ rest) =
-    let size = from_be_bytes w32 (take 4 rest) in
-    if (gate == 1) && nat_lt (4 + size) (length rest) then Some (take size (drop 4 rest), drop (4 + size) rest) else None
+first_record file = first_by 4 (from_be_bytes w32) file
 
 -- the bodies of the records that a file holds
 unfoldable pub records_of : List ℕ → List (List ℕ)
