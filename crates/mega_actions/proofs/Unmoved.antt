@@ -1,11 +1,10 @@
 -- Operations that heard nothing and only wait stay as they are, in their order.
-use Rattle.std.proofs.Common.{◌≡◌, ◌∙◌, ◌++◌, ◌∷◌, [], ℕ, List, All, fold, map, refl, ap, sym, subst, append_assoc, append-nil}
+use Rattle.std.proofs.Common.{◌≡◌, ◌∙◌, ◌++◌, ◌∷◌, [], ℕ, List, All, fold, map, ap, sym, append_assoc, append-nil}
 use Rattle.std.proofs.lemmas.List.Elements.{All-head, All-map, All-tail}
 use Rattle.mega_base.specs.declared.names.GroupId.{GroupId}
 use Rattle.mega_replica.specs.of_wal.declared.kept.Kept.{Kept}
 use Rattle.mega_answers.specs.of_node_laws.About.{IsAbout}
 use Rattle.mega_answers.specs.of_voter.Telling.{Tells}
-use Rattle.mega_rules.specs.Acting.{goes_on, keeps}
 use Rattle.mega_rules.specs.Met.{Met}
 use Rattle.mega_rules.specs.Operations.{Now, Operation, Setting}
 use Rattle.mega_rules.specs.Steps.{Heard, acts_in_turn, all_act, at_first}

@@ -40,7 +40,7 @@ fn first_settled_before(operations: &[Operation]) -> Option<Decision<'_>>
 
 impl Listeners {
     /// What the first of the operations settled that settled anything.
-    #[tactic(auto, using(crate::proofs::Both::settled_of_both))]
+    #[tactic(auto, using(crate::proofs::Parted::settled_of_both))]
     pub(crate) fn first_settled(&self) -> Option<Decision<'_>>
         ensures { result ≡ first_settled self.now }
     {

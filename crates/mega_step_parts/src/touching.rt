@@ -159,7 +159,7 @@ fn with_heard_reaches(
 }
 
 /// These groups, and those in which operations read through a position.
-#[tactic(auto, using(crate::proofs::Both::reached_of_both))]
+#[tactic(auto, using(crate::proofs::Parted::reached_of_both))]
 fn with_reaches(
     alloc: Global,
     groups: Items<GroupId>,
@@ -276,7 +276,7 @@ fn either(one: bool, other: bool) -> bool
 }
 
 /// Whether such a pump is among the operations.
-#[tactic(auto, using(crate::proofs::Both::any_of_both))]
+#[tactic(auto, using(crate::proofs::Parted::any_of_both))]
 fn is_any_roaming(heard: &Listeners) -> bool
     ensures { result ≡ list_any roams heard.now }
 {

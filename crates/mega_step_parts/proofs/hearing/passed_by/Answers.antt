@@ -1,6 +1,4 @@
-use Rattle.std.proofs.Common.{◌+◌, ap, subst, arith}
-use Rattle.std.specs.Prelude.{All}
-use Rattle.std.proofs.lemmas.List.{take_all}
+use Rattle.std.proofs.Common.{◌+◌, ap, subst}
 use Rattle.std.proofs.lemmas.List.Elements.{All-more}
 use Rattle.mega_step_parts.specs.Listening.{IsPassedBy}
 use Rattle.mega_step_parts.proofs.hearing.passed_by.Goals as goal

@@ -1,5 +1,5 @@
 -- What all open operations come to that hear a message, put together of those that it passes by and the others.
-use Rattle.std.proofs.Common.{◌≡◌, ◌∙◌, ◌++◌, ◌∷◌, ◌||◌, [], ℕ, zero, suc, List, All, Bool, Option, None, Some, drop, fold, map, take, refl, ap, sym}
+use Rattle.std.proofs.Common.{◌≡◌, ◌∙◌, ◌++◌, ◌∷◌, ◌||◌, [], ℕ, zero, suc, List, All, Bool, true, false, Option, None, Some, drop, fold, map, take, refl, ap}
 use Rattle.std.specs.List.{list_any}
 use Rattle.std.specs.Option.{option_or}
 use Rattle.std.proofs.lemmas.List.Elements.{All-head, All-tail}
