@@ -1,7 +1,8 @@
 mod Onward
-mod Leaving
+pub mod Leaving
 mod Within
 mod InTurn
+mod Unmoved
 mod Begun
 mod Turned
 pub use Rattle.mega_answers.proofs.of_pumps as of_pumps

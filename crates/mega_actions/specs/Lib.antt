@@ -2,6 +2,7 @@ pub mod StandsAt
 pub mod IsAt
 pub mod Leaves
 pub mod Turns
+pub mod Waiting
 pub mod Acted
 pub mod Later
 pub use Rattle.mega_answers.specs as of_answers

@@ -7,8 +7,8 @@ ghost use Rattle.mega_answers.specs.of_operations.Whole.{whole};
 ghost use Rattle.mega_answers.specs.of_operations.Phases.{promised_of};
 ghost use Rattle.mega_rules.specs.Clock.{clock_of};
 ghost use Rattle.mega_rules.specs.Logs.{decided, log_of, prefix_of};
-ghost use Rattle.mega_rules.specs.Operations.{Now, Operation as OpenOne, Proposes, Reads, Setting};
-ghost use Rattle.mega_rules.specs.Acting.{acts, acts_within, completes_read, finishes, goes_on, keeps, reader_of, reads_on, seeks_on, unless_decided};
+ghost use Rattle.mega_rules.specs.Operations.{Now, Proposes, Reads, Setting};
+ghost use Rattle.mega_rules.specs.Acting.{ActsAgain, Rests, acts, completes_read, finishes, goes_on, keeps, reader_of, reads_on, rests_within, seeks_on, unless_decided};
 ghost use Rattle.mega_replica.specs.Applying.{applied};
 ghost use Rattle.mega_read.specs.Catching.{seeks};
 ghost use Rattle.mega_answers.specs.declared.fault.ActFault.TheVariants.{NoMemory as OutOfMemory, Unserved};
@@ -93,8 +93,8 @@ fn seeks(
 }
 
 /// Whether an operation that acts stays as it is: it does not know through where it reads, or its position is not decided.
-fn stays<R: Records>(voter: &Voter<R>, operation: &Operation) -> bool
-    ensures { result ≡ true → (s : Setting) (again : Now → OpenOne → Now) (now : Now) → Tells voter.now.logs.kept now.met → acts s again now operation.now ≡ keeps now operation.now }
+pub(crate) fn stays<R: Records>(voter: &Voter<R>, operation: &Operation) -> bool
+    ensures { result ≡ true → (s : Setting) (now : Now) → Tells voter.now.logs.kept now.met → acts s now operation.now ≡ Rests (keeps now operation.now) }
 {
     match &operation.phase {
         Phase::Reads { reading, .. } => reading.through_of().is_none(),
@@ -144,7 +144,7 @@ impl<R: Records, V: Versions> Replica<R, V> {
     ) -> Result<Option<Operation>, ActFault>
         ensures acted { IfOk result (λ next. (h : Meanings) (now : Now) → V.is_told ≡ true → Means (H.meant handlers.old) h → is_pump reached.kept.request ≡ true →
             reached.position ≤ applied (log_of now.met reached.group) (now.stored reached.group) → IsAt V.version h self.old now.met now.stored →
-            Acted V.version h self.new work.old work.new now (λ again. finishes (setting_of self.old h) again now (operation_of reached) reached.group reached.reading reached.position) next) }
+            Acted V.version h self.new work.old work.new now (finishes (setting_of self.old h) now (operation_of reached) reached.group reached.reading reached.position) next) }
         ensures asked { IfOk result (λ next. IsNextAsked next reached.kept.request) }
         ensures leaves { Leaves V.Versions (failed_by result) (H.meant handlers.old) (H.meant handlers.new) self.old self.new }
         ensures built { result ≡ Err Unserved → ⊥ }
@@ -173,7 +173,7 @@ impl<R: Records, V: Versions> Replica<R, V> {
     ) -> Result<Option<Operation>, ActFault>
         ensures acted { IfOk result (λ next. (h : Meanings) (now : Now) → V.is_told ≡ true → Means (H.meant handlers.old) h → IsOf reached.kept.request reached.group →
             reached.position ≤ applied (log_of now.met reached.group) (now.stored reached.group) → IsAt V.version h self.old now.met now.stored →
-            Acted V.version h self.new work.old work.new now (λ again. finishes (setting_of self.old h) again now (operation_of reached) reached.group reached.reading reached.position) next) }
+            Acted V.version h self.new work.old work.new now (finishes (setting_of self.old h) now (operation_of reached) reached.group reached.reading reached.position) next) }
         ensures asked { IfOk result (λ next. IsNextAsked next reached.kept.request) }
         ensures leaves { Leaves V.Versions (failed_by result) (H.meant handlers.old) (H.meant handlers.new) self.old self.new }
         ensures unserved { result ≡ Err Unserved → is_open reached.kept.request ≡ false }
@@ -205,7 +205,7 @@ impl<R: Records, V: Versions> Replica<R, V> {
     ) -> Result<Option<Operation>, ActFault>
         ensures acted { IfOk result (λ next. (h : Meanings) (now : Now) → V.is_told ≡ true → Means (H.meant handlers.old) h → IsOf reached.kept.request reached.group →
             reached.position ≤ prefix_of now.met reached.group → IsAt V.version h self.old now.met now.stored →
-            Acted V.version h self.new work.old work.new now (λ again. finishes (setting_of self.old h) again (completes_read (setting_of self.old h) now reached.group reached.reading reached.position) (operation_of reached) reached.group reached.reading reached.position) next) }
+            Acted V.version h self.new work.old work.new now (finishes (setting_of self.old h) (completes_read (setting_of self.old h) now reached.group reached.reading reached.position) (operation_of reached) reached.group reached.reading reached.position) next) }
         ensures asked { IfOk result (λ next. IsNextAsked next reached.kept.request) }
         ensures leaves { Leaves V.Versions (failed_by result) (H.meant handlers.old) (H.meant handlers.new) self.old self.new }
         ensures unserved { result ≡ Err Unserved → is_open reached.kept.request ≡ false }
@@ -240,7 +240,7 @@ impl<R: Records, V: Versions> Replica<R, V> {
         reading: Reading,
     ) -> Result<Option<Operation>, ActFault>
         ensures acted { IfOk result (λ next. (h : Meanings) (now : Now) → V.is_told ≡ true → Means (H.meant handlers.old) h → IsOf kept.request group → IsAt V.version h self.old now.met now.stored →
-            Acted V.version h self.new work.old work.new now (λ again. reads_on (setting_of self.old h) again now (whole kept (Reads group reading)) group reading) next) }
+            Acted V.version h self.new work.old work.new now (reads_on (setting_of self.old h) now (whole kept (Reads group reading)) group reading) next) }
         ensures asked { IfOk result (λ next. IsNextAsked next kept.request) }
         ensures leaves { Leaves V.Versions (failed_by result) (H.meant handlers.old) (H.meant handlers.new) self.old self.new }
         ensures unserved { result ≡ Err Unserved → is_open kept.request ≡ false }
@@ -289,15 +289,11 @@ impl<R: Records, V: Versions> Replica<R, V> {
         operation: Operation,
     ) -> Result<Option<Operation>, ActFault>
         ensures acted { IfOk result (λ next. (h : Meanings) (now : Now) → V.is_told ≡ true → Means (H.meant handlers.old) h → IsAbout operation → IsAt V.version h self.old now.met now.stored →
-            Acted V.version h self.new work.old work.new now (λ again. acts (setting_of self.old h) again now operation) next) }
+            Acted V.version h self.new work.old work.new now (acts (setting_of self.old h) now operation) next) }
         ensures asked { IfOk result (λ next. IsNextAsked next operation.request) }
         ensures leaves { Leaves V.Versions (failed_by result) (H.meant handlers.old) (H.meant handlers.new) self.old self.new }
         ensures unserved { result ≡ Err Unserved → is_open operation.request ≡ false }
     {
-        if stays(&self.voter, &operation) {
-            work.kept.push(operation)?;
-            return Ok(None);
-        }
         let (kept, phase) = operation.parts();
         match phase {
             Phase::Reads { group, reading } => {
@@ -334,7 +330,7 @@ impl<R: Records, V: Versions> Replica<R, V> {
         operation: Operation,
     ) -> Result<(), ActFault>
         ensures acted { OnOk result ((h : Meanings) (now : Now) → V.is_told ≡ true → Means (H.meant handlers.old) h → IsAbout operation → IsAt V.version h self.old now.met now.stored →
-            Acted V.version h self.new work.old work.new now (λ again. acts_within most (setting_of self.old h) now operation) None) }
+            Acted V.version h self.new work.old work.new now (Rests (rests_within most (setting_of self.old h) (ActsAgain now operation))) None) }
         ensures leaves { Leaves V.Versions (failed_by result) (H.meant handlers.old) (H.meant handlers.new) self.old self.new }
         ensures unserved { result ≡ Err Unserved → is_open operation.request ≡ false }
     {
@@ -354,6 +350,7 @@ impl<R: Records, V: Versions> Replica<R, V> {
     }
 
     /// An operation acts, and a pump again while it picks again: at most as often as there are groups, and two times more.
+    #[tactic(auto, using(mega_replica::proofs::Using::used_here, mega_answers::proofs::Refused::used_unkept))]
     pub fn acts<H: QueueHandlers>(
         &mut self,
         alloc: Global,
@@ -371,6 +368,11 @@ impl<R: Records, V: Versions> Replica<R, V> {
         ensures leaves { Leaves V.Versions (failed_by result) (H.meant handlers.old) (H.meant handlers.new) self.old self.new }
         ensures unserved { result ≡ Err Unserved → is_open operation.request ≡ false }
     {
+        // Most operations only wait, and go on with no other move.
+        if stays(&self.voter, &operation) {
+            work.kept.push(operation)?;
+            return Ok(());
+        }
         match self.acts_once(alloc, handlers, work, operation) {
             Ok(Some(next)) => {
                 self.acts_again(alloc, handlers, work, next)?;
@@ -391,7 +393,7 @@ impl<R: Records, V: Versions> Replica<R, V> {
     ) -> Result<(), ActFault>
         ensures acted { OnOk result ((h : Meanings) (now before : Now) → V.is_told ≡ true → Means (H.meant handlers.old) h → IsAbout operation → Tells self.old.voter.logs.kept before.met →
             IsAt V.version h self.old now.met now.stored →
-            Acted V.version h self.new work.old work.new now (λ again. later (setting_of self.old h) before now operation) None) }
+            Acted V.version h self.new work.old work.new now (Rests (later (setting_of self.old h) before (ActsAgain now operation))) None) }
         ensures leaves { Leaves V.Versions (failed_by result) (H.meant handlers.old) (H.meant handlers.new) self.old self.new }
         ensures unserved { result ≡ Err Unserved → is_open operation.request ≡ false }
     {

@@ -5,6 +5,7 @@
 mod acting;
 mod beginning;
 mod replica;
+mod resting;
 mod turning;
 
 pub use mega_answers;

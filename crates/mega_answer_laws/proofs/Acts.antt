@@ -1,5 +1,5 @@
 -- The operations of a step act one after another: as they hear a message, at a tick, and where one begins.
-use Rattle.std.proofs.Common.{◌≡◌, inl, inr, ℕ, ◌+◌, Bool, true, false, cond, List, [], ◌∷◌, map, fold, Option, Some, None, refl}
+use Rattle.std.proofs.Common.{◌≡◌, inl, inr, ℕ, ◌+◌, Bool, true, false, cond, List, [], ◌∷◌, map, fold, Option, Some, None, refl, length}
 use Rattle.mega_base.specs.declared.names.GroupId.{GroupId}
 use Rattle.mega_base.specs.declared.names.OpId.{OpId}
 use Rattle.mega_outcome.specs.declared.answer.Answer.{Answer}
@@ -12,7 +12,8 @@ use Rattle.mega_outcome.specs.declared.request.Request.{Request}
 use Rattle.mega_outcome.specs.declared.request.Request.TheVariants.{Txn, Batch as BatchRequest, Read as ReadRequested, Find, PumpEnter, PumpHandle, Refresh}
 use Rattle.mega_cause_laws.specs.of_run_laws.of_tape_laws.of_promises.of_rules.of_read.Catching.{falls_due, hears, site}
 use Rattle.mega_cause_laws.specs.of_run_laws.of_tape_laws.of_promises.of_rules.of_read.of_propose.Rounds.{due, takes}
-use Rattle.mega_cause_laws.specs.of_run_laws.of_tape_laws.of_promises.of_rules.Acting.{applied_marks, begins_read, ends, goes_on, in_phase, read_answer, reader_of, sends_more}
+use Rattle.mega_cause_laws.specs.of_run_laws.of_tape_laws.of_promises.of_rules.Logs.{groups_of}
+use Rattle.mega_cause_laws.specs.of_run_laws.of_tape_laws.of_promises.of_rules.Acting.{applied_marks, begins_read, ends, in_phase, picks_to_enter, picks_to_handle, read_answer, reader_of, rests_within, sends_more}
 use Rattle.mega_cause_laws.specs.of_run_laws.of_tape_laws.of_promises.of_rules.Finding.{global_found, local_found}
 use Rattle.mega_cause_laws.specs.of_run_laws.of_tape_laws.of_promises.of_rules.Met.{Met}
 use Rattle.mega_cause_laws.specs.of_run_laws.of_tape_laws.of_promises.of_rules.Operations.{Node, Now, Operation, Phase, Proposes, Reads, Setting}
@@ -21,7 +22,7 @@ use Rattle.mega_wire.specs.declared.message.Message.{Message}
 use Rattle.mega_cause_laws.specs.of_run_laws.Justified.{Each}
 use Rattle.mega_cause_laws.proofs.of_run_laws.Turns.{IsRising}
 use Rattle.mega_answer_laws.proofs.Reasons.{IsSound, SoundReads}
-use Rattle.mega_answer_laws.proofs.Walk.{Acting, acting_sends, acting_up, begins_read_it, ends_at, goes_on_it, picks_group_it, picks_message_it}
+use Rattle.mega_answer_laws.proofs.Walk.{Acting, acting_sends, acting_up, begins_read_it, ends_at, goes_on_it, picks_group_it, picks_message_it, rests_within_it}
 
 -- ---- acting in turn
 
@@ -115,30 +116,30 @@ module _ (s : Setting) (base : List Met) (first : GroupId → ℕ) (Of : OpId �
     abbrev o : Operation
     o = new_operation id request clock
 
-    reads_it : (group : GroupId) → SoundReads request group → Acting s base first Of Spoke Never (id.number + 1) (begins_read s (goes_on s) begin o group None [])
-    reads_it group h = begins_read_it s base first Of Spoke Never (goes_on s) (goes_on_it s base first Of Spoke Never) begin o group None [] (record { acting = a; of = of }) h
+    reads_it : (group : GroupId) → SoundReads request group → Acting s base first Of Spoke Never (id.number + 1) (rests_within (length (groups_of begin.met) + 2) s (begins_read s begin o group None []))
+    reads_it group h = rests_within_it s base first Of Spoke Never (length (groups_of begin.met) + 2) id (begins_read s begin o group None []) (begins_read_it s base first Of Spoke Never begin o group None [] (record { acting = a; of = of }) h)
 
   begins_as : (request : Request) → Of id request clock → refusal s node request ≡ None → Began request (begins s begin (new_operation id request clock))
   begins_as (Txn transaction) of none = acted (reads_it (Txn transaction) of none transaction.group refl)
   begins_as (BatchRequest group transactions) of none = acted (reads_it (BatchRequest group transactions) of none group refl)
   begins_as (ReadRequested asked) of none = by asked.mode refl
     where
-      by : (mode : Mode) → asked.mode ≡ mode → Began (ReadRequested asked) (read_begins s begin (new_operation id (ReadRequested asked) clock) asked mode)
+      by : (mode : Mode) → asked.mode ≡ mode → Began (ReadRequested asked) (rests_within (length (groups_of begin.met) + 2) s (read_begins s begin (new_operation id (ReadRequested asked) clock) asked mode))
       by Current is = acted (reads_it (ReadRequested asked) of none asked.group (refl, is))
       by Snapshot is = answered _ refl (read_applied asked none refl is refl)
       by Inconsistent is = answered _ refl (read_stored asked none refl is refl)
   begins_as (Find asked) of none = by asked.group refl
     where
-      local : (group : GroupId) → asked.group ≡ Some group → (mode : Mode) → asked.mode ≡ mode → Began (Find asked) (local_find_begins s begin (new_operation id (Find asked) clock) asked group mode)
+      local : (group : GroupId) → asked.group ≡ Some group → (mode : Mode) → asked.mode ≡ mode → Began (Find asked) (rests_within (length (groups_of begin.met) + 2) s (local_find_begins s begin (new_operation id (Find asked) clock) asked group mode))
       local group is Current mode = acted (reads_it (Find asked) of none group (is, mode))
       local group is Snapshot mode = answered _ refl (found_applied asked group none refl is mode refl)
       local group is Inconsistent mode = answered _ refl (found_stored asked group none refl is mode refl)
 
-      by : (group : Option GroupId) → asked.group ≡ group → Began (Find asked) (find_begins s begin (new_operation id (Find asked) clock) asked group)
+      by : (group : Option GroupId) → asked.group ≡ group → Began (Find asked) (rests_within (length (groups_of begin.met) + 2) s (find_begins s begin (new_operation id (Find asked) clock) asked group))
       by None is = answered _ refl (found_globally asked refl is refl)
       by (Some group) is = local group is asked.mode refl
-  begins_as PumpEnter of none = acted (picks_message_it s base first Of Spoke Never (goes_on s) (goes_on_it s base first Of Spoke Never) begin (new_operation id PumpEnter clock) [] (record { acting = a; of = of }) refl)
-  begins_as PumpHandle of none = acted (picks_group_it s base first Of Spoke Never (goes_on s) (goes_on_it s base first Of Spoke Never) begin (new_operation id PumpHandle clock) [] (record { acting = a; of = of }) refl)
+  begins_as PumpEnter of none = acted (rests_within_it s base first Of Spoke Never (length (groups_of begin.met) + 2) id (picks_to_enter s begin (new_operation id PumpEnter clock) []) (picks_message_it s base first Of Spoke Never begin (new_operation id PumpEnter clock) [] (record { acting = a; of = of }) refl))
+  begins_as PumpHandle of none = acted (rests_within_it s base first Of Spoke Never (length (groups_of begin.met) + 2) id (picks_to_handle s begin (new_operation id PumpHandle clock) []) (picks_group_it s base first Of Spoke Never begin (new_operation id PumpHandle clock) [] (record { acting = a; of = of }) refl))
   begins_as Refresh of none = answered _ refl (refreshed none refl refl)
 
   pub begun_as : (request : Request) → Of id request clock → Began request (unless_refused s begin (new_operation id request clock) (refusal s node request))

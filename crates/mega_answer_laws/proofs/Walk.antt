@@ -2,6 +2,7 @@
 use Rattle.std.proofs.Common.{◌≡◌, ◌⊎◌, inl, inr, ℕ, zero, suc, ◌+◌, ◌≤◌, ◌<◌, nat_le, nat_lt, Bool, true, false, cond, List, [], ◌∷◌, ◌++◌, take, length, Option, Some, None, Result, Ok, Err, refl, sym, ap, ◌∙◌, subst, arith}
 use Rattle.std.proofs.lemmas.Bool.Decides.{nat_tests}
 use Rattle.std.specs.List.{list_any}
+use Rattle.std.specs.Result.{is_ok}
 use Rattle.mega_base.specs.declared.names.Epoch.{Epoch}
 use Rattle.mega_base.specs.declared.names.GroupId.{GroupId}
 use Rattle.mega_base.specs.declared.names.OpId.{OpId}
@@ -39,7 +40,7 @@ use Rattle.mega_cause_laws.specs.of_run_laws.of_tape_laws.of_promises.of_rules.L
 use Rattle.mega_cause_laws.specs.of_run_laws.of_tape_laws.of_promises.of_rules.Met.{Met, Answers, Validates}
 use Rattle.mega_cause_laws.specs.of_run_laws.of_tape_laws.of_promises.of_rules.Queues.{Posted, enter_entry, is_named, names_entered, next_to_enter, next_to_handle, oldest_unhandled}
 use Rattle.mega_cause_laws.specs.of_run_laws.of_tape_laws.of_promises.of_rules.Operations.{Now, Operation, Phase, Promised, Proposes, Reads, Replies, Results, Setting}
-use Rattle.mega_cause_laws.specs.of_run_laws.of_tape_laws.of_promises.of_rules.Acting.{acts, acts_within, applied_logs, applied_marks, begins_read, committed, completes_read, ends, enters, finishes, goes_on, handles, handling, in_phase, is_taken, keeps, leader_after, listed_at, picks_group, picks_message, picks_to_enter, picks_to_handle, proposes, proposes_by, read_answer, read_begun, reader_of, reads_on, rows_answer, rows_at, sealed, sends_more, stored_with, table_rows, unless_decided, unless_full, validated_by, validates, verdict, visiting}
+use Rattle.mega_cause_laws.specs.of_run_laws.of_tape_laws.of_promises.of_rules.Acting.{ActsAgain, Next, Rests, acts, applied_logs, applied_marks, begins_read, committed, completes_read, ends, enters, finishes, goes_on, handles, handling, in_phase, keeps, leader_after, listed_at, picks_group, picks_message, picks_to_enter, picks_to_handle, proposes, proposes_by, read_answer, read_begun, reader_of, reads_on, rests_within, rows_answer, rows_at, sealed, sends_more, stored_with, table_rows, unless_decided, unless_full, validated_by, validates, verdict}
 use Rattle.mega_cause_laws.specs.of_run_laws.of_tape_laws.of_promises.of_rules.of_replica.Applying.{after_read, writes_of}
 use Rattle.mega_wal.specs.Same.{same_group, same_op, same_option}
 use Rattle.mega_wal.proofs.Sames.{same_group_equal, same_op_equal}
@@ -308,7 +309,12 @@ module _ (s : Setting) (base : List Met) (first : GroupId → ℕ) (Of : OpId �
   either id true one other h k = h
   either id false one other h k = k
 
-  either_so : (id : OpId) (t : Bool) (one other : Now) → (t ≡ true → P id one) → (t ≡ false → P id other) → P id (cond t one other)
+  -- what it comes to: it has acted, or it is its turn again, under the same id
+  abbrev pub Leads : OpId → Next → Type 0
+  Leads id (Rests now) = P id now
+  Leads id (ActsAgain now o) = (o.id ≡ id) × Turn now o
+
+  either_so : (id : OpId) (t : Bool) (one other : Next) → (t ≡ true → Leads id one) → (t ≡ false → Leads id other) → Leads id (cond t one other)
   either_so id true one other h k = h refl
   either_so id false one other h k = k refl
 
@@ -368,114 +374,113 @@ module _ (s : Setting) (base : List Met) (first : GroupId → ℕ) (Of : OpId �
 
   -- ---- a pump
 
-  module _ (again : Now → Operation → Now) (more : (now : Now) (o : Operation) → Turn now o → P o.id (again now o)) where
-    -- a turn of which it does not matter whether the operation read before
-    pub record Ready (now : Now) (o : Operation) : Type 0 where
-      pub acting : Acting (o.id).number now
-      pub of : Of o.id o.request o.began
+  -- a turn of which it does not matter whether the operation read before
+  pub record Ready (now : Now) (o : Operation) : Type 0 where
+    pub acting : Acting (o.id).number now
+    pub of : Of o.id o.request o.began
 
-    pub begins_read_it : (now : Now) (o : Operation) (group : GroupId) (message : Option Enter) (asked : List ℕ) → Ready now o → SoundReads o.request group → P o.id (begins_read s again now o group message asked)
-    begins_read_it now o group message asked t h =
-        more (sends_more now (read_begun s now o group asked).sends) (visiting o group message (read_begun s now o group asked))
-        (record { acting = acting_sends (o.id).number now (read_begun s now o group asked).sends t.acting; of = t.of; sound = h; spoke = tt })
+  pub begins_read_it : (now : Now) (o : Operation) (group : GroupId) (message : Option Enter) (asked : List ℕ) → Ready now o → SoundReads o.request group → Leads o.id (begins_read s now o group message asked)
+  begins_read_it now o group message asked t h = (refl, record { acting = acting_sends (o.id).number now (read_begun s now o group asked).sends t.acting; of = t.of; sound = h; spoke = tt })
 
-    nothing_it : (now : Now) (o : Operation) → Ready now o → IsMet s base o.id o.request (NothingToDo (applied_marks now)) → P o.id (ends now o.id (NothingToDo (applied_marks now)))
-    nothing_it now o t h = ends_at now o.id o.request o.began (NothingToDo (applied_marks now)) t.acting t.of (inl h)
+  nothing_it : (now : Now) (o : Operation) → Ready now o → IsMet s base o.id o.request (NothingToDo (applied_marks now)) → P o.id (ends now o.id (NothingToDo (applied_marks now)))
+  nothing_it now o t h = ends_at now o.id o.request o.began (NothingToDo (applied_marks now)) t.acting t.of (inl h)
 
-    pub picks_message_it : (now : Now) (o : Operation) (asked : List ℕ) → Ready now o → o.request ≡ PumpEnter → P o.id (picks_to_enter s again now o asked)
-    picks_message_it now o asked t is = by (next_to_enter o.id (applied_logs now)) refl
+  pub picks_message_it : (now : Now) (o : Operation) (asked : List ℕ) → Ready now o → o.request ≡ PumpEnter → Leads o.id (picks_to_enter s now o asked)
+  picks_message_it now o asked t is = by (next_to_enter o.id (applied_logs now)) refl
+    where
+      by : (one : Option Posted) → next_to_enter o.id (applied_logs now) ≡ one → Leads o.id (picks_message s now o asked one)
+      by None none = nothing_it now o t (subst (λ (r : Request). IsMet s base o.id r (NothingToDo (applied_marks now))) (sym is) (nothing_to_enter base now (t.acting).same o.id none))
+      by (Some one) e = begins_read_it now o one.to (Some one.message) asked t (subst (λ (r : Request). SoundReads r one.to) (sym is) tt)
+
+  pub picks_group_it : (now : Now) (o : Operation) (asked : List ℕ) → Ready now o → o.request ≡ PumpHandle → Leads o.id (picks_to_handle s now o asked)
+  picks_group_it now o asked t is = by (next_to_handle (applied_logs now)) refl
+    where
+      by : (one : Option GroupId) → next_to_handle (applied_logs now) ≡ one → Leads o.id (picks_group s now o asked one)
+      by None none = nothing_it now o t (subst (λ (r : Request). IsMet s base o.id r (NothingToDo (applied_marks now))) (sym is) (nothing_to_handle base now (t.acting).same none))
+      by (Some group) e = begins_read_it now o group None asked t (subst (λ (r : Request). SoundReads r group) (sym is) tt)
+
+  ready : (now : Now) (o : Operation) → Turn now o → Ready now o
+  ready now o t = record { acting = t.acting; of = t.of }
+
+  -- ---- what it does whose read is complete
+
+  module _ (id : OpId) (began : ℕ) (visited : List GroupId) (message : Option Enter) where
+    abbrev one : Request → Phase → Operation
+    one request phase = record { id = id; request = request; began = began; visited = visited; message = message; phase = phase }
+
+    full_met : (now : Now) (request : Request) (group : GroupId) (r : Reading) (p : ℕ) → p ≤ prefix_of now.met group → Turn now (one request (Reads group r)) → (is_write request ≡ true → group_written request ≡ Some group)
+        → nat_le (s.cluster.limit).0 p ≡ true → FullAt s base request (record { 0 = p })
+    full_met now request group r p le t home full = (le_is (s.cluster.limit).0 p full, group, subst (λ n. p ≤ n) ((t.acting).same.prefixes group) le, home)
+
+    unless_full_it : (now : Now) (request : Request) (group : GroupId) (r : Reading) (p : ℕ) (next : Next) → Turn now (one request (Reads group r)) → (nat_le (s.cluster.limit).0 p ≡ true → IsMet s base id request (LogFull (record { 0 = p })))
+        → Leads id next → Leads id (unless_full s now (one request (Reads group r)) p next)
+    unless_full_it now request group r p next t h k = either_so id (nat_le (s.cluster.limit).0 p) _ next (λ full. ends_it now (one request (Reads group r)) (LogFull (record { 0 = p })) t (h full)) (λ room. k)
+
+    sealed_it : (now : Now) (request : Request) (group : GroupId) (r : Reading) (p : ℕ) (result : Result Done Turned) → Turn now (one request (Reads group r)) → ((turn : Turned) → IsMet s base id request (TurnedAnswer turn))
+        → ((done : Done) → SoundPromise request (Replies done.replies)) → P id (sealed s now (one request (Reads group r)) group r p result)
+    sealed_it now request group r p (Err turn) t h k = ends_it now (one request (Reads group r)) (TurnedAnswer turn) t (h turn)
+    sealed_it now request group r p (Ok done) t h k = proposes_it now (one request (Reads group r)) group r p (entry_of_done id done) (Replies done.replies) t refl (k done)
+
+    enters_it : (now : Now) (group : GroupId) (r : Reading) (p : ℕ) (what : Option Enter) → Turn now (one PumpEnter (Reads group r)) → Leads id (enters s now (one PumpEnter (Reads group r)) group r p what)
+    enters_it now group r p None t = picks_message_it now (one PumpEnter (Reads group r)) (asked_by r) (ready now _ t) refl
+    enters_it now group r p (Some what) t = either_so id (is_named what.name (names_entered (take p (log_of now.met group)))) _ _
+        (λ there. picks_message_it now (one PumpEnter (Reads group r)) (asked_by r) (ready now _ t) refl) (λ new. proposes_it now (one PumpEnter (Reads group r)) group r p (enter_entry id what) (Replies []) t refl refl)
+
+    handles_it : (now : Now) (group : GroupId) (r : Reading) (p : ℕ) (what : Option Enter) → Turn now (one PumpHandle (Reads group r)) → Leads id (handles s now (one PumpHandle (Reads group r)) group r p what)
+    handles_it now group r p None t = picks_group_it now (one PumpHandle (Reads group r)) (asked_by r) (ready now _ t) refl
+    handles_it now group r p (Some what) t = either_so id (has s.handlers what.queue) _ _
+        (λ there. proposes_it now (one PumpHandle (Reads group r)) group r p (handling s id group what (table_rows s.cluster.schema group (listed_at now group p))) (Replies []) t (handled_id s id group what _) refl)
+        (λ none. ends_it now (one PumpHandle (Reads group r)) (NoHandler what.queue) t (refl, none))
+
+    finishes_by : (now : Now) (request : Request) (group : GroupId) (r : Reading) (p : ℕ) → p ≤ prefix_of now.met group → Turn now (one request (Reads group r)) → Leads id (finishes s now (one request (Reads group r)) group r p)
+    finishes_by now (Txn transaction) group r p le t =
+        unless_full_it now (Txn transaction) group r p _ t (full_met now (Txn transaction) group r p le t (λ is. ap Some t.sound))
+        (sealed_it now (Txn transaction) group r p (outcome s.cluster.schema transaction (rows_at now group p)) t (λ turn. tt) (λ done. tt))
+    finishes_by now (BatchRequest own transactions) group r p le t =
+        unless_full_it now (BatchRequest own transactions) group r p _ t (full_met now (BatchRequest own transactions) group r p le t (λ is. ap Some t.sound))
+        (either id (list_any is_ok (batch_outcome s.cluster.schema own transactions (rows_at now group p)).results) _ _
+        (proposes_it now (one (BatchRequest own transactions) (Reads group r)) group r p (entry_of_batch id (batch_outcome s.cluster.schema own transactions (rows_at now group p))) (Results (batch_outcome s.cluster.schema own transactions (rows_at now group p)).results) t refl tt)
+        (ends_it now (one (BatchRequest own transactions) (Reads group r)) (AllTurned (batch_outcome s.cluster.schema own transactions (rows_at now group p)).results) t tt))
+    finishes_by now (ReadRequested request) group r p le t =
+        ends_it now (one (ReadRequested request) (Reads group r)) (read_answer s request p (rows_at now group p) (listed_at now group p)) t (t.sound.1, shown)
       where
-        by : (one : Option Posted) → next_to_enter o.id (applied_logs now) ≡ one → P o.id (picks_message s again now o asked one)
-        by None none = nothing_it now o t (subst (λ (r : Request). IsMet s base o.id r (NothingToDo (applied_marks now))) (sym is) (nothing_to_enter base now (t.acting).same o.id none))
-        by (Some one) e = begins_read_it now o one.to (Some one.message) asked t (subst (λ (r : Request). SoundReads r one.to) (sym is) tt)
+        shown : At base request.group (λ m log. read_over s.cluster request m log ≡ read_answer s request p (rows_at now group p) (listed_at now group p))
+        shown = subst (λ g. At base g (λ m log. read_over s.cluster request m log ≡ read_answer s request p (rows_at now group p) (listed_at now group p))) (sym t.sound.0)
+            (p, subst (λ n. p ≤ n) ((t.acting).same.prefixes group) le, answer_is s request p (take p (log_of base group)) ∙ ap (λ log. read_answer s request p (after (take p log) no_rows) (list_after (take p log) [])) (sym ((t.acting).same.logs group)))
+    finishes_by now (Find request) group r p le t =
+        ends_it now (one (Find request) (Reads group r)) (local_found s.cluster.schema request p (listed_at now group p)) t
+        (t.sound.1, group, t.sound.0, (p, subst (λ n. p ≤ n) ((t.acting).same.prefixes group) le, ap (λ log. local_found s.cluster.schema request p (list_after (take p log) [])) (sym ((t.acting).same.logs group))))
+    finishes_by now PumpEnter group r p le t = unless_full_it now PumpEnter group r p _ t (full_met now PumpEnter group r p le t (λ is. cc)) (enters_it now group r p message t)
+    finishes_by now PumpHandle group r p le t = unless_full_it now PumpHandle group r p _ t (full_met now PumpHandle group r p le t (λ is. cc)) (handles_it now group r p (oldest_unhandled (take p (log_of now.met group))) t)
+    finishes_by now Refresh group r p le t = absurd t.sound
 
-    pub picks_group_it : (now : Now) (o : Operation) (asked : List ℕ) → Ready now o → o.request ≡ PumpHandle → P o.id (picks_to_handle s again now o asked)
-    picks_group_it now o asked t is = by (next_to_handle (applied_logs now)) refl
+    reads_on_by : (now : Now) (request : Request) (group : GroupId) (noted : Option Epoch) (asked : List ℕ) (stage : Stage) → Turn now (one request (Reads group (record { noted = noted; asked = asked; stage = stage })))
+        → Leads id (reads_on s now (one request (Reads group (record { noted = noted; asked = asked; stage = stage }))) group (record { noted = noted; asked = asked; stage = stage }))
+    reads_on_by now request group noted asked (Polling heard best at) t = keeps_it now (one request (Reads group (record { noted = noted; asked = asked; stage = Polling heard best at }))) t
+    reads_on_by now request group noted asked (Catching p search) t = either_so id (nat_le p (prefix_of now.met group)) _ _
+        (λ enough. finishes_by (completes_read s now group r p) request group r p (subst (λ n. p ≤ n) (sym (completed.acting.same.prefixes group ∙ sym ((t.acting).same.prefixes group))) (le_is p (prefix_of now.met group) enough)) completed)
+        (λ short. keeps_it (sends_more now (seeks (reader_of s id group) r (prefix_of now.met group + 1) (clock_of now.met)).sends)
+        (one request (Reads group (seeks (reader_of s id group) r (prefix_of now.met group + 1) (clock_of now.met)).reading))
+        (record { acting = acting_sends id.number now (seeks (reader_of s id group) r (prefix_of now.met group + 1) (clock_of now.met)).sends t.acting; of = t.of; sound = t.sound; spoke = tt }))
       where
-        by : (one : Option GroupId) → next_to_handle (applied_logs now) ≡ one → P o.id (picks_group s again now o asked one)
-        by None none = nothing_it now o t (subst (λ (r : Request). IsMet s base o.id r (NothingToDo (applied_marks now))) (sym is) (nothing_to_handle base now (t.acting).same none))
-        by (Some group) e = begins_read_it now o group None asked t (subst (λ (r : Request). SoundReads r group) (sym is) tt)
+        r : Reading
+        r = record { noted = noted; asked = asked; stage = Catching p search }
 
-    ready : (now : Now) (o : Operation) → Turn now o → Ready now o
-    ready now o t = record { acting = t.acting; of = t.of }
+        completed : Turn (completes_read s now group r p) (one request (Reads group r))
+        completed = completes_it now (one request (Reads group r)) group r p t
 
-    -- ---- what it does whose read is complete
+    acts_by : (now : Now) (request : Request) (phase : Phase) → Turn now (one request phase) → Leads id (acts s now (one request phase))
+    acts_by now request (Reads group r) t = reads_on_by now request group r.noted r.asked r.stage t
+    acts_by now request (Proposes group n asked proposal promised) t = unless_decided_it now (one request (Proposes group n asked proposal promised)) n promised (decided now.met group n) t t.sound
 
-    module _ (id : OpId) (began : ℕ) (visited : List GroupId) (message : Option Enter) where
-      abbrev one : Request → Phase → Operation
-      one request phase = record { id = id; request = request; began = began; visited = visited; message = message; phase = phase }
+  acts_it : (now : Now) (o : Operation) → Turn now o → Leads o.id (acts s now o)
+  acts_it now o t = acts_by o.id o.began o.visited o.message now o.request o.phase t
 
-      full_met : (now : Now) (request : Request) (group : GroupId) (r : Reading) (p : ℕ) → p ≤ prefix_of now.met group → Turn now (one request (Reads group r)) → (is_write request ≡ true → group_written request ≡ Some group)
-          → nat_le (s.cluster.limit).0 p ≡ true → FullAt s base request (record { 0 = p })
-      full_met now request group r p le t home full = (le_is (s.cluster.limit).0 p full, group, subst (λ n. p ≤ n) ((t.acting).same.prefixes group) le, home)
-
-      unless_full_it : (now : Now) (request : Request) (group : GroupId) (r : Reading) (p : ℕ) (next : Now) → Turn now (one request (Reads group r)) → (nat_le (s.cluster.limit).0 p ≡ true → IsMet s base id request (LogFull (record { 0 = p })))
-          → P id next → P id (unless_full s now (one request (Reads group r)) p next)
-      unless_full_it now request group r p next t h k = either_so id (nat_le (s.cluster.limit).0 p) _ next (λ full. ends_it now (one request (Reads group r)) (LogFull (record { 0 = p })) t (h full)) (λ room. k)
-
-      sealed_it : (now : Now) (request : Request) (group : GroupId) (r : Reading) (p : ℕ) (result : Result Done Turned) → Turn now (one request (Reads group r)) → ((turn : Turned) → IsMet s base id request (TurnedAnswer turn))
-          → ((done : Done) → SoundPromise request (Replies done.replies)) → P id (sealed s now (one request (Reads group r)) group r p result)
-      sealed_it now request group r p (Err turn) t h k = ends_it now (one request (Reads group r)) (TurnedAnswer turn) t (h turn)
-      sealed_it now request group r p (Ok done) t h k = proposes_it now (one request (Reads group r)) group r p (entry_of_done id done) (Replies done.replies) t refl (k done)
-
-      enters_it : (now : Now) (group : GroupId) (r : Reading) (p : ℕ) (what : Option Enter) → Turn now (one PumpEnter (Reads group r)) → P id (enters s again now (one PumpEnter (Reads group r)) group r p what)
-      enters_it now group r p None t = picks_message_it now (one PumpEnter (Reads group r)) (asked_by r) (ready now _ t) refl
-      enters_it now group r p (Some what) t = either id (is_named what.name (names_entered (take p (log_of now.met group)))) _ _
-          (picks_message_it now (one PumpEnter (Reads group r)) (asked_by r) (ready now _ t) refl) (proposes_it now (one PumpEnter (Reads group r)) group r p (enter_entry id what) (Replies []) t refl refl)
-
-      handles_it : (now : Now) (group : GroupId) (r : Reading) (p : ℕ) (what : Option Enter) → Turn now (one PumpHandle (Reads group r)) → P id (handles s again now (one PumpHandle (Reads group r)) group r p what)
-      handles_it now group r p None t = picks_group_it now (one PumpHandle (Reads group r)) (asked_by r) (ready now _ t) refl
-      handles_it now group r p (Some what) t = either_so id (has s.handlers what.queue) _ _
-          (λ there. proposes_it now (one PumpHandle (Reads group r)) group r p (handling s id group what (table_rows s.cluster.schema group (listed_at now group p))) (Replies []) t (handled_id s id group what _) refl)
-          (λ none. ends_it now (one PumpHandle (Reads group r)) (NoHandler what.queue) t (refl, none))
-
-      finishes_by : (now : Now) (request : Request) (group : GroupId) (r : Reading) (p : ℕ) → p ≤ prefix_of now.met group → Turn now (one request (Reads group r)) → P id (finishes s again now (one request (Reads group r)) group r p)
-      finishes_by now (Txn transaction) group r p le t =
-          unless_full_it now (Txn transaction) group r p _ t (full_met now (Txn transaction) group r p le t (λ is. ap Some t.sound))
-          (sealed_it now (Txn transaction) group r p (outcome s.cluster.schema transaction (rows_at now group p)) t (λ turn. tt) (λ done. tt))
-      finishes_by now (BatchRequest own transactions) group r p le t =
-          unless_full_it now (BatchRequest own transactions) group r p _ t (full_met now (BatchRequest own transactions) group r p le t (λ is. ap Some t.sound))
-          (either id (list_any is_taken (batch_outcome s.cluster.schema own transactions (rows_at now group p)).results) _ _
-          (proposes_it now (one (BatchRequest own transactions) (Reads group r)) group r p (entry_of_batch id (batch_outcome s.cluster.schema own transactions (rows_at now group p))) (Results (batch_outcome s.cluster.schema own transactions (rows_at now group p)).results) t refl tt)
-          (ends_it now (one (BatchRequest own transactions) (Reads group r)) (AllTurned (batch_outcome s.cluster.schema own transactions (rows_at now group p)).results) t tt))
-      finishes_by now (ReadRequested request) group r p le t =
-          ends_it now (one (ReadRequested request) (Reads group r)) (read_answer s request p (rows_at now group p) (listed_at now group p)) t (t.sound.1, shown)
-        where
-          shown : At base request.group (λ m log. read_over s.cluster request m log ≡ read_answer s request p (rows_at now group p) (listed_at now group p))
-          shown = subst (λ g. At base g (λ m log. read_over s.cluster request m log ≡ read_answer s request p (rows_at now group p) (listed_at now group p))) (sym t.sound.0)
-              (p, subst (λ n. p ≤ n) ((t.acting).same.prefixes group) le, answer_is s request p (take p (log_of base group)) ∙ ap (λ log. read_answer s request p (after (take p log) no_rows) (list_after (take p log) [])) (sym ((t.acting).same.logs group)))
-      finishes_by now (Find request) group r p le t =
-          ends_it now (one (Find request) (Reads group r)) (local_found s.cluster.schema request p (listed_at now group p)) t
-          (t.sound.1, group, t.sound.0, (p, subst (λ n. p ≤ n) ((t.acting).same.prefixes group) le, ap (λ log. local_found s.cluster.schema request p (list_after (take p log) [])) (sym ((t.acting).same.logs group))))
-      finishes_by now PumpEnter group r p le t = unless_full_it now PumpEnter group r p _ t (full_met now PumpEnter group r p le t (λ is. cc)) (enters_it now group r p message t)
-      finishes_by now PumpHandle group r p le t = unless_full_it now PumpHandle group r p _ t (full_met now PumpHandle group r p le t (λ is. cc)) (handles_it now group r p (oldest_unhandled (take p (log_of now.met group))) t)
-      finishes_by now Refresh group r p le t = absurd t.sound
-
-      reads_on_by : (now : Now) (request : Request) (group : GroupId) (noted : Option Epoch) (asked : List ℕ) (stage : Stage) → Turn now (one request (Reads group (record { noted = noted; asked = asked; stage = stage })))
-          → P id (reads_on s again now (one request (Reads group (record { noted = noted; asked = asked; stage = stage }))) group (record { noted = noted; asked = asked; stage = stage }))
-      reads_on_by now request group noted asked (Polling heard best at) t = keeps_it now (one request (Reads group (record { noted = noted; asked = asked; stage = Polling heard best at }))) t
-      reads_on_by now request group noted asked (Catching p search) t = either_so id (nat_le p (prefix_of now.met group)) _ _
-          (λ enough. finishes_by (completes_read s now group r p) request group r p (subst (λ n. p ≤ n) (sym (completed.acting.same.prefixes group ∙ sym ((t.acting).same.prefixes group))) (le_is p (prefix_of now.met group) enough)) completed)
-          (λ short. keeps_it (sends_more now (seeks (reader_of s id group) r (prefix_of now.met group + 1) (clock_of now.met)).sends)
-          (one request (Reads group (seeks (reader_of s id group) r (prefix_of now.met group + 1) (clock_of now.met)).reading))
-          (record { acting = acting_sends id.number now (seeks (reader_of s id group) r (prefix_of now.met group + 1) (clock_of now.met)).sends t.acting; of = t.of; sound = t.sound; spoke = tt }))
-        where
-          r : Reading
-          r = record { noted = noted; asked = asked; stage = Catching p search }
-
-          completed : Turn (completes_read s now group r p) (one request (Reads group r))
-          completed = completes_it now (one request (Reads group r)) group r p t
-
-      acts_by : (now : Now) (request : Request) (phase : Phase) → Turn now (one request phase) → P id (acts s again now (one request phase))
-      acts_by now request (Reads group r) t = reads_on_by now request group r.noted r.asked r.stage t
-      acts_by now request (Proposes group n asked proposal promised) t = unless_decided_it now (one request (Proposes group n asked proposal promised)) n promised (decided now.met group n) t t.sound
-
-    acts_it : (now : Now) (o : Operation) → Turn now o → P o.id (acts s again now o)
-    acts_it now o t = acts_by o.id o.began o.visited o.message now o.request o.phase t
-
-  acts_within_it : (most : ℕ) (now : Now) (o : Operation) → Turn now o → P o.id (acts_within most s now o)
-  acts_within_it zero now o t = keeps_it now o t
-  acts_within_it (suc most) now o t = acts_it (acts_within most s) (acts_within_it most) now o t
+  -- until it rests
+  pub rests_within_it : (most : ℕ) (id : OpId) (next : Next) → Leads id next → P id (rests_within most s next)
+  rests_within_it most id (Rests now) h = h
+  rests_within_it zero id (ActsAgain now o) h = subst (λ (op : OpId). P op (keeps now o)) h.0 (keeps_it now o h.1)
+  rests_within_it (suc most) id (ActsAgain now o) h = subst (λ (op : OpId). P op (rests_within most s (acts s now o))) h.0 (rests_within_it most o.id (acts s now o) (acts_it now o h.1))
 
   pub goes_on_it : (now : Now) (o : Operation) → Turn now o → P o.id (goes_on s now o)
-  goes_on_it now o t = acts_within_it (length (groups_of now.met) + 2) now o t
+  goes_on_it now o t = rests_within_it (length (groups_of now.met) + 2) o.id (ActsAgain now o) (refl, t)

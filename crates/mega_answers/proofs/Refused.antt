@@ -3,13 +3,14 @@ use Rattle.std.proofs.Common.{◌≡◌, ◌≤◌, ℕ, refl, ap, subst, sym}
 use Rattle.std.specs.Prelude.{Option, Some, None, Result, Ok, Err, true}
 use Rattle.mega_base.specs.Causes.{Rose}
 use Rattle.mega_disk.specs.Fuse.{MayBurn, Burns}
+use Rattle.mega_disk.specs.Images.{LeavesOnly, Within}
 use Rattle.mega_disk.specs.declared.versions.StoreError.{StoreError}
 use Rattle.mega_disk.specs.declared.versions.StoreError.TheVariants.{DiskFault, Full, BadRecord, NoMemory}
 use Rattle.mega_disk.specs.declared.versions.Versions.{Ghosts}
 use Rattle.mega_outcome.specs.declared.answer.Turn.{Turn}
 use Rattle.mega_outcome.specs.declared.answer.Turn.TheVariants as turn
 use Rattle.mega_outcome.specs.Looks.{Looked, Looks}
-use Rattle.mega_replica.specs.Used.{StoreUsed}
+use Rattle.mega_replica.specs.Used.{NothingSpilled, StoreUsed}
 use Rattle.mega_answers.specs.declared.fault.ActFault.{ActFault}
 use Rattle.mega_answers.specs.declared.fault.ActFault.TheVariants as act
 use Rattle.mega_answers.specs.Faults.{error_of, fault_of, of_store}
@@ -74,8 +75,27 @@ bad_result : {T : Type 0} (result : Result T Turn) (n : ℕ) → refused_by resu
 bad_result (Ok x) n is = cc
 bad_result (Err refusal) n is = ap Err (bad_turn refusal n is)
 
+-- calls that wrote nothing to the device
+unspilled_by : {V : Type 0} (store : Ghosts V) (old new : V)
+    → store.cleaned new ≡ store.cleaned old
+    → store.marked new ≡ store.marked old
+    → LeavesOnly store.moment store.opened_since old new (store.may_open old)
+    → Within (store.may_open old) (store.may_open new)
+    → NothingSpilled store old new
+unspilled_by store old new cleaned marks any_moment within = record {
+  cleaned = cleaned;
+  marks = marks;
+  within = within;
+  later = any_moment.later;
+  before = any_moment.before;
+}
+
 -- what a run says of its device, as one record
 pub used_run : {V T : Type 0} (store : Ghosts V) (result : Result T Turn) (old new : V)
+    → store.cleaned new ≡ store.cleaned old
+    → store.marked new ≡ store.marked old
+    → LeavesOnly store.moment store.opened_since old new (store.may_open old)
+    → Within (store.may_open old) (store.may_open new)
     → store.faults old ≤ store.faults new
     → ((n : ℕ) → store.is_bad new n → store.is_bad old n)
     → MayBurn (store.fuse_left old) (store.fuse_left new)
@@ -85,7 +105,8 @@ pub used_run : {V T : Type 0} (store : Ghosts V) (result : Result T Turn) (old n
     → ((n : ℕ) → result ≡ Err (turn.Full n) → ⊥)
     → (store.fails_by_fuse old ≡ true → result ≡ Err turn.DiskFault → Burns (store.fuse_left old) (store.fuse_left new))
     → StoreUsed store (refused_by result) old new
-used_run store result old new later bad_stays may_burn by_fuse cause bad never_full burns = record {
+used_run store result old new cleaned marks any_moment within later bad_stays may_burn by_fuse cause bad never_full burns = record {
+  unspilled = unspilled_by store old new cleaned marks any_moment within;
   later = later;
   bad_stays = bad_stays;
   may_burn = may_burn;
@@ -113,8 +134,12 @@ used_unkept store fault old new is used = used_apart store (of_store fault) old 
 
 -- ---- looks
 
+looked_unspilled : {V : Type 0} (store : Ghosts V) (old new : V) → Looked store old new → NothingSpilled store old new
+looked_unspilled store old new looked = unspilled_by store old new looked.cleaned looked.marks looked.any_moment looked.within
+
 pub used_looks : {V : Type 0} (store : Ghosts V) (failed : Option StoreError) (old new : V) → Looks store failed old new → StoreUsed store failed old new
 used_looks store failed old new looks = record {
+  unspilled = looked_unspilled store old new looks.looked;
   later = looks.looked.later;
   bad_stays = looks.looked.bad_stays;
   may_burn = looks.looked.may_burn;
@@ -127,6 +152,7 @@ used_looks store failed old new looks = record {
 
 looked_used : {V : Type 0} (store : Ghosts V) (old new : V) → Looked store old new → StoreUsed store None old new
 looked_used store old new looked = record {
+  unspilled = looked_unspilled store old new looked;
   later = looked.later;
   bad_stays = looked.bad_stays;
   may_burn = looked.may_burn;

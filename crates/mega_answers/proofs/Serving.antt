@@ -1,18 +1,19 @@
 -- What a pump does, by its request, by what it picked and by what it came to.
-use Rattle.std.proofs.Common.{◌≡◌, ◌∙◌, ℕ, Bool, true, false, if◌then◌else◌, List, [], Option, Some, None, refl, ap, sym}
+use Rattle.std.proofs.Common.{◌≡◌, ◌∙◌, ℕ, Bool, true, false, if◌then◌else◌, List, [], Option, Some, None, refl, ap, sym, length, ◌+◌}
 use Rattle.std.specs.Prelude.{nat_le, take}
 use Rattle.mega_base.specs.declared.names.GroupId.{GroupId}
 use Rattle.mega_base.specs.declared.names.OpId.{OpId}
 use Rattle.mega_entry.specs.declared.content.Enter.{Enter}
 use Rattle.mega_outcome.specs.declared.answer.Answer.TheVariants.{LogFull}
+use Rattle.mega_outcome.specs.Outcome.{batch_outcome, outcome}
 use Rattle.mega_outcome.specs.declared.request.Request.{Request}
 use Rattle.mega_outcome.specs.declared.request.Request.TheVariants.{Txn, Batch, Read, Find, PumpEnter, PumpHandle, Refresh}
 use Rattle.mega_read.specs.declared.reading.Reading.{Reading}
 use Rattle.mega_pumps.specs.declared.picking.Picked.{Picked}
 use Rattle.mega_pumps.specs.Owns.{picks_by}
 use Rattle.mega_pumps.specs.Picks.{picked_group, picked_message, serves}
-use Rattle.mega_rules.specs.Acting.{applied_logs, ends, enters, finishes, goes_on, handles, picks_group, picks_message}
-use Rattle.mega_rules.specs.Logs.{log_of}
+use Rattle.mega_rules.specs.Acting.{Rests, applied_logs, batch_sealed, ends, enters, finishes, handles, picks_group, picks_message, rests_within, rows_at, sealed}
+use Rattle.mega_rules.specs.Logs.{log_of, groups_of}
 use Rattle.mega_rules.specs.Operations.{Now, Operation, Phase, Proposes, Reads, Setting}
 use Rattle.mega_rules.specs.Queues.{Posted, next_to_enter, next_to_handle, oldest_unhandled}
 use Rattle.mega_rules.specs.Steps.{begins, new_operation}
@@ -22,14 +23,14 @@ use Rattle.mega_answers.specs.declared.pumping.Pumped.TheVariants.{Again, Done}
 use Rattle.mega_answers.specs.Asked.{IsNextAbout, IsNextAsked}
 use Rattle.mega_answers.specs.Asked.{IsAsked}
 use Rattle.mega_step_work.specs.Servable.{is_pump}
-use Rattle.mega_answers.specs.Pumping.{is_entering, next_of, pumped_after, pumped_by, then_again}
+use Rattle.mega_answers.specs.Pumping.{is_entering, led_to, next_of, pumped_after, pumped_by}
 use Rattle.mega_step_work.proofs.Doing.{does_met, does_stored}
 
 -- ---- what is left to do
 
-pub pumped_then : (again : Now → Operation → Now) (now : Now) (pumped : Pumped) → pumped_by again now pumped ≡ then_again again (pumped_after now pumped) (next_of pumped)
-pumped_then again now (Done action) = refl
-pumped_then again now (Again heard) = refl
+pub pumped_then : (now : Now) (pumped : Pumped) → pumped_by now pumped ≡ led_to (pumped_after now pumped) (next_of pumped)
+pumped_then now (Done action) = refl
+pumped_then now (Again heard) = refl
 
 pub pumped_met : (now : Now) (pumped : Pumped) → (pumped_after now pumped).met ≡ now.met
 pumped_met now (Done action) = does_met now action
@@ -61,72 +62,77 @@ next_about (Again heard) request pump asked = pump_about heard.operation (ap is_
 
 -- ---- what it picked
 
-pub serves_message : (s : Setting) (again : Now → Operation → Now) (now : Now) (o : Operation) (asked : List ℕ) (op : OpId) (picked : Option Picked) → o.id ≡ op → picked ≡ picked_message (next_to_enter op (applied_logs now))
-    → serves s again now o asked picked ≡ picks_by true s again now o asked
-serves_message s again now o asked op picked same is =
-    ap (serves s again now o asked) is ∙ ap (λ (id : OpId). serves s again now o asked (picked_message (next_to_enter id (applied_logs now)))) (sym same) ∙ go (next_to_enter o.id (applied_logs now))
+pub serves_message : (s : Setting) (now : Now) (o : Operation) (asked : List ℕ) (op : OpId) (picked : Option Picked) → o.id ≡ op → picked ≡ picked_message (next_to_enter op (applied_logs now))
+    → serves s now o asked picked ≡ picks_by true s now o asked
+serves_message s now o asked op picked same is =
+    ap (serves s now o asked) is ∙ ap (λ (id : OpId). serves s now o asked (picked_message (next_to_enter id (applied_logs now)))) (sym same) ∙ go (next_to_enter o.id (applied_logs now))
   where
-    go : (f : Option Posted) → serves s again now o asked (picked_message f) ≡ picks_message s again now o asked f
+    go : (f : Option Posted) → serves s now o asked (picked_message f) ≡ picks_message s now o asked f
     go None = refl
     go (Some one) = refl
 
-pub serves_group : (s : Setting) (again : Now → Operation → Now) (now : Now) (o : Operation) (asked : List ℕ) (picked : Option Picked) → picked ≡ picked_group (next_to_handle (applied_logs now)) → serves s again now o asked picked ≡ picks_by false s again now o asked
-serves_group s again now o asked picked is = ap (serves s again now o asked) is ∙ go (next_to_handle (applied_logs now))
+pub serves_group : (s : Setting) (now : Now) (o : Operation) (asked : List ℕ) (picked : Option Picked) → picked ≡ picked_group (next_to_handle (applied_logs now)) → serves s now o asked picked ≡ picks_by false s now o asked
+serves_group s now o asked picked is = ap (serves s now o asked) is ∙ go (next_to_handle (applied_logs now))
   where
-    go : (f : Option GroupId) → serves s again now o asked (picked_group f) ≡ picks_group s again now o asked f
+    go : (f : Option GroupId) → serves s now o asked (picked_group f) ≡ picks_group s now o asked f
     go None = refl
     go (Some group) = refl
 
 -- ---- where its read is complete
 
-module _ (s : Setting) (again : Now → Operation → Now) (now : Now) (group : GroupId) (r : Reading) (p : ℕ) (id : OpId) (began : ℕ) (visited : List GroupId) (message : Option Enter) where
+module _ (s : Setting) (now : Now) (group : GroupId) (r : Reading) (p : ℕ) (id : OpId) (began : ℕ) (visited : List GroupId) (message : Option Enter) where
   abbrev one : Request → Operation
   one request = record { id = id; request = request; began = began; visited = visited; message = message; phase = Reads group r }
 
   -- a log that is full ends it
-  pub pump_full : (request : Request) → is_pump request ≡ true → nat_le (s.cluster.limit).0 p ≡ true → finishes s again now (one request) group r p ≡ ends now id (LogFull (record { 0 = p }))
+  pub pump_full : (request : Request) → is_pump request ≡ true → nat_le (s.cluster.limit).0 p ≡ true → finishes s now (one request) group r p ≡ Rests (ends now id (LogFull (record { 0 = p })))
   pump_full (Txn transaction) pump full = absurd (cc)
   pump_full (Batch own transactions) pump full = absurd (cc)
   pump_full (Read request) pump full = absurd (cc)
   pump_full (Find request) pump full = absurd (cc)
-  pump_full PumpEnter pump full = ap (λ (t : Bool). if t then ends now id (LogFull (record { 0 = p })) else enters s again now (one PumpEnter) group r p message) full
-  pump_full PumpHandle pump full = ap (λ (t : Bool). if t then ends now id (LogFull (record { 0 = p })) else handles s again now (one PumpHandle) group r p (oldest_unhandled (take p (log_of now.met group)))) full
+  pump_full PumpEnter pump full = ap (λ (t : Bool). if t then Rests (ends now id (LogFull (record { 0 = p }))) else enters s now (one PumpEnter) group r p message) full
+  pump_full PumpHandle pump full = ap (λ (t : Bool). if t then Rests (ends now id (LogFull (record { 0 = p }))) else handles s now (one PumpHandle) group r p (oldest_unhandled (take p (log_of now.met group)))) full
   pump_full Refresh pump full = absurd (cc)
 
   -- else it enters, or handles
-  pub enters_room : (request : Request) → is_entering request ≡ true → nat_le (s.cluster.limit).0 p ≡ false → finishes s again now (one request) group r p ≡ enters s again now (one request) group r p message
+  pub enters_room : (request : Request) → is_entering request ≡ true → nat_le (s.cluster.limit).0 p ≡ false → finishes s now (one request) group r p ≡ enters s now (one request) group r p message
   enters_room (Txn transaction) entering room = absurd (cc)
   enters_room (Batch own transactions) entering room = absurd (cc)
   enters_room (Read request) entering room = absurd (cc)
   enters_room (Find request) entering room = absurd (cc)
-  enters_room PumpEnter entering room = ap (λ (t : Bool). if t then ends now id (LogFull (record { 0 = p })) else enters s again now (one PumpEnter) group r p message) room
+  enters_room PumpEnter entering room = ap (λ (t : Bool). if t then Rests (ends now id (LogFull (record { 0 = p }))) else enters s now (one PumpEnter) group r p message) room
   enters_room PumpHandle entering room = absurd (cc)
   enters_room Refresh entering room = absurd (cc)
 
   pub handles_room : (request : Request) → is_pump request ≡ true → is_entering request ≡ false → nat_le (s.cluster.limit).0 p ≡ false
-      → finishes s again now (one request) group r p ≡ handles s again now (one request) group r p (oldest_unhandled (take p (log_of now.met group)))
+      → finishes s now (one request) group r p ≡ handles s now (one request) group r p (oldest_unhandled (take p (log_of now.met group)))
   handles_room (Txn transaction) pump entering room = absurd (cc)
   handles_room (Batch own transactions) pump entering room = absurd (cc)
   handles_room (Read request) pump entering room = absurd (cc)
   handles_room (Find request) pump entering room = absurd (cc)
   handles_room PumpEnter pump entering room = absurd (cc)
-  handles_room PumpHandle pump entering room = ap (λ (t : Bool). if t then ends now id (LogFull (record { 0 = p })) else handles s again now (one PumpHandle) group r p (oldest_unhandled (take p (log_of now.met group)))) room
+  handles_room PumpHandle pump entering room = ap (λ (t : Bool). if t then Rests (ends now id (LogFull (record { 0 = p }))) else handles s now (one PumpHandle) group r p (oldest_unhandled (take p (log_of now.met group)))) room
   handles_room Refresh pump entering room = absurd (cc)
 
-  -- an operation that is no pump does not act again
-  pub never_again : (other : Now → Operation → Now) (request : Request) → is_pump request ≡ false → finishes s again now (one request) group r p ≡ finishes s other now (one request) group r p
-  never_again other (Txn transaction) pump = refl
-  never_again other (Batch own transactions) pump = refl
-  never_again other (Read request) pump = refl
-  never_again other (Find request) pump = refl
-  never_again other PumpEnter pump = absurd (cc)
-  never_again other PumpHandle pump = absurd (cc)
-  never_again other Refresh pump = refl
+  -- an operation that is no pump rests
+  rests_if : (t : Bool) (full rest : Now) → (if t then Rests full else Rests rest) ≡ Rests (rests_within 0 s (if t then Rests full else Rests rest))
+  rests_if true full rest = refl
+  rests_if false full rest = refl
+
+  pub rests_alone : (request : Request) → is_pump request ≡ false → finishes s now (one request) group r p ≡ Rests (rests_within 0 s (finishes s now (one request) group r p))
+  rests_alone (Txn transaction) pump = rests_if (nat_le (s.cluster.limit).0 p) (ends now id (LogFull (record { 0 = p }))) (sealed s now (one (Txn transaction)) group r p (outcome s.cluster.schema transaction (rows_at now group p)))
+  rests_alone (Batch own transactions) pump =
+      rests_if (nat_le (s.cluster.limit).0 p) (ends now id (LogFull (record { 0 = p }))) (batch_sealed s now (one (Batch own transactions)) group r p (batch_outcome s.cluster.schema own transactions (rows_at now group p)))
+  rests_alone (Read request) pump = refl
+  rests_alone (Find request) pump = refl
+  rests_alone PumpEnter pump = absurd (cc)
+  rests_alone PumpHandle pump = absurd (cc)
+  rests_alone Refresh pump = refl
 
 -- ---- where it begins
 
 pub pump_begins : (s : Setting) (now : Now) (op : OpId) (request : Request) (clock : ℕ) → is_pump request ≡ true
-    → begins s now (new_operation op request clock) ≡ picks_by (is_entering request) s (goes_on s) now (new_operation op request clock) []
+    → begins s now (new_operation op request clock) ≡ rests_within (length (groups_of now.met) + 2) s (picks_by (is_entering request) s now (new_operation op request clock) [])
 pump_begins s now op (Txn transaction) clock pump = absurd (cc)
 pump_begins s now op (Batch own transactions) clock pump = absurd (cc)
 pump_begins s now op (Read request) clock pump = absurd (cc)

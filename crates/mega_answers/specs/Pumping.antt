@@ -3,7 +3,7 @@ use Rattle.std.specs.Prelude.{Bool, true, false, Option, Some, None}
 use Rattle.mega_outcome.specs.declared.request.Request.{Request}
 use Rattle.mega_outcome.specs.declared.request.Request.TheVariants.{Txn, Batch, Read, Find, PumpEnter, PumpHandle, Refresh}
 use Rattle.mega_rules.specs.Operations.{Now, Operation}
-use Rattle.mega_rules.specs.Acting.{sends_more}
+use Rattle.mega_rules.specs.Acting.{ActsAgain, Next, Rests, sends_more}
 use Rattle.mega_answers.specs.declared.pumping.Pumped.{Pumped}
 use Rattle.mega_answers.specs.declared.pumping.Pumped.TheVariants.{Again, Done}
 use Rattle.mega_step_work.specs.Actions.{does}
@@ -18,9 +18,9 @@ is_entering PumpEnter = true
 is_entering PumpHandle = false
 is_entering Refresh = false
 
-abbrev pub pumped_by : (Now → Operation → Now) → Now → Pumped → Now
-pumped_by again now (Done action) = does now action
-pumped_by again now (Again heard) = again (sends_more now heard.sends) heard.operation
+abbrev pub pumped_by : Now → Pumped → Next
+pumped_by now (Done action) = Rests (does now action)
+pumped_by now (Again heard) = ActsAgain (sends_more now heard.sends) heard.operation
 
 -- the moment after it, and the operation that acts again there
 abbrev pub pumped_after : Now → Pumped → Now
@@ -31,6 +31,7 @@ abbrev pub next_of : Pumped → Option Operation
 next_of (Done action) = None
 next_of (Again heard) = Some heard.operation
 
-abbrev pub then_again : (Now → Operation → Now) → Now → Option Operation → Now
-then_again again now None = now
-then_again again now (Some o) = again now o
+-- what an operation came to that led to a moment, by the operation that acts again there, if one does
+abbrev pub led_to : Now → Option Operation → Next
+led_to now None = Rests now
+led_to now (Some o) = ActsAgain now o

@@ -6,8 +6,8 @@ ghost use Rattle.mega_marks.specs.of_node_laws.About.{IsOf};
 ghost use Rattle.mega_step_work.specs.of_leases.declared.leases.Leases.{Leases as LeasesKept};
 ghost use Rattle.mega_replica.specs.Applying.{applied};
 ghost use Rattle.mega_rules.specs.Clock.{clock_of};
-ghost use Rattle.mega_rules.specs.Operations.{Now, Operation as Open};
-ghost use Rattle.mega_rules.specs.Acting.{completes_read, finishes, validates};
+ghost use Rattle.mega_rules.specs.Operations.{Now};
+ghost use Rattle.mega_rules.specs.Acting.{Rests, completes_read, finishes, validates};
 ghost use Rattle.mega_step_work.specs.of_leases.Tells.{Tells as TellsLeases};
 ghost use Rattle.mega_replica.specs.Used.{StoreUsed};
 ghost use Rattle.mega_replica.specs.Following.{Follows, progress_at};
@@ -143,16 +143,16 @@ pub fn goes<R: Records, V: Versions>(
     work: &mut Work,
     reached: CompleteRead,
 ) -> Result<(), ActFault>
-    ensures state { OnOk result ((me : _) (h : Meanings) (leases : LeasesKept) (now : Now) (again : Now → Open → Now) → V.is_told ≡ true → IsOf reached.kept.request reached.group →
+    ensures state { OnOk result ((me : _) (h : Meanings) (leases : LeasesKept) (now after : Now) → V.is_told ≡ true → IsOf reached.kept.request reached.group →
         reached.position ≤ applied (log_of now.met reached.group) (now.stored reached.group) → clock ≡ clock_of now.met →
         RepresentsMet (setting members.now me h) voter.now.logs.kept leases (V.version rows.old.rows) (progress_at rows.old.progress) now.met now.stored →
-        RepresentsMet (setting members.now me h) voter.now.logs.kept leases (V.version rows.new.rows) (progress_at rows.new.progress)
-        (finishes (setting members.now me h) again now (operation_of reached) reached.group reached.reading reached.position).met
-        (finishes (setting members.now me h) again now (operation_of reached) reached.group reached.reading reached.position).stored) }
-    ensures work { OnOk result ((me : _) (h : Meanings) (leases : LeasesKept) (now : Now) (again : Now → Open → Now) → V.is_told ≡ true → IsOf reached.kept.request reached.group →
+        finishes (setting members.now me h) now (operation_of reached) reached.group reached.reading reached.position ≡ Rests after →
+        RepresentsMet (setting members.now me h) voter.now.logs.kept leases (V.version rows.new.rows) (progress_at rows.new.progress) after.met after.stored) }
+    ensures work { OnOk result ((me : _) (h : Meanings) (leases : LeasesKept) (now after : Now) → V.is_told ≡ true → IsOf reached.kept.request reached.group →
         reached.position ≤ applied (log_of now.met reached.group) (now.stored reached.group) → clock ≡ clock_of now.met →
         RepresentsMet (setting members.now me h) voter.now.logs.kept leases (V.version rows.old.rows) (progress_at rows.old.progress) now.met now.stored →
-        work.old ≡ work_of now → work.new ≡ work_of (finishes (setting members.now me h) again now (operation_of reached) reached.group reached.reading reached.position)) }
+        finishes (setting members.now me h) now (operation_of reached) reached.group reached.reading reached.position ≡ Rests after →
+        work.old ≡ work_of now → work.new ≡ work_of after) }
     ensures used { StoreUsed V.Versions (failed_by result) rows.old.rows rows.new.rows }
     ensures unserved { result ≡ Err Unserved → is_plain reached.kept.request ≡ false }
 {

@@ -4,8 +4,8 @@ ghost use Rattle.mega_disk.specs.VersionMaps.{SameVersions};
 ghost use Rattle.mega_handler.specs.Named.{Meanings};
 ghost use Rattle.mega_marks.specs.of_node_laws.About.{IsOf};
 ghost use Rattle.mega_rules.specs.Clock.{clock_of};
-ghost use Rattle.mega_rules.specs.Operations.{Now, Operation};
-ghost use Rattle.mega_rules.specs.Acting.{finishes};
+ghost use Rattle.mega_rules.specs.Operations.{Now};
+ghost use Rattle.mega_rules.specs.Acting.{Rests, finishes};
 ghost use Rattle.mega_replica.specs.Used.{StoreUsed};
 ghost use Rattle.mega_step_work.specs.of_voter.Telling.{Tells};
 ghost use Rattle.mega_answers.specs.declared.fault.ActFault.TheVariants.{Unserved};
@@ -37,10 +37,10 @@ pub fn finishes<R: Records, V: Versions>(
     clock: u64,
     rows: &mut V,
 ) -> Result<Action, ActFault>
-    ensures action { IfOk result (λ action. V.is_told ≡ true → (me : _) (h : Meanings) (now : Now) (again : Now → Operation → Now) →
+    ensures action { IfOk result (λ action. V.is_told ≡ true → (me : _) (h : Meanings) (now : Now) →
         Tells voter.now.logs.kept now.met → clock ≡ clock_of now.met →
         Sees members.now.schema (V.version rows.old) reached.group reached.position now → IsOf reached.kept.request reached.group →
-        does now action ≡ finishes (setting members.now me h) again now (operation_of reached) reached.group reached.reading reached.position) }
+        Rests (does now action) ≡ finishes (setting members.now me h) now (operation_of reached) reached.group reached.reading reached.position) }
     ensures versions { SameVersions (V.version rows.old) (V.version rows.new) }
     ensures used { StoreUsed V.Versions (failed_by result) rows.old rows.new }
     ensures unserved { result ≡ Err Unserved → is_plain reached.kept.request ≡ false }
@@ -60,9 +60,9 @@ fn answers<V: Versions>(
     members: &Members,
     rows: &mut V,
 ) -> Result<Action, ActFault>
-    ensures action { IfOk result (λ action. V.is_told ≡ true → (me : _) (h : Meanings) (now : Now) (again : Now → Operation → Now) →
+    ensures action { IfOk result (λ action. V.is_told ≡ true → (me : _) (h : Meanings) (now : Now) →
         Sees members.now.schema (V.version rows.old) reached.group reached.position now → IsOf reached.kept.request reached.group →
-        does now action ≡ finishes (setting members.now me h) again now (operation_of reached) reached.group reached.reading reached.position) }
+        Rests (does now action) ≡ finishes (setting members.now me h) now (operation_of reached) reached.group reached.reading reached.position) }
     ensures versions { SameVersions (V.version rows.old) (V.version rows.new) }
     ensures used { StoreUsed V.Versions (failed_by result) rows.old rows.new }
     ensures unserved { result ≡ Err Unserved → is_answered reached.kept.request ≡ false }
@@ -95,10 +95,10 @@ fn comes<R: Records, V: Versions>(
     clock: u64,
     rows: &mut V,
 ) -> Result<Action, ActFault>
-    ensures action { IfOk result (λ action. V.is_told ≡ true → (me : _) (h : Meanings) (now : Now) (again : Now → Operation → Now) →
+    ensures action { IfOk result (λ action. V.is_told ≡ true → (me : _) (h : Meanings) (now : Now) →
         Tells voter.now.logs.kept now.met → clock ≡ clock_of now.met →
         Sees members.now.schema (V.version rows.old) reached.group reached.position now → IsOf reached.kept.request reached.group →
-        does now action ≡ finishes (setting members.now me h) again now (operation_of reached) reached.group reached.reading reached.position) }
+        Rests (does now action) ≡ finishes (setting members.now me h) now (operation_of reached) reached.group reached.reading reached.position) }
     ensures versions { SameVersions (V.version rows.old) (V.version rows.new) }
     ensures used { StoreUsed V.Versions (failed_by result) rows.old rows.new }
     ensures unserved { result ≡ Err Unserved → is_proposed reached.kept.request ≡ false }

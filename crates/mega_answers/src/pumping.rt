@@ -66,9 +66,9 @@ fn has_nothing<R: Records, V: Versions>(
     op: OpId,
 ) -> Result<Pumped, NoMemory>
     ensures asked { IfOk result (λ pumped. (request : _) → IsAsked pumped request) }
-    ensures pumped { IfOk result (λ pumped. (c : _) (me : _) (h : Meanings) (leases : LeasesKept) (now : Now) (again : Now → Open → Now) (o : Open) (asked : List ℕ) →
+    ensures pumped { IfOk result (λ pumped. (c : _) (me : _) (h : Meanings) (leases : LeasesKept) (now : Now) (o : Open) (asked : List ℕ) →
         RepresentsMet (setting c me h) voter.now.logs.kept leases (V.version rows.now.rows) (progress_at rows.now.progress) now.met now.stored → groups.now ≡ groups_of now.met → o.id ≡ op →
-        pumped_by again now pumped ≡ serves (setting c me h) again now o asked None) }
+        pumped_by now pumped ≡ serves (setting c me h) now o asked None) }
 {
     let marks = applied_marks(alloc, voter, rows, groups)?;
     Ok(Pumped::Done(Action {
@@ -90,9 +90,9 @@ fn serves<R: Records, V: Versions>(
     picked: Option<Picked>,
 ) -> Result<Pumped, NoMemory>
     ensures asked { IfOk result (λ pumped. IsAsked pumped kept.request) }
-    ensures pumped { IfOk result (λ pumped. (me : _) (h : Meanings) (now : Now) (again : Now → Open → Now) (phase : OpenPhase) →
+    ensures pumped { IfOk result (λ pumped. (me : _) (h : Meanings) (now : Now) (phase : OpenPhase) →
         RepresentsMet (setting members.now me h) voter.now.logs.kept leases.now (V.version rows.now.rows) (progress_at rows.now.progress) now.met now.stored → groups.now ≡ groups_of now.met →
-        pumped_by again now pumped ≡ serves (setting members.now me h) again now (whole kept phase) asked picked) }
+        pumped_by now pumped ≡ serves (setting members.now me h) now (whole kept phase) asked picked) }
 {
     match picked {
         Some(picked) => {
@@ -125,9 +125,9 @@ fn picked_of<R: Records, V: Versions>(
     entering: bool,
     groups: &[GroupId],
 ) -> Result<Option<Picked>, NoMemory>
-    ensures picked { IfOk result (λ picked. (s : Setting) (again : Now → Open → Now) (now : Now) (o : Open) (asked : List ℕ) → Tells voter.now.logs.kept now.met →
+    ensures picked { IfOk result (λ picked. (s : Setting) (now : Now) (o : Open) (asked : List ℕ) → Tells voter.now.logs.kept now.met →
         Follows (V.version rows.now.rows) (progress_at rows.now.progress) (log_of now.met) now.stored → HasNoted voter.now.logs.kept digest.old → groups.now ≡ groups_of now.met → o.id ≡ op →
-        serves s again now o asked picked ≡ picks_by entering s again now o asked) }
+        serves s now o asked picked ≡ picks_by entering s now o asked) }
     ensures noted { OnOk result ((met : _) (stored : Group → ℕ) → Tells voter.now.logs.kept met →
         Follows (V.version rows.now.rows) (progress_at rows.now.progress) (log_of met) stored → HasNoted voter.now.logs.kept digest.old → groups.now ≡ groups_of met → HasNoted voter.now.logs.kept digest.new) }
 {
@@ -149,9 +149,9 @@ fn found_next<R: Records, V: Versions>(
     entering: bool,
 ) -> Result<Found, NoMemory>
     ensures groups { IfOk result (λ found. (now : Now) → Tells voter.now.logs.kept now.met → found.groups.items ≡ groups_of now.met) }
-    ensures picked { IfOk result (λ found. (s : Setting) (again : Now → Open → Now) (now : Now) (o : Open) (asked : List ℕ) → Tells voter.now.logs.kept now.met →
+    ensures picked { IfOk result (λ found. (s : Setting) (now : Now) (o : Open) (asked : List ℕ) → Tells voter.now.logs.kept now.met →
         Follows (V.version rows.now.rows) (progress_at rows.now.progress) (log_of now.met) now.stored → HasNoted voter.now.logs.kept digest.old → o.id ≡ op →
-        serves s again now o asked found.picked ≡ picks_by entering s again now o asked) }
+        serves s now o asked found.picked ≡ picks_by entering s now o asked) }
     ensures noted { OnOk result ((met : _) (stored : Group → ℕ) → Tells voter.now.logs.kept met →
         Follows (V.version rows.now.rows) (progress_at rows.now.progress) (log_of met) stored → HasNoted voter.now.logs.kept digest.old → HasNoted voter.now.logs.kept digest.new) }
 {
@@ -176,9 +176,9 @@ pub fn picks<R: Records, V: Versions>(
     entering: bool,
 ) -> Result<Pumped, NoMemory>
     ensures asked { IfOk result (λ pumped. IsAsked pumped kept.request) }
-    ensures pumped { IfOk result (λ pumped. (me : _) (h : Meanings) (now : Now) (again : Now → Open → Now) (phase : OpenPhase) →
+    ensures pumped { IfOk result (λ pumped. (me : _) (h : Meanings) (now : Now) (phase : OpenPhase) →
         RepresentsMet (setting members.now me h) voter.now.logs.kept leases.now (V.version rows.now.rows) (progress_at rows.now.progress) now.met now.stored → HasNoted voter.now.logs.kept digest.old →
-        pumped_by again now pumped ≡ picks_by entering (setting members.now me h) again now (whole kept phase) asked) }
+        pumped_by now pumped ≡ picks_by entering (setting members.now me h) now (whole kept phase) asked) }
     ensures noted { OnOk result ((met : _) (stored : Group → ℕ) → Tells voter.now.logs.kept met →
         Follows (V.version rows.now.rows) (progress_at rows.now.progress) (log_of met) stored → HasNoted voter.now.logs.kept digest.old → HasNoted voter.now.logs.kept digest.new) }
 {
@@ -209,11 +209,11 @@ fn decides<R: Records, V: Versions, H: QueueHandlers>(
     handlers: &mut H,
     reached: &CompleteRead,
 ) -> Result<Own, ActFault>
-    ensures own { IfOk result (λ own. V.is_told ≡ true → (me : _) (h : Meanings) (progress : _) (leases : LeasesKept) (now : Now) (again : Now → Open → Now) → Means (H.meant handlers.old) h → is_pump reached.now.kept.request ≡ true →
+    ensures own { IfOk result (λ own. V.is_told ≡ true → (me : _) (h : Meanings) (progress : _) (leases : LeasesKept) (now : Now) → Means (H.meant handlers.old) h → is_pump reached.now.kept.request ≡ true →
         nat_le (members.now.limit).0 reached.now.position ≡ false → reached.now.position ≤ applied (log_of now.met reached.now.group) (now.stored reached.now.group) →
         RepresentsMet (setting members.now me h) voter.now.logs.kept leases (V.version rows.old) progress now.met now.stored → HasNoted voter.now.logs.kept digest.old →
-        own_by (is_entering reached.now.kept.request) (setting members.now me h) again now (operation_of reached.now) reached.now.group reached.now.reading reached.now.position own
-        ≡ finishes (setting members.now me h) again now (operation_of reached.now) reached.now.group reached.now.reading reached.now.position) }
+        own_by (is_entering reached.now.kept.request) (setting members.now me h) now (operation_of reached.now) reached.now.group reached.now.reading reached.now.position own
+        ≡ finishes (setting members.now me h) now (operation_of reached.now) reached.now.group reached.now.reading reached.now.position) }
     ensures noted { OnOk result ((met : _) → Tells voter.now.logs.kept met → reached.now.position ≤ prefix_of met reached.now.group → HasNoted voter.now.logs.kept digest.old → HasNoted voter.now.logs.kept digest.new) }
     ensures versions { SameVersions (V.version rows.old) (V.version rows.new) }
     ensures handlers { H.meant handlers.new ≡ H.meant handlers.old }
@@ -249,9 +249,9 @@ fn picks_again<R: Records, V: Versions>(
     digest: &mut Digest,
 ) -> Result<Pumped, NoMemory>
     ensures asked { IfOk result (λ pumped. IsAsked pumped reached.kept.request) }
-    ensures pumped { IfOk result (λ pumped. (me : _) (h : Meanings) (now : Now) (again : Now → Open → Now) →
+    ensures pumped { IfOk result (λ pumped. (me : _) (h : Meanings) (now : Now) →
         RepresentsMet (setting members.now me h) voter.now.logs.kept leases.now (V.version rows.now.rows) (progress_at rows.now.progress) now.met now.stored → HasNoted voter.now.logs.kept digest.old →
-        pumped_by again now pumped ≡ picks_by (is_entering reached.kept.request) (setting members.now me h) again now (operation_of reached) (asked_by reached.reading)) }
+        pumped_by now pumped ≡ picks_by (is_entering reached.kept.request) (setting members.now me h) now (operation_of reached) (asked_by reached.reading)) }
     ensures noted { OnOk result ((met : _) (stored : Group → ℕ) → Tells voter.now.logs.kept met →
         Follows (V.version rows.now.rows) (progress_at rows.now.progress) (log_of met) stored → HasNoted voter.now.logs.kept digest.old → HasNoted voter.now.logs.kept digest.new) }
 {
@@ -291,9 +291,9 @@ fn does_own<R: Records, V: Versions>(
 ) -> Result<Pumped, NoMemory>
     requires { reached.position + 1 < 2 ^ 64 }
     ensures asked { IfOk result (λ pumped. IsAsked pumped reached.kept.request) }
-    ensures pumped { IfOk result (λ pumped. (me : _) (h : Meanings) (now : Now) (again : Now → Open → Now) →
+    ensures pumped { IfOk result (λ pumped. (me : _) (h : Meanings) (now : Now) →
         RepresentsMet (setting members.now me h) voter.now.logs.kept leases.now (V.version rows.now.rows) (progress_at rows.now.progress) now.met now.stored → HasNoted voter.now.logs.kept digest.old →
-        pumped_by again now pumped ≡ own_by (is_entering reached.kept.request) (setting members.now me h) again now (operation_of reached) reached.group reached.reading reached.position own) }
+        pumped_by now pumped ≡ own_by (is_entering reached.kept.request) (setting members.now me h) now (operation_of reached) reached.group reached.reading reached.position own) }
     ensures noted { OnOk result ((met : _) (stored : Group → ℕ) → Tells voter.now.logs.kept met →
         Follows (V.version rows.now.rows) (progress_at rows.now.progress) (log_of met) stored → HasNoted voter.now.logs.kept digest.old → HasNoted voter.now.logs.kept digest.new) }
 {
@@ -324,10 +324,10 @@ pub fn pumps<R: Records, V: Versions, H: QueueHandlers>(
     handlers: &mut H,
 ) -> Result<Pumped, ActFault>
     ensures asked { IfOk result (λ pumped. IsAsked pumped reached.kept.request) }
-    ensures pumped { IfOk result (λ pumped. V.is_told ≡ true → (me : _) (h : Meanings) (now : Now) (again : Now → Open → Now) → Means (H.meant handlers.old) h → is_pump reached.kept.request ≡ true →
+    ensures pumped { IfOk result (λ pumped. V.is_told ≡ true → (me : _) (h : Meanings) (now : Now) → Means (H.meant handlers.old) h → is_pump reached.kept.request ≡ true →
         reached.position ≤ applied (log_of now.met reached.group) (now.stored reached.group) →
         RepresentsMet (setting members.now me h) voter.now.logs.kept leases.now (V.version rows.old.rows) (progress_at rows.old.progress) now.met now.stored → HasNoted voter.now.logs.kept digest.old →
-        pumped_by again now pumped ≡ finishes (setting members.now me h) again now (operation_of reached) reached.group reached.reading reached.position) }
+        pumped_by now pumped ≡ finishes (setting members.now me h) now (operation_of reached) reached.group reached.reading reached.position) }
     ensures noted { OnOk result ((met : _) (stored : Group → ℕ) → Tells voter.now.logs.kept met → reached.position ≤ applied (log_of met reached.group) (stored reached.group) →
         Follows (V.version rows.old.rows) (progress_at rows.old.progress) (log_of met) stored → HasNoted voter.now.logs.kept digest.old → HasNoted voter.now.logs.kept digest.new) }
     ensures versions { SameVersions (V.version rows.old.rows) (V.version rows.new.rows) }

@@ -1,7 +1,9 @@
+pub mod Climbs
 pub mod Decoding
 pub mod Keeps
 pub mod Longer
 pub mod Loops
+pub mod Mapped
 pub mod Ordered
 pub mod Powers
 pub mod Rising

@@ -1,5 +1,6 @@
 pub mod Causes
 pub mod Chars
+pub mod Climbing
 pub mod Codec
 pub mod Codecs
 pub mod Digits

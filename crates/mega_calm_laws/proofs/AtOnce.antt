@@ -15,7 +15,7 @@ use Rattle.mega_leased_laws.specs.of_run_laws.of_tape_laws.of_promises.of_rules.
 use Rattle.mega_leased_laws.specs.of_run_laws.of_tape_laws.of_promises.of_rules.of_read.declared.reading.Stage.TheVariants.{Catching}
 use Rattle.mega_leased_laws.specs.of_run_laws.of_tape_laws.of_promises.of_rules.of_read.Catching.{local_read, polled_read, seeks}
 use Rattle.mega_leased_laws.specs.of_run_laws.of_tape_laws.of_promises.of_transcript.declared.item.Item.TheVariants.{Answer as AnswerItem, Begin as BeginItem, Decide as DecideItem}
-use Rattle.mega_leased_laws.specs.of_run_laws.of_tape_laws.of_promises.of_rules.Acting.{acts as acts_now, acts_within, committed, completes_read, finishes, goes_on, leader_after, proposes, proposes_by, reader_of, seeks_on, sends_more, unless_decided}
+use Rattle.mega_leased_laws.specs.of_run_laws.of_tape_laws.of_promises.of_rules.Acting.{ActsAgain, Rests, acts as acts_now, committed, completes_read, finishes, goes_on, leader_after, proposes, proposes_by, reader_of, rests_within, seeks_on, sends_more, unless_decided}
 use Rattle.mega_leased_laws.specs.of_run_laws.of_tape_laws.of_promises.of_rules.Clock.{clock_of, is_up}
 use Rattle.mega_leased_laws.specs.of_run_laws.of_tape_laws.of_promises.of_rules.Coordinators.{serves_at}
 use Rattle.mega_leased_laws.specs.of_run_laws.of_tape_laws.of_promises.of_rules.Logs.{decided, decided_from, groups_of, log_of, prefix_of, then_more, top_of}
@@ -126,22 +126,22 @@ module _ (s : Setting) (node : Node) (request : Request) (text : List ℕ) (none
 
   module _ (begins_reading : acted ≡ reads_so true) (reaches : top_of node.met g ≡ prefix_of node.met g) (led : leader_behind s.cluster node.met g (prefix_of node.met g) ≡ Some leader)
       (undecided : decided node.met g (prefix_of node.met g + 1) ≡ None)
-      (finishes_so : (again : Now → Operation → Now) → finishes s again (complete through) (reads through) g (reading through) through ≡ proposes s (complete through) (reads through) g (reading through) through own promised) where
+      (finishes_so : finishes s (complete through) (reads through) g (reading through) through ≡ Rests (proposes s (complete through) (reads through) g (reading through) through own promised)) where
     proposes_so : proposes s (complete through) (reads through) g (reading through) through own promised ≡ left
     proposes_so = ap (proposes_by s (complete through) (reads through) g (reading through) through own promised) (led_same through ∙ led)
         ∙ ap (unless_decided (sends_more (complete through) (asks_leader id leader g (through + 1) own ∷ [])) writes (through + 1) promised) undecided
 
-    acts_so : (again : Now → Operation → Now) → acts_now s again (sends_more begin []) (reads through) ≡ left
-    acts_so again = reads_on_so (nat_le through (prefix_of base g)) (ap (nat_le through) prefix_same ∙ at_most_self through)
+    acts_so : acts_now s (sends_more begin []) (reads through) ≡ Rests left
+    acts_so = reads_on_so (nat_le through (prefix_of base g)) (ap (nat_le through) prefix_same ∙ at_most_self through)
       where
-        reads_on_so : (t : Bool) → t ≡ true → cond t (finishes s again (complete through) (reads through) g (reading through) through)
-            (seeks_on (reads through) (sends_more begin []) g (seeks (reader_of s id g) (reading through) (prefix_of base g + 1) (clock_of base))) ≡ left
-        reads_on_so true e = finishes_so again ∙ proposes_so
+        reads_on_so : (t : Bool) → t ≡ true → cond t (finishes s (complete through) (reads through) g (reading through) through)
+            (Rests (seeks_on (reads through) (sends_more begin []) g (seeks (reader_of s id g) (reading through) (prefix_of base g + 1) (clock_of base)))) ≡ Rests left
+        reads_on_so true e = finishes_so ∙ ap Rests proposes_so
         reads_on_so false e = cc
 
     acted_so : acted ≡ left
     acted_so = begins_reading ∙ (ap (λ p. goes_on s (sends_more begin []) (reads p)) reaches
-        ∙ (ap (λ k. acts_within k s (sends_more begin []) (reads through)) (more (length (groups_of base))) ∙ acts_so (acts_within (length (groups_of base) + 1) s)))
+        ∙ (ap (λ k. rests_within k s (ActsAgain (sends_more begin []) (reads through))) (more (length (groups_of base))) ∙ ap (rests_within (length (groups_of base) + 1) s) acts_so))
       where
         more : (k : ℕ) → k + 2 ≡ suc (k + 1)
         more k = omega arith
@@ -178,13 +178,12 @@ module _ (s : Setting) (node : Node) (request : Request) (text : List ℕ) (none
 module _ (c : Cluster) (h : Meanings) (cuts : Cuts) (now : Standing) (me : ℕ) (request : Request) (text : List ℕ) (its_group : GroupId) (entering : Option Enter) (own : Content) (promised : Promised)
     (calm : IsCalm c now its_group) (in_order : IsNumbered now.tape) (full : is_full c me ≡ true) (n leader : ℕ) (is : IsNextAt c now me its_group n leader)
     (begins_reading : acted (setting c h me) (now.node me) request text (calm.none_open me (full_node c me full)) its_group entering own promised leader ≡ reads_so (setting c h me) (now.node me) request text (calm.none_open me (full_node c me full)) its_group entering own promised leader true)
-    (finishes_so : (again : Now → Operation → Now)
-    → finishes (setting c h me) again (complete (setting c h me) (now.node me) request text (calm.none_open me (full_node c me full)) its_group entering own promised leader (prefix_of (now.node me).met its_group))
+    (finishes_so : finishes (setting c h me) (complete (setting c h me) (now.node me) request text (calm.none_open me (full_node c me full)) its_group entering own promised leader (prefix_of (now.node me).met its_group))
     (reads (setting c h me) (now.node me) request text (calm.none_open me (full_node c me full)) its_group entering own promised leader (prefix_of (now.node me).met its_group)) its_group
     (record { noted = None; asked = []; stage = Catching (prefix_of (now.node me).met its_group) None }) (prefix_of (now.node me).met its_group)
-    ≡ proposes (setting c h me) (complete (setting c h me) (now.node me) request text (calm.none_open me (full_node c me full)) its_group entering own promised leader (prefix_of (now.node me).met its_group))
+    ≡ Rests (proposes (setting c h me) (complete (setting c h me) (now.node me) request text (calm.none_open me (full_node c me full)) its_group entering own promised leader (prefix_of (now.node me).met its_group))
     (reads (setting c h me) (now.node me) request text (calm.none_open me (full_node c me full)) its_group entering own promised leader (prefix_of (now.node me).met its_group)) its_group
-    (record { noted = None; asked = []; stage = Catching (prefix_of (now.node me).met its_group) None }) (prefix_of (now.node me).met its_group) own promised) where
+    (record { noted = None; asked = []; stage = Catching (prefix_of (now.node me).met its_group) None }) (prefix_of (now.node me).met its_group) own promised)) where
   abbrev its_through : ℕ
   its_through = prefix_of (now.node me).met its_group
 

@@ -34,10 +34,10 @@ use Rattle.mega_leased_laws.specs.of_run_laws.of_tape_laws.of_promises.of_rules.
 use Rattle.mega_leased_laws.specs.of_run_laws.of_tape_laws.of_promises.of_transcript.declared.item.Item.{Item}
 use Rattle.mega_leased_laws.specs.of_run_laws.of_tape_laws.of_promises.of_transcript.declared.item.Item.TheVariants.{Begin as BeginItem}
 use Rattle.mega_leased_laws.specs.of_run_laws.of_tape_laws.of_promises.of_transcript.Tape.{is_sent, is_taken, sent_count}
-use Rattle.mega_leased_laws.specs.of_run_laws.of_tape_laws.of_promises.of_rules.Acting.{goes_on, reader_of, rows_answer, sends_more}
+use Rattle.mega_leased_laws.specs.of_run_laws.of_tape_laws.of_promises.of_rules.Acting.{goes_on, reader_of, rests_within, rows_answer, sends_more}
 use Rattle.mega_leased_laws.specs.of_run_laws.of_tape_laws.of_promises.of_rules.Clock.{clock_of, next_number, start_of}
 use Rattle.mega_leased_laws.specs.of_run_laws.of_tape_laws.of_promises.of_rules.Coordinators.{serves_at, valid_at}
-use Rattle.mega_leased_laws.specs.of_run_laws.of_tape_laws.of_promises.of_rules.Logs.{decided, prefix_of, top_of}
+use Rattle.mega_leased_laws.specs.of_run_laws.of_tape_laws.of_promises.of_rules.Logs.{decided, groups_of, prefix_of, top_of}
 use Rattle.mega_leased_laws.specs.of_run_laws.of_tape_laws.of_promises.of_rules.Members.{is_full, is_node, is_voter, kind_of, runs, voters, votes}
 use Rattle.mega_leased_laws.specs.of_run_laws.of_tape_laws.of_promises.of_rules.Met.{Met, Answers, Begins, Sends}
 use Rattle.mega_leased_laws.specs.of_run_laws.of_tape_laws.of_promises.of_rules.Operations.{Node, Now, Reads, Setting}
@@ -146,7 +146,8 @@ module _ (s : Setting) (node : Node) (request : ReadRequest) (text : List ℕ) (
   begins_so valid = goes_on s (sends_more begin (asked_so valid).sends)
       (record { id = id; request = ReadRequested request; began = clock_of node.met; visited = request.group ∷ []; message = None; phase = Reads request.group (asked_so valid).reading })
 
-  by_mode : (mode : Mode) → is_current mode ≡ true → read_begins s begin (new_operation id (ReadRequested request) (clock_of node.met)) request mode ≡ begins_so (valid_at s.cluster base request.group)
+  by_mode : (mode : Mode) → is_current mode ≡ true
+      → rests_within (length (groups_of base) + 2) s (read_begins s begin (new_operation id (ReadRequested request) (clock_of node.met)) request mode) ≡ begins_so (valid_at s.cluster base request.group)
   by_mode Current h = refl
   by_mode Snapshot h = cc
   by_mode Inconsistent h = cc

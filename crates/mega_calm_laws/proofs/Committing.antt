@@ -27,7 +27,7 @@ use Rattle.mega_leased_laws.specs.of_run_laws.of_tape_laws.of_promises.of_rules.
 use Rattle.mega_leased_laws.specs.of_run_laws.of_tape_laws.of_promises.of_rules.Logs.{log_of, prefix_of, top_of}
 use Rattle.mega_leased_laws.specs.of_run_laws.of_tape_laws.of_promises.of_rules.Members.{is_full, is_node, is_voter, voters}
 use Rattle.mega_leased_laws.specs.of_run_laws.of_tape_laws.of_promises.of_rules.Met.{Met, Begins, Sends}
-use Rattle.mega_leased_laws.specs.of_run_laws.of_tape_laws.of_promises.of_rules.Operations.{Node, Now, Operation, Promised, Setting}
+use Rattle.mega_leased_laws.specs.of_run_laws.of_tape_laws.of_promises.of_rules.Operations.{Node, Now, Promised, Setting}
 use Rattle.mega_leased_laws.specs.of_run_laws.of_tape_laws.of_promises.of_rules.Steps.{Begin, Step, Take, apply_notes, begin_step, onto, op_of, step}
 use Rattle.mega_leased_laws.specs.of_run_laws.of_tape_laws.of_promises.Calm.{IsCalm, begun, is_cut, next_position}
 use Rattle.mega_leased_laws.specs.of_run_laws.of_tape_laws.of_promises.Items.{number, shown}
@@ -161,8 +161,8 @@ module _ (c : Cluster) (h : Meanings) (cuts : Cuts) (now : Standing) (me : ℕ) 
     (calm : IsCalm c now g) (in_order : IsNumbered now.tape) (stocked : IsStocked c now g) (full : is_full c me ≡ true) (is : IsReady c now me g log)
     (begins_reading : acted (setting c h me) (now.node me) request text (calm.none_open me (full_node c me full)) g entering own promised is.leader
     ≡ reads_so (setting c h me) (now.node me) request text (calm.none_open me (full_node c me full)) g entering own promised is.leader (valid_at c (now.node me).met g))
-    (finishes_so : (noted : Option Epoch) (met : List Met) → take (length log) (log_of met g) ≡ log → (again : Now → Operation → Now) (hand : Now) (search : Option Search) → hand.met ≡ met
-    → FinishesSo c me (start_of (now.node me).met) (next_number (now.node me).met) g log request entering (clock_of (now.node me).met) noted own promised is.leader h again hand search) where
+    (finishes_so : (noted : Option Epoch) (met : List Met) → take (length log) (log_of met g) ≡ log → (hand : Now) (search : Option Search) → hand.met ≡ met
+    → FinishesSo c me (start_of (now.node me).met) (next_number (now.node me).met) g log request entering (clock_of (now.node me).met) noted own promised is.leader h hand search) where
   abbrev s : Setting
   s = setting c h me
 

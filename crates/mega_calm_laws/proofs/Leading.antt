@@ -39,7 +39,7 @@ use Rattle.mega_leased_laws.specs.of_run_laws.of_tape_laws.of_promises.of_rules.
 use Rattle.mega_leased_laws.specs.of_run_laws.of_tape_laws.of_promises.of_transcript.declared.item.Item.{Item}
 use Rattle.mega_leased_laws.specs.of_run_laws.of_tape_laws.of_promises.of_transcript.declared.item.Item.TheVariants.{Begin as BeginItem, Crash, Cut as CutItem, Decide, Dropped, Sent, Taken, Tick as TickItem, Unsafe}
 use Rattle.mega_leased_laws.specs.of_run_laws.of_tape_laws.of_promises.of_transcript.Tape.{is_sent, is_taken, sent_count}
-use Rattle.mega_leased_laws.specs.of_run_laws.of_tape_laws.of_promises.of_rules.Acting.{ends, named_leader}
+use Rattle.mega_leased_laws.specs.of_run_laws.of_tape_laws.of_promises.of_rules.Acting.{ends, named_leader, rests_within}
 use Rattle.mega_leased_laws.specs.of_run_laws.of_tape_laws.of_promises.of_rules.Clock.{clock_of, does_again, is_up, ticks_of}
 use Rattle.mega_leased_laws.specs.of_run_laws.of_tape_laws.of_promises.of_rules.Coordinators.{acquires_at}
 use Rattle.mega_leased_laws.specs.of_run_laws.of_tape_laws.of_promises.of_rules.Locks.{asked_for, held_answer, held_at, lock_answer}
@@ -260,17 +260,20 @@ module _ (s : Setting) (node : Node) (none : node.open_operations ≡ []) (other
     ends_bare : (answer : Answer) → IsBare (ends begin (op_of s node.met) answer)
     ends_bare answer = record { kept = none; sends = refl }
 
-    read_bare : (r : ReadRequest) (mode : Mode) → is_current mode ≡ false → IsBare (read_begins s begin own r mode)
+    abbrev most : ℕ
+    most = length (groups_of begin.met) + 2
+
+    read_bare : (r : ReadRequest) (mode : Mode) → is_current mode ≡ false → IsBare (rests_within most s (read_begins s begin own r mode))
     read_bare r Current h = cc
     read_bare r Snapshot h = ends_bare _
     read_bare r Inconsistent h = ends_bare _
 
-    find_bare_in : (r : FindRequest) (group : GroupId) (mode : Mode) → is_current mode ≡ false → IsBare (local_find_begins s begin own r group mode)
+    find_bare_in : (r : FindRequest) (group : GroupId) (mode : Mode) → is_current mode ≡ false → IsBare (rests_within most s (local_find_begins s begin own r group mode))
     find_bare_in r group Current h = cc
     find_bare_in r group Snapshot h = ends_bare _
     find_bare_in r group Inconsistent h = ends_bare _
 
-    find_bare : (r : FindRequest) (o : Option GroupId) → is_current r.mode ≡ false → IsBare (find_begins s begin own r o)
+    find_bare : (r : FindRequest) (o : Option GroupId) → is_current r.mode ≡ false → IsBare (rests_within most s (find_begins s begin own r o))
     find_bare r None h = ends_bare _
     find_bare r (Some group) h = find_bare_in r group r.mode h
 

@@ -28,7 +28,7 @@ use Rattle.mega_leased_laws.specs.of_run_laws.of_tape_laws.of_promises.of_rules.
 use Rattle.mega_leased_laws.specs.of_run_laws.of_tape_laws.of_promises.of_transcript.declared.item.Item.{Item}
 use Rattle.mega_leased_laws.specs.of_run_laws.of_tape_laws.of_promises.of_transcript.declared.item.Item.TheVariants.{Answer as AnswerItem, Decide as DecideItem, Taken}
 use Rattle.mega_leased_laws.specs.of_run_laws.of_tape_laws.of_promises.of_transcript.Tape.{sent_count}
-use Rattle.mega_leased_laws.specs.of_run_laws.of_tape_laws.of_promises.of_rules.Acting.{acts_within, goes_on, reader_of, sends_more, unless_decided, verdict}
+use Rattle.mega_leased_laws.specs.of_run_laws.of_tape_laws.of_promises.of_rules.Acting.{ActsAgain, goes_on, reader_of, rests_within, sends_more, unless_decided, verdict}
 use Rattle.mega_leased_laws.specs.of_run_laws.of_tape_laws.of_promises.of_rules.Clock.{clock_of, is_up}
 use Rattle.mega_leased_laws.specs.of_run_laws.of_tape_laws.of_promises.of_rules.Logs.{decided, first_of, groups_of, top_of}
 use Rattle.mega_leased_laws.specs.of_run_laws.of_tape_laws.of_promises.of_rules.Members.{full_nodes, is_full, is_node, is_voter, nodes, voters}
@@ -245,7 +245,7 @@ module _ (c : Cluster) (me start nth : ℕ) (g : GroupId) (n : ℕ) (own : Conte
   -- ---- the operation goes on, or ends
 
   goes_is : (s : Setting) (now : Now) (seen : ℕ) (round : Round) → goes_on s now (proposes seen round) ≡ unless_decided now (proposes seen round) n promised (decided now.met g n)
-  goes_is s now seen round = ap (λ k. acts_within k s now (proposes seen round)) (more (length (groups_of now.met)))
+  goes_is s now seen round = ap (λ k. rests_within k s (ActsAgain now (proposes seen round))) (more (length (groups_of now.met)))
     where
       more : (k : ℕ) → k + 2 ≡ suc (k + 1)
       more k = omega arith

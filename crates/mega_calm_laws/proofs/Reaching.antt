@@ -27,7 +27,7 @@ use Rattle.mega_leased_laws.specs.of_run_laws.of_tape_laws.of_promises.of_rules.
 use Rattle.mega_leased_laws.specs.of_run_laws.of_tape_laws.of_promises.of_rules.of_read.Catching.{asked_by, fills, move, stays as stays_so}
 use Rattle.mega_leased_laws.specs.of_run_laws.of_tape_laws.of_promises.of_transcript.declared.item.Item.{Item}
 use Rattle.mega_leased_laws.specs.of_run_laws.of_tape_laws.of_promises.of_transcript.declared.item.Item.TheVariants.{Taken}
-use Rattle.mega_leased_laws.specs.of_run_laws.of_tape_laws.of_promises.of_rules.Acting.{finishes, leader_after, named_leader, proposes}
+use Rattle.mega_leased_laws.specs.of_run_laws.of_tape_laws.of_promises.of_rules.Acting.{Rests, finishes, leader_after, named_leader, proposes}
 use Rattle.mega_leased_laws.specs.of_run_laws.of_tape_laws.of_promises.of_rules.Clock.{clock_of, is_up}
 use Rattle.mega_leased_laws.specs.of_run_laws.of_tape_laws.of_promises.of_rules.Logs.{decided, decided_from, log_of, prefix_of, top_of}
 use Rattle.mega_leased_laws.specs.of_run_laws.of_tape_laws.of_promises.of_rules.Members.{is_node, is_voter, voters}
@@ -88,17 +88,17 @@ both_ways : (a b : ℕ) → a ≤ b → b ≤ a → a ≡ b
 both_ways a b one other = omega (arith, one, other)
 
 -- at the end of the log it proposes its entry
-abbrev pub FinishesSo : Cluster → ℕ → ℕ → ℕ → GroupId → List Content → Request → Option Enter → ℕ → Option Epoch → Content → Promised → ℕ → Meanings → (Now → Operation → Now) → Now → Option Search → Type 0
-FinishesSo c me start nth g log request entering began noted own promised leader h again now search =
+abbrev pub FinishesSo : Cluster → ℕ → ℕ → ℕ → GroupId → List Content → Request → Option Enter → ℕ → Option Epoch → Content → Promised → ℕ → Meanings → Now → Option Search → Type 0
+FinishesSo c me start nth g log request entering began noted own promised leader h now search =
     asked_by (reading (setting c h me) (op c me start nth g) g request entering began noted log own promised leader (Catching (length log) search)) ≡ []
-    → finishes (setting c h me) again now (seeks (setting c h me) (op c me start nth g) g request entering began noted log own promised leader (Catching (length log) search)) g
+    → finishes (setting c h me) now (seeks (setting c h me) (op c me start nth g) g request entering began noted log own promised leader (Catching (length log) search)) g
     (reading (setting c h me) (op c me start nth g) g request entering began noted log own promised leader (Catching (length log) search)) (length log)
-    ≡ proposes (setting c h me) now (seeks (setting c h me) (op c me start nth g) g request entering began noted log own promised leader (Catching (length log) search)) g
-    (reading (setting c h me) (op c me start nth g) g request entering began noted log own promised leader (Catching (length log) search)) (length log) own promised
+    ≡ Rests (proposes (setting c h me) now (seeks (setting c h me) (op c me start nth g) g request entering began noted log own promised leader (Catching (length log) search)) g
+    (reading (setting c h me) (op c me start nth g) g request entering began noted log own promised leader (Catching (length log) search)) (length log) own promised)
 
 module _ (c : Cluster) (me start nth : ℕ) (g : GroupId) (log : List Content) (member : is_voter c me ≡ true) (request : Request) (entering : Option Enter) (began : ℕ) (noted : Option Epoch) (own : Content) (promised : Promised) (leader : ℕ) (h : Meanings)
     (fresh : ℕ → Bool) (known : is_majority (length (voters c)) (length (filter fresh (voters c))) ≡ true)
-    (finishes_so : (met : List Met) → take (length log) (log_of met g) ≡ log → (again : Now → Operation → Now) (now : Now) (search : Option Search) → now.met ≡ met → FinishesSo c me start nth g log request entering began noted own promised leader h again now search) (leads : leader_behind c log (length log) ≡ Some leader) (leader_votes : is_voter c leader ≡ true) where
+    (finishes_so : (met : List Met) → take (length log) (log_of met g) ≡ log → (now : Now) (search : Option Search) → now.met ≡ met → FinishesSo c me start nth g log request entering began noted own promised leader h now search) (leads : leader_behind c log (length log) ≡ Some leader) (leader_votes : is_voter c leader ≡ true) where
   abbrev pub s : Setting
   s = setting c h me
 
@@ -154,7 +154,7 @@ module _ (c : Cluster) (me start nth : ℕ) (g : GroupId) (log : List Content) (
 
   sealed_by : (met : List Met) → Log met → length log ≤ length (decided_from met g (length met) 1) → decided met g place ≡ None → IsSealed s the_op g request entering began noted log own promised leader met
   sealed_by met agreed le none = record {
-    finishes_so = λ again now search same none_asked. finishes_so met (front_is met g log (length met) 1 (λ i e d. agreed i e (subst (λ a. decided met g a ≡ Some e) (turned i) d)) le) again now search same none_asked;
+    finishes_so = λ now search same none_asked. finishes_so met (front_is met g log (length met) 1 (λ i e d. agreed i e (subst (λ a. decided met g a ≡ Some e) (turned i) d)) le) now search same none_asked;
     leads = λ now is. go (length log) refl now is;
     undecided = none;
   }

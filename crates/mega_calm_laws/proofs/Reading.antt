@@ -24,7 +24,7 @@ use Rattle.mega_leased_laws.specs.of_run_laws.of_tape_laws.of_promises.of_rules.
 use Rattle.mega_leased_laws.specs.of_run_laws.of_tape_laws.of_promises.of_rules.Coordinators.{refused_at}
 use Rattle.mega_leased_laws.specs.of_run_laws.of_tape_laws.of_promises.of_rules.Logs.{groups_of, log_of, prefix_of}
 use Rattle.mega_leased_laws.specs.of_run_laws.of_tape_laws.of_promises.of_rules.Operations.{Now, Operation, Reads, Setting}
-use Rattle.mega_leased_laws.specs.of_run_laws.of_tape_laws.of_promises.of_rules.Acting.{acts, acts_within, completes_read, finishes, goes_on, listed_at, read_answer, reader_of, rows_at, seeks_on, stored_with, validated_by, validates}
+use Rattle.mega_leased_laws.specs.of_run_laws.of_tape_laws.of_promises.of_rules.Acting.{ActsAgain, Next, Rests, acts, completes_read, finishes, goes_on, listed_at, read_answer, reader_of, rests_within, rows_at, seeks_on, stored_with, validated_by, validates}
 use Rattle.mega_leased_laws.specs.of_run_laws.Justified.{Each}
 use Rattle.mega_leased_laws.proofs.of_run_laws.Events.{each_append as each_both}
 use Rattle.mega_calm_laws.proofs.Noting.{IsStill}
@@ -77,6 +77,15 @@ module _ (s : Setting) (op : OpId) (request : ReadRequest) (began : ℕ) (visite
         → next.kept ≡ now.kept ++ one asked (fetching now.met through at) ∷ [] → next.sends ≡ now.sends ++ map (fetch_to who (prefix_of now.met g + 1)) (helpers who)
         → Each IsStill next.valid → next.answers ≡ now.answers → Outcome now stage next
 
+  -- what it comes to: it rests so
+  abbrev pub Led : Now → Stage → Next → Type 0
+  Led now stage (Rests next) = Outcome now stage next
+  Led now stage (ActsAgain next o) = ⊥
+
+  rested : (most : ℕ) (now : Now) (stage : Stage) (next : Next) → Led now stage next → Outcome now stage (rests_within most s next)
+  rested most now stage (Rests next) h = h
+  rested most now stage (ActsAgain next o) h = absurd h
+
   -- ---- it is complete
 
   record Completed (now next : Now) : Type 0 where
@@ -128,9 +137,9 @@ module _ (s : Setting) (op : OpId) (request : ReadRequest) (began : ℕ) (visite
       by false e = sought (helpers who) refl helper.first helper.more helper.is
 
   module _ (shows : ShowsRows s request) where
-    finishes_it : (now : Now) (asked : List ℕ) (through : ℕ) (search : Option Search) (again : Now → Operation → Now) → Each IsStill now.valid
-        → Outcome now (Catching through search) (finishes s again (completes_read s now g (reading asked (Catching through search)) through) (one asked (Catching through search)) g (reading asked (Catching through search)) through)
-    finishes_it now asked through search again h = answered through shown.0 done.kept done.sends done.valid
+    finishes_it : (now : Now) (asked : List ℕ) (through : ℕ) (search : Option Search) → Each IsStill now.valid
+        → Led now (Catching through search) (finishes s (completes_read s now g (reading asked (Catching through search)) through) (one asked (Catching through search)) g (reading asked (Catching through search)) through)
+    finishes_it now asked through search h = answered through shown.0 done.kept done.sends done.valid
         (ap (λ (l : List Met). l ++ Answers op (read_answer s request through (rows_at next g through) (listed_at next g through)) ∷ []) done.answers
         ∙ ap (λ a. now.answers ++ Answers op a ∷ []) shown.1)
       where
@@ -148,18 +157,19 @@ module _ (s : Setting) (op : OpId) (request : ReadRequest) (began : ℕ) (visite
     Helped met (Polling heard best sent) = Unit {0}
     Helped met (Catching through search) = nat_le through (prefix_of met g) ≡ false → HasHelper who
 
-    pub acts_on : (again : Now → Operation → Now) (now : Now) (asked : List ℕ) (stage : Stage) → Each IsStill now.valid → Helped now.met stage → Outcome now stage (acts s again now (one asked stage))
-    acts_on again now asked (Polling heard best sent) h helped = waits asked refl refl h refl tt
-    acts_on again now asked (Catching through search) h helped = by (nat_le through (prefix_of now.met g)) refl
+    pub acts_on : (now : Now) (asked : List ℕ) (stage : Stage) → Each IsStill now.valid → Helped now.met stage → Led now stage (acts s now (one asked stage))
+    acts_on now asked (Polling heard best sent) h helped = waits asked refl refl h refl tt
+    acts_on now asked (Catching through search) h helped = by (nat_le through (prefix_of now.met g)) refl
       where
         by : (t : Bool) → nat_le through (prefix_of now.met g) ≡ t
-            → Outcome now (Catching through search) (cond t (finishes s again (completes_read s now g (reading asked (Catching through search)) through) (one asked (Catching through search)) g (reading asked (Catching through search)) through)
-            (seeks_on (one asked (Catching through search)) now g (seeks who (reading asked (Catching through search)) (prefix_of now.met g + 1) (clock_of now.met))))
-        by true e = finishes_it now asked through search again h
+            → Led now (Catching through search) (cond t (finishes s (completes_read s now g (reading asked (Catching through search)) through) (one asked (Catching through search)) g (reading asked (Catching through search)) through)
+            (Rests (seeks_on (one asked (Catching through search)) now g (seeks who (reading asked (Catching through search)) (prefix_of now.met g + 1) (clock_of now.met)))))
+        by true e = finishes_it now asked through search h
         by false e = seeks_it now asked through search h e (helped e)
 
     pub goes_on_so : (now : Now) (asked : List ℕ) (stage : Stage) → Each IsStill now.valid → Helped now.met stage → Outcome now stage (goes_on s now (one asked stage))
-    goes_on_so now asked stage h helped = subst (λ k. Outcome now stage (acts_within k s now (one asked stage))) (sym more) (acts_on (acts_within (length (groups_of now.met) + 1) s) now asked stage h helped)
+    goes_on_so now asked stage h helped = subst (λ k. Outcome now stage (rests_within k s (ActsAgain now (one asked stage)))) (sym more)
+        (rested (length (groups_of now.met) + 1) now stage (acts s now (one asked stage)) (acts_on now asked stage h helped))
       where
         more : length (groups_of now.met) + 2 ≡ suc (length (groups_of now.met) + 1)
         more = omega arith

@@ -1,5 +1,5 @@
 -- Transactions and pumps that begin at any full node of a calm cluster: whether they poll or not, and whatever their node lacks of the log, each is committed.
-use Rattle.std.proofs.Common.{◌≡◌, ℕ, ◌≤◌, nat_le, true, false, cond, List, [], ◌∷◌, length, map, take, Option, Some, None, Ok, refl, sym, ap, ◌∙◌, subst}
+use Rattle.std.proofs.Common.{◌≡◌, ℕ, ◌≤◌, nat_le, true, false, cond, List, [], ◌∷◌, length, map, take, Option, Some, None, Ok, refl, sym, ap, ◌∙◌, subst, ◌+◌}
 use Rattle.mega_base.specs.declared.names.Epoch.{Epoch}
 use Rattle.mega_base.specs.declared.names.GroupId.{GroupId}
 use Rattle.mega_base.specs.declared.names.OpId.{OpId}
@@ -19,7 +19,7 @@ use Rattle.mega_leased_laws.specs.of_run_laws.of_tape_laws.of_promises.of_rules.
 use Rattle.mega_leased_laws.specs.of_run_laws.of_tape_laws.of_promises.of_rules.of_read.Catching.{asked_by}
 use Rattle.mega_leased_laws.specs.of_run_laws.of_tape_laws.of_promises.of_rules.of_replica.Applying.{applied_log}
 use Rattle.mega_leased_laws.specs.of_run_laws.of_tape_laws.of_promises.of_transcript.declared.item.Item.TheVariants.{Answer as AnswerItem, Decide as DecideItem}
-use Rattle.mega_leased_laws.specs.of_run_laws.of_tape_laws.of_promises.of_rules.Acting.{applied_logs, ends, enters, goes_on, handles, handling, listed_at, picks_group, picks_message, picks_to_enter, proposes, rows_at, sealed, table_rows}
+use Rattle.mega_leased_laws.specs.of_run_laws.of_tape_laws.of_promises.of_rules.Acting.{Rests, applied_logs, ends, enters, handles, handling, listed_at, picks_group, picks_message, picks_to_enter, proposes, rests_within, rows_at, sealed, table_rows}
 use Rattle.mega_leased_laws.specs.of_run_laws.of_tape_laws.of_promises.of_rules.Clock.{clock_of, next_number, start_of}
 use Rattle.mega_leased_laws.specs.of_run_laws.of_tape_laws.of_promises.of_rules.Coordinators.{valid_at}
 use Rattle.mega_leased_laws.specs.of_run_laws.of_tape_laws.of_promises.of_rules.Logs.{groups_of, log_of}
@@ -79,11 +79,11 @@ module _ (c : Cluster) (h : Meanings) (cuts : Cuts) (now : Standing) (me : ℕ) 
     txn_begins = ap (unless_refused s (begin s node (Txn transaction) text txn_none transaction.group None txn_own (Replies done.replies) ready.leader) (new_operation its_id (Txn transaction) (clock_of met)))
         (not_refused s node (Txn transaction) full ((calm.calm).not_worn me (full_node c me full)) txn_none)
 
-    txn_finishes : (noted : Option Epoch) (found : List Met) → take (length log) (log_of found transaction.group) ≡ log → (again : Now → Operation → Now) (hand : Now) (search : Option Search) → hand.met ≡ found
-        → FinishesSo c me (start_of met) (next_number met) transaction.group log (Txn transaction) None (clock_of met) noted txn_own (Replies done.replies) ready.leader h again hand search
-    txn_finishes noted found is again hand search same none_asked =
-        ap (λ t. cond t (ends hand its_id (LogFull (record { 0 = length log }))) (sealed s hand o transaction.group r (length log) (outcome c.schema transaction (rows_at hand transaction.group (length log))))) (room_is transaction.group log n ready calm)
-        ∙ ap (sealed s hand o transaction.group r (length log)) (ap (λ (x : List Met). outcome c.schema transaction (rows_after (take (length log) (log_of x transaction.group)) no_rows)) same
+    txn_finishes : (noted : Option Epoch) (found : List Met) → take (length log) (log_of found transaction.group) ≡ log → (hand : Now) (search : Option Search) → hand.met ≡ found
+        → FinishesSo c me (start_of met) (next_number met) transaction.group log (Txn transaction) None (clock_of met) noted txn_own (Replies done.replies) ready.leader h hand search
+    txn_finishes noted found is hand search same none_asked =
+        ap (λ t. cond t (Rests (ends hand its_id (LogFull (record { 0 = length log })))) (Rests (sealed s hand o transaction.group r (length log) (outcome c.schema transaction (rows_at hand transaction.group (length log)))))) (room_is transaction.group log n ready calm)
+        ∙ ap (λ result. Rests (sealed s hand o transaction.group r (length log) result)) (ap (λ (x : List Met). outcome c.schema transaction (rows_after (take (length log) (log_of x transaction.group)) no_rows)) same
         ∙ (ap (λ l. outcome c.schema transaction (rows_after l no_rows)) is ∙ comes))
       where
         o : Operation
@@ -117,14 +117,14 @@ module _ (c : Cluster) (h : Meanings) (cuts : Cuts) (now : Standing) (me : ℕ) 
     enter_begins : acted s node PumpEnter text enter_none one.to (Some one.message) enter_own (Replies []) ready.leader
         ≡ reads_so s node PumpEnter text enter_none one.to (Some one.message) enter_own (Replies []) ready.leader (valid_at c met one.to)
     enter_begins = ap (unless_refused s enter_begin (new_operation its_id PumpEnter (clock_of met))) (not_refused s node PumpEnter full ((calm.calm).not_worn me (full_node c me full)) enter_none)
-        ∙ (ap (λ logs. picks_message s (goes_on s) enter_begin (new_operation its_id PumpEnter (clock_of met)) [] (next_to_enter its_id logs)) (logs_same me node its_id text (groups_of met))
-        ∙ ap (picks_message s (goes_on s) enter_begin (new_operation its_id PumpEnter (clock_of met)) []) picks)
+        ∙ (ap (λ logs. rests_within (length (groups_of enter_begin.met) + 2) s (picks_message s enter_begin (new_operation its_id PumpEnter (clock_of met)) [] (next_to_enter its_id logs))) (logs_same me node its_id text (groups_of met))
+        ∙ ap (λ found. rests_within (length (groups_of enter_begin.met) + 2) s (picks_message s enter_begin (new_operation its_id PumpEnter (clock_of met)) [] found)) picks)
 
-    enter_finishes : (noted : Option Epoch) (found : List Met) → take (length log) (log_of found one.to) ≡ log → (again : Now → Operation → Now) (hand : Now) (search : Option Search) → hand.met ≡ found
-        → FinishesSo c me (start_of met) (next_number met) one.to log PumpEnter (Some one.message) (clock_of met) noted enter_own (Replies []) ready.leader h again hand search
-    enter_finishes noted found is again hand search same none_asked =
-        ap (λ t. cond t (ends hand its_id (LogFull (record { 0 = length log }))) (enters s again hand o one.to r (length log) (Some one.message))) (room_is one.to log n ready calm)
-        ∙ ap (λ t. cond t (picks_to_enter s again hand o (asked_by r)) (proposes s hand o one.to r (length log) enter_own (Replies [])))
+    enter_finishes : (noted : Option Epoch) (found : List Met) → take (length log) (log_of found one.to) ≡ log → (hand : Now) (search : Option Search) → hand.met ≡ found
+        → FinishesSo c me (start_of met) (next_number met) one.to log PumpEnter (Some one.message) (clock_of met) noted enter_own (Replies []) ready.leader h hand search
+    enter_finishes noted found is hand search same none_asked =
+        ap (λ t. cond t (Rests (ends hand its_id (LogFull (record { 0 = length log })))) (enters s hand o one.to r (length log) (Some one.message))) (room_is one.to log n ready calm)
+        ∙ ap (λ t. cond t (picks_to_enter s hand o (asked_by r)) (Rests (proposes s hand o one.to r (length log) enter_own (Replies []))))
         (ap (λ (x : List Met). is_named (one.message).name (names_entered (take (length log) (log_of x one.to)))) same ∙ (ap (λ l. is_named (one.message).name (names_entered l)) is ∙ fresh))
       where
         o : Operation
@@ -159,17 +159,17 @@ module _ (c : Cluster) (h : Meanings) (cuts : Cuts) (now : Standing) (me : ℕ) 
     handle_begins : acted s node PumpHandle text handle_none group None handle_own (Replies []) ready.leader
         ≡ reads_so s node PumpHandle text handle_none group None handle_own (Replies []) ready.leader (valid_at c met group)
     handle_begins = ap (unless_refused s handle_begin (new_operation its_id PumpHandle (clock_of met))) (not_refused s node PumpHandle full ((calm.calm).not_worn me (full_node c me full)) handle_none)
-        ∙ (ap (λ logs. picks_group s (goes_on s) handle_begin (new_operation its_id PumpHandle (clock_of met)) [] (next_to_handle logs)) (logs_same me node its_id text (groups_of met))
-        ∙ ap (picks_group s (goes_on s) handle_begin (new_operation its_id PumpHandle (clock_of met)) []) picks)
+        ∙ (ap (λ logs. rests_within (length (groups_of handle_begin.met) + 2) s (picks_group s handle_begin (new_operation its_id PumpHandle (clock_of met)) [] (next_to_handle logs))) (logs_same me node its_id text (groups_of met))
+        ∙ ap (λ found. rests_within (length (groups_of handle_begin.met) + 2) s (picks_group s handle_begin (new_operation its_id PumpHandle (clock_of met)) [] found)) picks)
 
-    handle_finishes : (noted : Option Epoch) (found : List Met) → take (length log) (log_of found group) ≡ log → (again : Now → Operation → Now) (hand : Now) (search : Option Search) → hand.met ≡ found
-        → FinishesSo c me (start_of met) (next_number met) group log PumpHandle None (clock_of met) noted handle_own (Replies []) ready.leader h again hand search
-    handle_finishes noted found is again hand search same none_asked =
-        ap (λ t. cond t (ends hand its_id (LogFull (record { 0 = length log }))) (handles s again hand o group r (length log) (oldest_unhandled (take (length log) (log_of hand.met group))))) (room_is group log n ready calm)
-        ∙ (ap (λ l. handles s again hand o group r (length log) (oldest_unhandled l)) whole
-        ∙ (ap (handles s again hand o group r (length log)) oldest
-        ∙ (ap (λ t. cond t (proposes s hand o group r (length log) (handling s its_id group message (table_rows c.schema group (listed_at hand group (length log)))) (Replies [])) (ends hand its_id (NoHandler message.queue))) there
-        ∙ ap (λ l. proposes s hand o group r (length log) (handling s its_id group message (table_rows c.schema group (list_after l []))) (Replies [])) whole)))
+    handle_finishes : (noted : Option Epoch) (found : List Met) → take (length log) (log_of found group) ≡ log → (hand : Now) (search : Option Search) → hand.met ≡ found
+        → FinishesSo c me (start_of met) (next_number met) group log PumpHandle None (clock_of met) noted handle_own (Replies []) ready.leader h hand search
+    handle_finishes noted found is hand search same none_asked =
+        ap (λ t. cond t (Rests (ends hand its_id (LogFull (record { 0 = length log })))) (handles s hand o group r (length log) (oldest_unhandled (take (length log) (log_of hand.met group))))) (room_is group log n ready calm)
+        ∙ (ap (λ l. handles s hand o group r (length log) (oldest_unhandled l)) whole
+        ∙ (ap (handles s hand o group r (length log)) oldest
+        ∙ (ap (λ t. cond t (Rests (proposes s hand o group r (length log) (handling s its_id group message (table_rows c.schema group (listed_at hand group (length log)))) (Replies []))) (Rests (ends hand its_id (NoHandler message.queue)))) there
+        ∙ ap (λ l. Rests (proposes s hand o group r (length log) (handling s its_id group message (table_rows c.schema group (list_after l []))) (Replies []))) whole)))
       where
         o : Operation
         o = seeks s its_id group PumpHandle None (clock_of met) noted log handle_own (Replies []) ready.leader (Catching (length log) search)

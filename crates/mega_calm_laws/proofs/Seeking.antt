@@ -20,7 +20,7 @@ use Rattle.mega_leased_laws.specs.of_run_laws.of_tape_laws.of_promises.of_rules.
 use Rattle.mega_leased_laws.specs.of_run_laws.of_tape_laws.of_promises.of_rules.of_read.declared.reading.Stage.TheVariants.{Polling, Catching}
 use Rattle.mega_leased_laws.specs.of_run_laws.of_tape_laws.of_promises.of_rules.of_read.Catching.{asked_by, fetch_to, fetches, fills, helpers, is_position, move, searched, seeks as seeks_move, site, stays}
 use Rattle.mega_leased_laws.specs.of_run_laws.of_tape_laws.of_promises.of_rules.of_replica.Applying.{after_read}
-use Rattle.mega_leased_laws.specs.of_run_laws.of_tape_laws.of_promises.of_rules.Acting.{acts, acts_within, completes_read, finishes, goes_on, keeps, leader_after, proposes as proposes_own, proposes_by, proposes_there, reader_of, seeks_on, sends_more, stored_with, unless_decided, validated_by, validates}
+use Rattle.mega_leased_laws.specs.of_run_laws.of_tape_laws.of_promises.of_rules.Acting.{ActsAgain, Next, Rests, acts, completes_read, finishes, goes_on, keeps, leader_after, proposes as proposes_own, proposes_by, proposes_there, reader_of, rests_within, seeks_on, sends_more, stored_with, unless_decided, validated_by, validates}
 use Rattle.mega_leased_laws.specs.of_run_laws.of_tape_laws.of_promises.of_rules.Clock.{clock_of}
 use Rattle.mega_leased_laws.specs.of_run_laws.of_tape_laws.of_promises.of_rules.Coordinators.{refused_at}
 use Rattle.mega_leased_laws.specs.of_run_laws.of_tape_laws.of_promises.of_rules.Logs.{decided, decided_from, groups_of, log_of, prefix_of, then_more}
@@ -90,9 +90,9 @@ module _ (s : Setting) (op : OpId) (g : GroupId) (request : Request) (entering :
 
   -- at the end of the log its entry is known, and the leader behind it, and nothing is decided there
   pub record IsSealed (met : List Met) : Type 0 where
-    pub finishes_so : (again : Now → Operation → Now) (now : Now) (search : Option Search) → now.met ≡ met → asked_by (reading (Catching (length log) search)) ≡ []
-        → finishes s again now (seeks (Catching (length log) search)) g (reading (Catching (length log) search)) (length log)
-        ≡ proposes_own s now (seeks (Catching (length log) search)) g (reading (Catching (length log) search)) (length log) own promised
+    pub finishes_so : (now : Now) (search : Option Search) → now.met ≡ met → asked_by (reading (Catching (length log) search)) ≡ []
+        → finishes s now (seeks (Catching (length log) search)) g (reading (Catching (length log) search)) (length log)
+        ≡ Rests (proposes_own s now (seeks (Catching (length log) search)) g (reading (Catching (length log) search)) (length log) own promised)
     pub leads : (now : Now) → now.met ≡ met → leader_after s now g (length log) ≡ Some leader
     pub undecided : decided met g (length log + 1) ≡ None
 
@@ -110,6 +110,15 @@ module _ (s : Setting) (op : OpId) (g : GroupId) (request : Request) (entering :
     asks : (through at : ℕ) (search : Option Search) → stage ≡ Catching through search → nat_le through (prefix_of now.met g) ≡ false
         → next.kept ≡ now.kept ++ seeks (fetching now.met through at) ∷ [] → next.sends ≡ now.sends ++ map (fetch_to who (prefix_of now.met g + 1)) (helpers who)
         → Each IsValidate next.valid → next.answers ≡ now.answers → Outcome now stage next
+
+  -- what it comes to: it rests so
+  abbrev pub Led : Now → Stage → Next → Type 0
+  Led now stage (Rests next) = Outcome now stage next
+  Led now stage (ActsAgain next o) = ⊥
+
+  rested : (most : ℕ) (now : Now) (stage : Stage) (next : Next) → Led now stage next → Outcome now stage (rests_within most s next)
+  rested most now stage (Rests next) h = h
+  rested most now stage (ActsAgain next o) h = absurd h
 
   -- a search that completes no position by a round of its own
   abbrev pub IsUnfilled : Option Search → Type 0
@@ -146,11 +155,11 @@ module _ (s : Setting) (op : OpId) (g : GroupId) (request : Request) (entering :
 
   -- ---- it proposes
 
-  proposes_it : (now : Now) (search : Option Search) → IsUnfilled search → (again : Now → Operation → Now) → IsSealed now.met
-      → finishes s again now (seeks (Catching (length log) search)) g (reading (Catching (length log) search)) (length log) ≡ keeps (sends_more now (ask ∷ [])) (proposed (clock_of now.met))
-  proposes_it now search unfilled again sealed_so =
-      sealed_so.finishes_so again now search refl (none_asked (length log) search unfilled)
-      ∙ (ap (proposes_by s now o g r (length log) own promised) (sealed_so.leads now refl)
+  proposes_it : (now : Now) (search : Option Search) → IsUnfilled search → IsSealed now.met
+      → finishes s now (seeks (Catching (length log) search)) g (reading (Catching (length log) search)) (length log) ≡ Rests (keeps (sends_more now (ask ∷ [])) (proposed (clock_of now.met)))
+  proposes_it now search unfilled sealed_so =
+      sealed_so.finishes_so now search refl (none_asked (length log) search unfilled)
+      ∙ ap Rests (ap (proposes_by s now o g r (length log) own promised) (sealed_so.leads now refl)
       ∙ (ap (λ those. proposes_there s now o g (length log + 1) those promised (round_asks (site who those (length log + 1)) leader own (clock_of now.met))) (none_asked (length log) search unfilled)
       ∙ ap (unless_decided (sends_more now (ask ∷ [])) (proposed (clock_of now.met)) (length log + 1) promised) sealed_so.undecided))
     where
@@ -166,15 +175,15 @@ module _ (s : Setting) (op : OpId) (g : GroupId) (request : Request) (entering :
     pub now_so : IsSealed met
     pub then_so : IsSealed (Validates g p ∷ met)
 
-  finishes_it : (now : Now) (through : ℕ) (search : Option Search) → IsUnfilled search → (again : Now → Operation → Now) → Each IsValidate now.valid → WillSeal now.met through
-      → Outcome now (Catching through search) (finishes s again (completes_read s now g (reading (Catching through search)) through) (seeks (Catching through search)) g (reading (Catching through search)) through)
-  finishes_it now through search unfilled again h will = subst (λ p. WillSeal now.met p → Goal p) (sym will.place) at_end will
+  finishes_it : (now : Now) (through : ℕ) (search : Option Search) → IsUnfilled search → Each IsValidate now.valid → WillSeal now.met through
+      → Led now (Catching through search) (finishes s (completes_read s now g (reading (Catching through search)) through) (seeks (Catching through search)) g (reading (Catching through search)) through)
+  finishes_it now through search unfilled h will = subst (λ p. WillSeal now.met p → Goal p) (sym will.place) at_end will
     where
       Goal : ℕ → Type 0
-      Goal p = Outcome now (Catching p search) (finishes s again (completes_read s now g (reading (Catching p search)) p) (seeks (Catching p search)) g (reading (Catching p search)) p)
+      Goal p = Led now (Catching p search) (finishes s (completes_read s now g (reading (Catching p search)) p) (seeks (Catching p search)) g (reading (Catching p search)) p)
 
       at_end : WillSeal now.met (length log) → Goal (length log)
-      at_end seal = subst (Outcome now (Catching (length log) search)) (sym is)
+      at_end seal = subst (Led now (Catching (length log) search)) (sym is)
           (proposes (clock_of next.met) (ap (λ os. os ++ proposed (clock_of next.met) ∷ []) done_so.kept) (ap (λ ms. ms ++ ask ∷ []) done_so.sends) done_so.valid done_so.answers)
         where
           next : Now
@@ -183,8 +192,8 @@ module _ (s : Setting) (op : OpId) (g : GroupId) (request : Request) (entering :
           done_so : Completed now next (length log)
           done_so = completed now (Catching (length log) search) (length log) h
 
-          is : finishes s again next (seeks (Catching (length log) search)) g (reading (Catching (length log) search)) (length log) ≡ keeps (sends_more next (ask ∷ [])) (proposed (clock_of next.met))
-          is = proposes_it next search unfilled again (elim done_so.met [ inl same ↦ subst IsSealed (sym same) seal.now_so | inr more ↦ subst IsSealed (sym more) seal.then_so ])
+          is : finishes s next (seeks (Catching (length log) search)) g (reading (Catching (length log) search)) (length log) ≡ Rests (keeps (sends_more next (ask ∷ [])) (proposed (clock_of next.met)))
+          is = proposes_it next search unfilled (elim done_so.met [ inl same ↦ subst IsSealed (sym same) seal.now_so | inr more ↦ subst IsSealed (sym more) seal.then_so ])
 
   -- ---- it seeks on
 
@@ -218,18 +227,19 @@ module _ (s : Setting) (op : OpId) (g : GroupId) (request : Request) (entering :
   Helped met (Polling heard best sent) = Unit {0}
   Helped met (Catching through search) = IsUnfilled search × (nat_le through (prefix_of met g) ≡ true → WillSeal met through) × (nat_le through (prefix_of met g) ≡ false → HasHelper who)
 
-  pub acts_on : (again : Now → Operation → Now) (now : Now) (stage : Stage) → Each IsValidate now.valid → Helped now.met stage → Outcome now stage (acts s again now (seeks stage))
-  acts_on again now (Polling heard best sent) h helped = waits refl refl h refl tt
-  acts_on again now (Catching through search) h helped = by (nat_le through (prefix_of now.met g)) refl
+  pub acts_on : (now : Now) (stage : Stage) → Each IsValidate now.valid → Helped now.met stage → Led now stage (acts s now (seeks stage))
+  acts_on now (Polling heard best sent) h helped = waits refl refl h refl tt
+  acts_on now (Catching through search) h helped = by (nat_le through (prefix_of now.met g)) refl
     where
       by : (t : Bool) → nat_le through (prefix_of now.met g) ≡ t
-          → Outcome now (Catching through search) (cond t (finishes s again (completes_read s now g (reading (Catching through search)) through) (seeks (Catching through search)) g (reading (Catching through search)) through)
-          (seeks_on (seeks (Catching through search)) now g (seeks_move who (reading (Catching through search)) (prefix_of now.met g + 1) (clock_of now.met))))
-      by true e = finishes_it now through search helped.0 again h (helped.1 e)
+          → Led now (Catching through search) (cond t (finishes s (completes_read s now g (reading (Catching through search)) through) (seeks (Catching through search)) g (reading (Catching through search)) through)
+          (Rests (seeks_on (seeks (Catching through search)) now g (seeks_move who (reading (Catching through search)) (prefix_of now.met g + 1) (clock_of now.met)))))
+      by true e = finishes_it now through search helped.0 h (helped.1 e)
       by false e = seeks_it now through search helped.0 h e (helped.2 e)
 
   pub goes_on_so : (now : Now) (stage : Stage) → Each IsValidate now.valid → Helped now.met stage → Outcome now stage (goes_on s now (seeks stage))
-  goes_on_so now stage h helped = subst (λ k. Outcome now stage (acts_within k s now (seeks stage))) (sym more) (acts_on (acts_within (length (groups_of now.met) + 1) s) now stage h helped)
+  goes_on_so now stage h helped = subst (λ k. Outcome now stage (rests_within k s (ActsAgain now (seeks stage)))) (sym more)
+      (rested (length (groups_of now.met) + 1) now stage (acts s now (seeks stage)) (acts_on now stage h helped))
     where
       more : length (groups_of now.met) + 2 ≡ suc (length (groups_of now.met) + 1)
       more = omega arith

@@ -1,5 +1,5 @@
 -- Transactions and pumps that begin where their group is valid and their node's log reaches as far as it can.
-use Rattle.std.proofs.Common.{◌≡◌, ℕ, ◌≤◌, nat_le, true, false, cond, List, [], ◌∷◌, map, take, Some, None, Ok, refl, ap, ◌∙◌, subst}
+use Rattle.std.proofs.Common.{◌≡◌, ℕ, ◌≤◌, nat_le, true, false, cond, List, [], ◌∷◌, map, take, Some, None, Ok, refl, ap, ◌∙◌, subst, length, ◌+◌}
 use Rattle.mega_base.specs.declared.names.GroupId.{GroupId}
 use Rattle.mega_base.specs.declared.names.OpId.{OpId}
 use Rattle.mega_cluster.specs.declared.cluster.Cluster.{Cluster}
@@ -16,7 +16,7 @@ use Rattle.mega_leased_laws.specs.of_run_laws.of_tape_laws.of_promises.of_rules.
 use Rattle.mega_leased_laws.specs.of_run_laws.of_tape_laws.of_promises.of_rules.of_read.declared.reading.Stage.TheVariants.{Catching}
 use Rattle.mega_leased_laws.specs.of_run_laws.of_tape_laws.of_promises.of_rules.of_replica.Applying.{applied_log}
 use Rattle.mega_leased_laws.specs.of_run_laws.of_tape_laws.of_promises.of_transcript.declared.item.Item.TheVariants.{Answer as AnswerItem, Decide as DecideItem}
-use Rattle.mega_leased_laws.specs.of_run_laws.of_tape_laws.of_promises.of_rules.Acting.{applied_logs, ends, enters, goes_on, handles, handling, listed_at, picks_group, picks_message, picks_to_enter, proposes, rows_at, sealed, table_rows}
+use Rattle.mega_leased_laws.specs.of_run_laws.of_tape_laws.of_promises.of_rules.Acting.{Rests, applied_logs, ends, enters, handles, handling, listed_at, picks_group, picks_message, picks_to_enter, proposes, rests_within, rows_at, sealed, table_rows}
 use Rattle.mega_leased_laws.specs.of_run_laws.of_tape_laws.of_promises.of_rules.Clock.{clock_of}
 use Rattle.mega_leased_laws.specs.of_run_laws.of_tape_laws.of_promises.of_rules.Coordinators.{valid_at}
 use Rattle.mega_leased_laws.specs.of_run_laws.of_tape_laws.of_promises.of_rules.Logs.{groups_of, log_of, prefix_of}
@@ -83,10 +83,10 @@ module _ (c : Cluster) (h : Meanings) (cuts : Cuts) (now : Standing) (me : ℕ) 
     pub transaction_committed : (most : ℕ) → is_cut (drained c h cuts (begun c h cuts now me (Txn transaction) text) most).tape ≡ false
         → Stands (AnswerItem its_id (Committed (record { 0 = n }) done.replies)) (drained c h cuts (begun c h cuts now me (Txn transaction) text) most).tape
     transaction_committed most = at_once_committed c h cuts now me (Txn transaction) text transaction.group None txn_own (Replies done.replies) calm in_order full n leader is txn_begins
-        (λ again. ap (λ t. cond t (ends txn_hand its_id (LogFull (record { 0 = prefix_of met transaction.group })))
-        (sealed s txn_hand txn_reads transaction.group (reading s node (Txn transaction) text (calm.none_open me (full_node c me full)) transaction.group None txn_own (Replies done.replies) leader (prefix_of met transaction.group)) (prefix_of met transaction.group)
-        (outcome c.schema transaction (rows_at txn_hand transaction.group (prefix_of met transaction.group))))) (room_is transaction.group is)
-        ∙ ap (sealed s txn_hand txn_reads transaction.group (reading s node (Txn transaction) text (calm.none_open me (full_node c me full)) transaction.group None txn_own (Replies done.replies) leader (prefix_of met transaction.group)) (prefix_of met transaction.group))
+        (ap (λ t. cond t (Rests (ends txn_hand its_id (LogFull (record { 0 = prefix_of met transaction.group }))))
+        (Rests (sealed s txn_hand txn_reads transaction.group (reading s node (Txn transaction) text (calm.none_open me (full_node c me full)) transaction.group None txn_own (Replies done.replies) leader (prefix_of met transaction.group)) (prefix_of met transaction.group)
+        (outcome c.schema transaction (rows_at txn_hand transaction.group (prefix_of met transaction.group)))))) (room_is transaction.group is)
+        ∙ ap (λ result. Rests (sealed s txn_hand txn_reads transaction.group (reading s node (Txn transaction) text (calm.none_open me (full_node c me full)) transaction.group None txn_own (Replies done.replies) leader (prefix_of met transaction.group)) (prefix_of met transaction.group) result))
         (ap (λ log. outcome c.schema transaction (rows_after log no_rows)) (whole_log transaction.group) ∙ comes))
         most refl
 
@@ -112,15 +112,15 @@ module _ (c : Cluster) (h : Meanings) (cuts : Cuts) (now : Standing) (me : ℕ) 
     enter_begins : acted s node PumpEnter text (calm.none_open me (full_node c me full)) one.to (Some one.message) enter_own (Replies []) leader
         ≡ reads_so s node PumpEnter text (calm.none_open me (full_node c me full)) one.to (Some one.message) enter_own (Replies []) leader true
     enter_begins = ap (unless_refused s enter_begin (new_operation its_id PumpEnter (clock_of met))) (not_refused s node PumpEnter full (calm.not_worn me (full_node c me full)) (calm.none_open me (full_node c me full)))
-        ∙ (ap (λ logs. picks_message s (goes_on s) enter_begin (new_operation its_id PumpEnter (clock_of met)) [] (next_to_enter its_id logs)) (logs_same me node its_id text node.open_operations (groups_of met))
-        ∙ (ap (picks_message s (goes_on s) enter_begin (new_operation its_id PumpEnter (clock_of met)) []) picks
+        ∙ (ap (λ logs. rests_within (length (groups_of enter_begin.met) + 2) s (picks_message s enter_begin (new_operation its_id PumpEnter (clock_of met)) [] (next_to_enter its_id logs))) (logs_same me node its_id text node.open_operations (groups_of met))
+        ∙ (ap (λ found. rests_within (length (groups_of enter_begin.met) + 2) s (picks_message s enter_begin (new_operation its_id PumpEnter (clock_of met)) [] found)) picks
         ∙ ap (reads_so s node PumpEnter text (calm.none_open me (full_node c me full)) one.to (Some one.message) enter_own (Replies []) leader) valid))
 
     pub pump_enters : (most : ℕ) → is_cut (drained c h cuts (begun c h cuts now me PumpEnter text) most).tape ≡ false
         → Stands (DecideItem (number me) one.to (record { 0 = n }) (enter_entry its_id one.message)) (drained c h cuts (begun c h cuts now me PumpEnter text) most).tape
     pump_enters most = at_once_decided c h cuts now me PumpEnter text one.to (Some one.message) enter_own (Replies []) calm in_order full n leader is enter_begins
-        (λ again. ap (λ t. cond t (ends enter_hand its_id (LogFull (record { 0 = prefix_of met one.to }))) (enters s again enter_hand enter_reads one.to enter_reading (prefix_of met one.to) (Some one.message))) (room_is one.to is)
-        ∙ ap (λ t. cond t (picks_to_enter s again enter_hand enter_reads []) (proposes s enter_hand enter_reads one.to enter_reading (prefix_of met one.to) enter_own (Replies [])))
+        (ap (λ t. cond t (Rests (ends enter_hand its_id (LogFull (record { 0 = prefix_of met one.to })))) (enters s enter_hand enter_reads one.to enter_reading (prefix_of met one.to) (Some one.message))) (room_is one.to is)
+        ∙ ap (λ t. cond t (picks_to_enter s enter_hand enter_reads []) (Rests (proposes s enter_hand enter_reads one.to enter_reading (prefix_of met one.to) enter_own (Replies []))))
         (ap (λ log. is_named (one.message).name (names_entered log)) (whole_log one.to) ∙ fresh))
         most
 
@@ -144,16 +144,16 @@ module _ (c : Cluster) (h : Meanings) (cuts : Cuts) (now : Standing) (me : ℕ) 
     handle_begins : acted s node PumpHandle text (calm.none_open me (full_node c me full)) group None handle_own (Replies []) leader
         ≡ reads_so s node PumpHandle text (calm.none_open me (full_node c me full)) group None handle_own (Replies []) leader true
     handle_begins = ap (unless_refused s handle_begin (new_operation its_id PumpHandle (clock_of met))) (not_refused s node PumpHandle full (calm.not_worn me (full_node c me full)) (calm.none_open me (full_node c me full)))
-        ∙ (ap (λ logs. picks_group s (goes_on s) handle_begin (new_operation its_id PumpHandle (clock_of met)) [] (next_to_handle logs)) (logs_same me node its_id text node.open_operations (groups_of met))
-        ∙ (ap (picks_group s (goes_on s) handle_begin (new_operation its_id PumpHandle (clock_of met)) []) picks
+        ∙ (ap (λ logs. rests_within (length (groups_of handle_begin.met) + 2) s (picks_group s handle_begin (new_operation its_id PumpHandle (clock_of met)) [] (next_to_handle logs))) (logs_same me node its_id text node.open_operations (groups_of met))
+        ∙ (ap (λ found. rests_within (length (groups_of handle_begin.met) + 2) s (picks_group s handle_begin (new_operation its_id PumpHandle (clock_of met)) [] found)) picks
         ∙ ap (reads_so s node PumpHandle text (calm.none_open me (full_node c me full)) group None handle_own (Replies []) leader) valid))
 
     pub pump_handles : (most : ℕ) → is_cut (drained c h cuts (begun c h cuts now me PumpHandle text) most).tape ≡ false
         → Stands (DecideItem (number me) group (record { 0 = n }) (handled_by c.schema h group its_id message (log_of met group))) (drained c h cuts (begun c h cuts now me PumpHandle text) most).tape
     pump_handles most = at_once_decided c h cuts now me PumpHandle text group None handle_own (Replies []) calm in_order full n leader is handle_begins
-        (λ again. ap (λ t. cond t (ends handle_hand its_id (LogFull (record { 0 = prefix_of met group }))) (handles s again handle_hand handle_reads group handle_reading (prefix_of met group) (oldest_unhandled (take (prefix_of met group) (log_of (Begins its_id text ∷ met) group))))) (room_is group is)
-        ∙ (ap (λ log. handles s again handle_hand handle_reads group handle_reading (prefix_of met group) (oldest_unhandled log)) (whole_log group)
-        ∙ (ap (handles s again handle_hand handle_reads group handle_reading (prefix_of met group)) oldest
-        ∙ (ap (λ t. cond t (proposes s handle_hand handle_reads group handle_reading (prefix_of met group) (handling s its_id group message (table_rows c.schema group (listed_at handle_hand group (prefix_of met group)))) (Replies [])) (ends handle_hand its_id (NoHandler message.queue))) there
-        ∙ ap (λ log. proposes s handle_hand handle_reads group handle_reading (prefix_of met group) (handling s its_id group message (table_rows c.schema group (list_after log []))) (Replies [])) (whole_log group)))))
+        (ap (λ t. cond t (Rests (ends handle_hand its_id (LogFull (record { 0 = prefix_of met group })))) (handles s handle_hand handle_reads group handle_reading (prefix_of met group) (oldest_unhandled (take (prefix_of met group) (log_of (Begins its_id text ∷ met) group))))) (room_is group is)
+        ∙ (ap (λ log. handles s handle_hand handle_reads group handle_reading (prefix_of met group) (oldest_unhandled log)) (whole_log group)
+        ∙ (ap (handles s handle_hand handle_reads group handle_reading (prefix_of met group)) oldest
+        ∙ (ap (λ t. cond t (Rests (proposes s handle_hand handle_reads group handle_reading (prefix_of met group) (handling s its_id group message (table_rows c.schema group (listed_at handle_hand group (prefix_of met group)))) (Replies []))) (Rests (ends handle_hand its_id (NoHandler message.queue)))) there
+        ∙ ap (λ log. Rests (proposes s handle_hand handle_reads group handle_reading (prefix_of met group) (handling s its_id group message (table_rows c.schema group (list_after log []))) (Replies []))) (whole_log group)))))
         most

@@ -62,6 +62,7 @@ fn replacing(alloc: Global, generation: u64, body: &[u8]) -> Result<Vec<u8>, NoM
     ensures { IfOk result (λ bytes. bytes.items ≡ replacing generation body.now) }
 {
     let mut bytes = generation_bytes(alloc, generation)?;
+    bytes.reserve_exact(body.len() + 6)?;
     bytes.push(1)?;
     bytes.extend_from_slice(&(body.len() as u32).to_be_bytes())?;
     bytes.extend_from_slice(body)?;

@@ -1,15 +1,15 @@
 //! Files that were changed at random: an opening finds what a plain reading of their bytes does, and nothing else.
 use crate::asserted::same;
 use crate::device::{append_many, bytes_on, chain_on, device, opened, records_on};
-use crate::draws::Draws;
 use crate::plain::records_in;
 use mega_base::Bytes;
 use mega_disk::{MemDisk, Records};
+use mega_gen::DrawnNumbers;
 use std::alloc::Global;
 use std::process::Abort;
 
 /// Changes a byte anywhere, a byte at the front of a page, or cuts the file.
-fn change(draws: &mut Draws, bytes: &mut Vec<u8>) {
+fn change(draws: &mut DrawnNumbers, bytes: &mut Vec<u8>) {
     let size = bytes.len() as u64;
     let kind = draws.draw(8);
     if kind == 0 {
@@ -33,7 +33,7 @@ fn change(draws: &mut Draws, bytes: &mut Vec<u8>) {
 }
 
 /// The file with one to three changes.
-fn changed(rt: &impl Abort, alloc: Global, draws: &mut Draws, file: &[u8]) -> Vec<u8> {
+fn changed(rt: &impl Abort, alloc: Global, draws: &mut DrawnNumbers, file: &[u8]) -> Vec<u8> {
     let mut bytes = Vec::from_slice(alloc, file).expect(rt, "refused");
     for _ in 0..draws.draw(3) + 1 {
         change(draws, &mut bytes);
@@ -81,7 +81,7 @@ fn assert_opens(rt: &impl Abort, alloc: Global, bytes: &[u8], number: u64) {
 
 /// Changes a file so often, each time anew.
 fn assert_all_open(rt: &impl Abort, alloc: Global, file: &[u8], count: u64) {
-    let mut draws = Draws::new(count);
+    let mut draws = DrawnNumbers::new(count);
     for number in 0..count {
         let bytes = changed(rt, alloc, &mut draws, file);
         assert_opens(rt, alloc, bytes.as_slice(), number);
@@ -91,7 +91,7 @@ fn assert_all_open(rt: &impl Abort, alloc: Global, file: &[u8], count: u64) {
 /// Appends records of many lengths.
 fn append_drawn<R: Records>(rt: &impl Abort, alloc: Global, store: &mut R) {
     let body = [7u8; 400];
-    let mut draws = Draws::new(1);
+    let mut draws = DrawnNumbers::new(1);
     for _ in 0..40 {
         let size = draws.draw(400) as usize;
         if let Some(front) = body.get(..size) {

@@ -10,8 +10,6 @@ mod compacted;
 #[cfg(test)]
 mod device;
 #[cfg(test)]
-mod draws;
-#[cfg(test)]
 mod files;
 #[cfg(test)]
 mod plain;

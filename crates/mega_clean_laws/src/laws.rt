@@ -21,7 +21,7 @@ ghost use Rattle.mega_replica.specs.Applying.{applied, stored_writes};
 ghost use Rattle.mega_replica.specs.declared.progress.Progress.{Progress};
 ghost use Rattle.mega_replica.specs.Following.{Follows};
 ghost use Rattle.mega_replica.specs.Stored.{Counts, GroupLogs, IsOwn, IsUnwritten};
-ghost use Rattle.mega_fresh_laws.specs.of_leased_laws.of_settled_laws.of_run_laws.of_tape_laws.of_promises.of_rules.Acting.{ends, listed_at, read_answer, rows_at};
+ghost use Rattle.mega_fresh_laws.specs.of_leased_laws.of_settled_laws.of_run_laws.of_tape_laws.of_promises.of_rules.Acting.{Rests, ends, listed_at, read_answer, rows_at};
 ghost use Rattle.mega_fresh_laws.specs.of_leased_laws.of_settled_laws.of_run_laws.of_tape_laws.of_promises.of_rules.Finding.{local_found};
 ghost use Rattle.mega_fresh_laws.specs.of_leased_laws.of_settled_laws.of_run_laws.of_tape_laws.of_promises.of_rules.Logs.{top_of};
 ghost use Rattle.mega_fresh_laws.specs.of_leased_laws.of_settled_laws.of_run_laws.of_tape_laws.of_promises.of_rules.Met.{Met};
@@ -61,9 +61,9 @@ pub fn local_reads_reach_what_is_applied()
 /// A snapshot, of rows or of an index of a group, looks at the rows at the very position that its node has applied as it begins.
 pub fn snapshots_read_what_is_applied()
     ensures reads { (s : Setting) (now : Now) (o : Operation) (request : ReadRequest) → let p = applied_at now.met now.stored request.group in
-        read_begins s now o request Snapshot ≡ ends now o.id (read_answer s request p (rows_at now request.group p) (listed_at now request.group p)) }
+        read_begins s now o request Snapshot ≡ Rests (ends now o.id (read_answer s request p (rows_at now request.group p) (listed_at now request.group p))) }
     ensures finds { (s : Setting) (now : Now) (o : Operation) (request : FindRequest) (group : Group) → let p = applied_at now.met now.stored group in
-        local_find_begins s now o request group Snapshot ≡ ends now o.id (local_found (s.cluster).schema request p (listed_at now group p)) }
+        local_find_begins s now o request group Snapshot ≡ Rests (ends now o.id (local_found (s.cluster).schema request p (listed_at now group p))) }
 {}
 
 /// Where of one key the versions below the one that a read at a position sees are let go, each read at or above the position sees what it saw; and so it

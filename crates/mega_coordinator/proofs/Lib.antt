@@ -1,4 +1,3 @@
-pub mod Places
 pub mod Kept
 pub mod Epochs
 pub mod Validity

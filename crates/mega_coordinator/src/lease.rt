@@ -34,7 +34,7 @@ fn left(until: Option<u64>, now: u64) -> Option<u64>
 }
 
 /// Which cells' time is reached.
-#[tactic(auto, using(crate::proofs::Places::so_far_all))]
+#[tactic(auto, using(mega_base::proofs::Mapped::so_far_all))]
 pub fn due_cells(until: &[Option<u64>; 5], now: u64) -> [bool; 5]
     ensures { result ≡ map (is_due now) until.now }
 {
@@ -53,7 +53,7 @@ fn any_due(until: &[Option<u64>; 5], now: u64) -> bool
 }
 
 /// The times of the cells that stay counted.
-#[tactic(auto, using(crate::proofs::Places::so_far_all))]
+#[tactic(auto, using(mega_base::proofs::Mapped::so_far_all))]
 fn left_cells(until: &[Option<u64>; 5], now: u64) -> [Option<u64>; 5]
     ensures { result ≡ map (left now) until.now }
 {
@@ -65,7 +65,7 @@ fn left_cells(until: &[Option<u64>; 5], now: u64) -> [Option<u64>; 5]
 }
 
 /// Which cells are counted.
-#[tactic(auto, using(crate::proofs::Places::so_far_all))]
+#[tactic(auto, using(mega_base::proofs::Mapped::so_far_all))]
 fn counted_cells(until: &[Option<u64>; 5]) -> [bool; 5]
     ensures { result ≡ map is_some until.now }
 {

@@ -1,5 +1,5 @@
 -- A step leaves what the kind of its node has.
-use Rattle.std.proofs.Common.{◌≡◌, ℕ, true, false, List, [], map, fold, Option, Some, None, refl, ap, ◌∙◌}
+use Rattle.std.proofs.Common.{◌≡◌, ℕ, ◌+◌, true, false, List, [], length, map, fold, Option, Some, None, refl, ap, ◌∙◌}
 use Rattle.mega_base.specs.declared.names.GroupId.{GroupId}
 use Rattle.mega_base.specs.declared.names.OpId.{OpId}
 use Rattle.mega_cluster.specs.declared.cluster.Cluster.{Cluster}
@@ -12,8 +12,10 @@ use Rattle.mega_outcome.specs.declared.request.ReadRequest.{ReadRequest}
 use Rattle.mega_outcome.specs.declared.request.Request.{Request}
 use Rattle.mega_outcome.specs.declared.request.Request.TheVariants.{Txn, Batch, Read, Find, PumpEnter, PumpHandle, Refresh}
 use Rattle.mega_rules.specs.Clock.{clock_of}
+use Rattle.mega_rules.specs.Logs.{groups_of}
 use Rattle.mega_rules.specs.Members.{has_rows, is_full, is_node}
 use Rattle.mega_rules.specs.Operations.{Node, Now, Operation, Setting}
+use Rattle.mega_rules.specs.Acting.{rests_within}
 use Rattle.mega_rules.specs.Steps.{Take, Tick, all_act, at_first, begins, find_begins, hears_message, is_current, local_find_begins, needs_full, new_operation, op_of, portion_of, read_begins, refusal, stored_after, ticked, unless_refused}
 use Rattle.mega_actions.specs.of_node_laws.Acted.{acted_on, decision_in}
 use Rattle.mega_actions.specs.of_view.Small.{IsSmall}
@@ -58,25 +60,25 @@ pub record Leaves (before after : Now) : Type 0 where
   pub kept : after.kept ≡ before.kept
   pub stored : after.stored ≡ before.stored
 
-read_leaves : (s : Setting) (now : Now) (o : Operation) (request : ReadRequest) (mode : Mode) → is_current mode ≡ false → Leaves now (read_begins s now o request mode)
-read_leaves s now o request Current brief = absurd (cc)
-read_leaves s now o request Snapshot brief = record { kept = refl; stored = refl }
-read_leaves s now o request Inconsistent brief = record { kept = refl; stored = refl }
+read_leaves : (most : ℕ) (s : Setting) (now : Now) (o : Operation) (request : ReadRequest) (mode : Mode) → is_current mode ≡ false → Leaves now (rests_within most s (read_begins s now o request mode))
+read_leaves most s now o request Current brief = absurd (cc)
+read_leaves most s now o request Snapshot brief = record { kept = refl; stored = refl }
+read_leaves most s now o request Inconsistent brief = record { kept = refl; stored = refl }
 
-local_find_leaves : (s : Setting) (now : Now) (o : Operation) (request : FindRequest) (group : GroupId) (mode : Mode) → is_current mode ≡ false → Leaves now (local_find_begins s now o request group mode)
-local_find_leaves s now o request group Current brief = absurd (cc)
-local_find_leaves s now o request group Snapshot brief = record { kept = refl; stored = refl }
-local_find_leaves s now o request group Inconsistent brief = record { kept = refl; stored = refl }
+local_find_leaves : (most : ℕ) (s : Setting) (now : Now) (o : Operation) (request : FindRequest) (group : GroupId) (mode : Mode) → is_current mode ≡ false → Leaves now (rests_within most s (local_find_begins s now o request group mode))
+local_find_leaves most s now o request group Current brief = absurd (cc)
+local_find_leaves most s now o request group Snapshot brief = record { kept = refl; stored = refl }
+local_find_leaves most s now o request group Inconsistent brief = record { kept = refl; stored = refl }
 
-find_leaves : (s : Setting) (now : Now) (o : Operation) (request : FindRequest) (group : Option GroupId) → is_current request.mode ≡ false → Leaves now (find_begins s now o request group)
-find_leaves s now o request None brief = record { kept = refl; stored = refl }
-find_leaves s now o request (Some group) brief = local_find_leaves s now o request group request.mode brief
+find_leaves : (most : ℕ) (s : Setting) (now : Now) (o : Operation) (request : FindRequest) (group : Option GroupId) → is_current request.mode ≡ false → Leaves now (rests_within most s (find_begins s now o request group))
+find_leaves most s now o request None brief = record { kept = refl; stored = refl }
+find_leaves most s now o request (Some group) brief = local_find_leaves most s now o request group request.mode brief
 
 begins_leaves : (s : Setting) (now : Now) (op : OpId) (request : Request) (clock : ℕ) → needs_full request ≡ false → Leaves now (begins s now (new_operation op request clock))
 begins_leaves s now op (Txn transaction) clock brief = absurd (cc)
 begins_leaves s now op (Batch group transactions) clock brief = absurd (cc)
-begins_leaves s now op (Read request) clock brief = read_leaves s now (new_operation op (Read request) clock) request request.mode brief
-begins_leaves s now op (Find request) clock brief = find_leaves s now (new_operation op (Find request) clock) request request.group brief
+begins_leaves s now op (Read request) clock brief = read_leaves (length (groups_of now.met) + 2) s now (new_operation op (Read request) clock) request request.mode brief
+begins_leaves s now op (Find request) clock brief = find_leaves (length (groups_of now.met) + 2) s now (new_operation op (Find request) clock) request request.group brief
 begins_leaves s now op PumpEnter clock brief = absurd (cc)
 begins_leaves s now op PumpHandle clock brief = absurd (cc)
 begins_leaves s now op Refresh clock brief = record { kept = refl; stored = refl }

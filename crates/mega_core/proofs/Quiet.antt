@@ -1,6 +1,7 @@
 -- Operations that act answer no refresh: what they answer leaves the marks that a find on a global index shows.
 use Rattle.std.proofs.Common.{◌≡◌, ℕ, zero, suc, ◌+◌, nat_le, Bool, true, false, cond, ◌&&◌, List, [], ◌∷◌, ◌++◌, flat_map, take, length, fold, Option, Some, None, Result, Ok, Err, refl, ap}
 use Rattle.std.specs.List.{list_all, list_any}
+use Rattle.std.specs.Result.{is_ok}
 use Rattle.mega_base.specs.declared.names.Epoch.{Epoch}
 use Rattle.mega_base.specs.declared.names.GroupId.{GroupId}
 use Rattle.mega_base.specs.declared.names.OpId.{OpId}
@@ -45,8 +46,8 @@ use Rattle.mega_rules.specs.Met.{Met, Answers}
 use Rattle.mega_rules.specs.Queues.{Posted, enter_entry, is_named, names_entered, next_to_enter, next_to_handle, oldest_unhandled}
 use Rattle.mega_rules.specs.Members.{kind_of}
 use Rattle.mega_rules.specs.Operations.{Node, Now, Operation, Phase, Promised, Proposes, Reads, Replies, Results, Setting}
-use Rattle.mega_rules.specs.Acting.{acts, acts_within, applied_logs, applied_marks, batch_sealed, begins_read, committed, completes_read, ends, enters, finishes, goes_on, handles, handling, in_phase, is_taken, leader_after, listed_at, picks_group, picks_message, proposes, proposes_by, read_answer, read_begun, reader_of, reads_on, rows_answer, rows_at, sealed, sends_more, table_rows, unless_decided, unless_full, validated_by, validates, verdict, visiting}
-use Rattle.mega_rules.specs.Steps.{Heard, acts_in_turn, all_act, applied_position, begins, does_due, find_begins, is_out, is_worn, last_answer, local_find_begins, missing_kind, onto, read_begins, refusal, snapshot_listed, stored_listed, ticked, unless_missing, unless_refused}
+use Rattle.mega_rules.specs.Acting.{ActsAgain, Next, Rests, acts, applied_logs, applied_marks, batch_sealed, begins_read, committed, completes_read, ends, enters, finishes, goes_on, handles, handling, in_phase, leader_after, listed_at, picks_group, picks_message, proposes, proposes_by, read_answer, reader_of, reads_on, rests_within, rows_answer, rows_at, sealed, sends_more, table_rows, unless_decided, unless_full, validated_by, validates, verdict}
+use Rattle.mega_rules.specs.Steps.{Heard, acts_first, acts_in_turn, all_act, applied_position, begins, does_due, find_begins, is_out, is_worn, last_answer, local_find_begins, missing_kind, onto, read_begins, refusal, snapshot_listed, stored_listed, ticked, unless_missing, unless_refused}
 use Rattle.mega_actions.specs.of_answers.Indexing.{marks_then}
 use Rattle.mega_node_events.specs.Beginning.{marks_unless}
 use Rattle.mega_core.specs.Unshown.{is_plain, is_refresh, is_refused_plainly, is_unshown}
@@ -107,24 +108,30 @@ last_plain o (Proposes group n asked p promised) = refl
 
 -- ---- what operations do
 
-abbrev Stays : (Now → Operation → Now) → Type 0
-Stays again = (now : Now) (o : Operation) → Quiet now → Quiet (again now o)
+-- what an operation comes to stays so, whether it acts again or not
+abbrev Leads : Next → Type 0
+Leads (Rests now) = Quiet now
+Leads (ActsAgain now o) = Quiet now
 
 module _ (s : Setting) where
   either : (t : Bool) (one other : Now) → Quiet one → Quiet other → Quiet (cond t one other)
   either true one other h k = h
   either false one other h k = k
 
-  begins_read_it : (again : Now → Operation → Now) → Stays again → (now : Now) (o : Operation) (group : GroupId) (message : Option Enter) (asked : List ℕ) → Quiet now → Quiet (begins_read s again now o group message asked)
-  begins_read_it again more now o group message asked h = more (sends_more now (read_begun s now o group asked).sends) (visiting o group message (read_begun s now o group asked)) h
+  either_next : (t : Bool) (one other : Next) → Leads one → Leads other → Leads (cond t one other)
+  either_next true one other h k = h
+  either_next false one other h k = k
 
-  picks_message_it : (again : Now → Operation → Now) → Stays again → (now : Now) (o : Operation) (asked : List ℕ) (one : Option Posted) → Quiet now → Quiet (picks_message s again now o asked one)
-  picks_message_it again more now o asked None h = ends_it now o.id _ refl h
-  picks_message_it again more now o asked (Some one) h = begins_read_it again more now o one.to (Some one.message) asked h
+  begins_read_it : (now : Now) (o : Operation) (group : GroupId) (message : Option Enter) (asked : List ℕ) → Quiet now → Leads (begins_read s now o group message asked)
+  begins_read_it now o group message asked h = h
 
-  picks_group_it : (again : Now → Operation → Now) → Stays again → (now : Now) (o : Operation) (asked : List ℕ) (one : Option GroupId) → Quiet now → Quiet (picks_group s again now o asked one)
-  picks_group_it again more now o asked None h = ends_it now o.id _ refl h
-  picks_group_it again more now o asked (Some group) h = begins_read_it again more now o group None asked h
+  picks_message_it : (now : Now) (o : Operation) (asked : List ℕ) (one : Option Posted) → Quiet now → Leads (picks_message s now o asked one)
+  picks_message_it now o asked None h = ends_it now o.id _ refl h
+  picks_message_it now o asked (Some one) h = begins_read_it now o one.to (Some one.message) asked h
+
+  picks_group_it : (now : Now) (o : Operation) (asked : List ℕ) (one : Option GroupId) → Quiet now → Leads (picks_group s now o asked one)
+  picks_group_it now o asked None h = ends_it now o.id _ refl h
+  picks_group_it now o asked (Some group) h = begins_read_it now o group None asked h
 
   unless_decided_it : (now : Now) (o : Operation) (n : ℕ) (promised : Promised) (d : Option Content) → Quiet now → Quiet (unless_decided now o n promised d)
   unless_decided_it now o n promised None h = h
@@ -156,60 +163,62 @@ module _ (s : Setting) where
   sealed_it now o group r p (Ok done) h = proposes_it now o group r p (entry_of_done o.id done) (Replies done.replies) h
 
   batch_sealed_it : (now : Now) (o : Operation) (group : GroupId) (r : Reading) (p : ℕ) (b : Batch) → Quiet now → Quiet (batch_sealed s now o group r p b)
-  batch_sealed_it now o group r p b h = either (list_any is_taken b.results) _ _ (proposes_it now o group r p (entry_of_batch o.id b) (Results b.results) h) (ends_it now o.id _ refl h)
+  batch_sealed_it now o group r p b h = either (list_any is_ok b.results) _ _ (proposes_it now o group r p (entry_of_batch o.id b) (Results b.results) h) (ends_it now o.id _ refl h)
 
-  enters_it : (again : Now → Operation → Now) → Stays again → (now : Now) (o : Operation) (group : GroupId) (r : Reading) (p : ℕ) (message : Option Enter) → Quiet now → Quiet (enters s again now o group r p message)
-  enters_it again more now o group r p None h = picks_message_it again more now o (asked_by r) (next_to_enter o.id (applied_logs now)) h
-  enters_it again more now o group r p (Some message) h = either (is_named message.name (names_entered (take p (log_of now.met group)))) _ _
-      (picks_message_it again more now o (asked_by r) (next_to_enter o.id (applied_logs now)) h) (proposes_it now o group r p (enter_entry o.id message) (Replies []) h)
+  enters_it : (now : Now) (o : Operation) (group : GroupId) (r : Reading) (p : ℕ) (message : Option Enter) → Quiet now → Leads (enters s now o group r p message)
+  enters_it now o group r p None h = picks_message_it now o (asked_by r) (next_to_enter o.id (applied_logs now)) h
+  enters_it now o group r p (Some message) h = either_next (is_named message.name (names_entered (take p (log_of now.met group)))) _ _
+      (picks_message_it now o (asked_by r) (next_to_enter o.id (applied_logs now)) h) (proposes_it now o group r p (enter_entry o.id message) (Replies []) h)
 
-  handles_it : (again : Now → Operation → Now) → Stays again → (now : Now) (o : Operation) (group : GroupId) (r : Reading) (p : ℕ) (message : Option Enter) → Quiet now → Quiet (handles s again now o group r p message)
-  handles_it again more now o group r p None h = picks_group_it again more now o (asked_by r) (next_to_handle (applied_logs now)) h
-  handles_it again more now o group r p (Some message) h = either (has s.handlers message.queue) _ _
+  handles_it : (now : Now) (o : Operation) (group : GroupId) (r : Reading) (p : ℕ) (message : Option Enter) → Quiet now → Leads (handles s now o group r p message)
+  handles_it now o group r p None h = picks_group_it now o (asked_by r) (next_to_handle (applied_logs now)) h
+  handles_it now o group r p (Some message) h = either_next (has s.handlers message.queue) _ _
       (proposes_it now o group r p (handling s o.id group message (table_rows s.cluster.schema group (listed_at now group p))) (Replies []) h) (ends_it now o.id _ refl h)
 
-  unless_full_it : (now : Now) (o : Operation) (p : ℕ) (next : Now) → Quiet now → Quiet next → Quiet (unless_full s now o p next)
-  unless_full_it now o p next h k = either (nat_le (s.cluster.limit).0 p) _ next (ends_it now o.id _ refl h) k
+  unless_full_it : (now : Now) (o : Operation) (p : ℕ) (next : Next) → Quiet now → Leads next → Leads (unless_full s now o p next)
+  unless_full_it now o p next h k = either_next (nat_le (s.cluster.limit).0 p) _ next (ends_it now o.id _ refl h) k
 
   module _ (id : OpId) (began : ℕ) (visited : List GroupId) (message : Option Enter) where
     abbrev one : Request → Phase → Operation
     one request phase = record { id = id; request = request; began = began; visited = visited; message = message; phase = phase }
 
-    finishes_by : (again : Now → Operation → Now) → Stays again → (now : Now) (request : Request) (phase : Phase) (group : GroupId) (r : Reading) (p : ℕ) → Quiet now → Quiet (finishes s again now (one request phase) group r p)
-    finishes_by again more now (Txn transaction) phase group r p h =
+    finishes_by : (now : Now) (request : Request) (phase : Phase) (group : GroupId) (r : Reading) (p : ℕ) → Quiet now → Leads (finishes s now (one request phase) group r p)
+    finishes_by now (Txn transaction) phase group r p h =
         unless_full_it now (one (Txn transaction) phase) p _ h (sealed_it now (one (Txn transaction) phase) group r p (outcome s.cluster.schema transaction (rows_at now group p)) h)
-    finishes_by again more now (BatchRequest own transactions) phase group r p h =
+    finishes_by now (BatchRequest own transactions) phase group r p h =
         unless_full_it now (one (BatchRequest own transactions) phase) p _ h (batch_sealed_it now (one (BatchRequest own transactions) phase) group r p (batch_outcome s.cluster.schema own transactions (rows_at now group p)) h)
-    finishes_by again more now (ReadRequested request) phase group r p h =
+    finishes_by now (ReadRequested request) phase group r p h =
         ends_it now id (read_answer s request p (rows_at now group p) (listed_at now group p)) (read_plain s request.group request.mode request.rows p (rows_at now group p) (listed_at now group p)) h
-    finishes_by again more now (Find request) phase group r p h = ends_it now id _ (local_plain s.cluster.schema request p (listed_at now group p)) h
-    finishes_by again more now PumpEnter phase group r p h = unless_full_it now (one PumpEnter phase) p _ h (enters_it again more now (one PumpEnter phase) group r p message h)
-    finishes_by again more now PumpHandle phase group r p h = unless_full_it now (one PumpHandle phase) p _ h (handles_it again more now (one PumpHandle phase) group r p (oldest_unhandled (take p (log_of now.met group))) h)
-    finishes_by again more now Refresh phase group r p h = h
+    finishes_by now (Find request) phase group r p h = ends_it now id _ (local_plain s.cluster.schema request p (listed_at now group p)) h
+    finishes_by now PumpEnter phase group r p h = unless_full_it now (one PumpEnter phase) p _ h (enters_it now (one PumpEnter phase) group r p message h)
+    finishes_by now PumpHandle phase group r p h = unless_full_it now (one PumpHandle phase) p _ h (handles_it now (one PumpHandle phase) group r p (oldest_unhandled (take p (log_of now.met group))) h)
+    finishes_by now Refresh phase group r p h = h
 
-  finishes_it : (again : Now → Operation → Now) → Stays again → (now : Now) (o : Operation) (group : GroupId) (r : Reading) (p : ℕ) → Quiet now → Quiet (finishes s again now o group r p)
-  finishes_it again more now o group r p h = finishes_by o.id o.began o.visited o.message again more now o.request o.phase group r p h
+  finishes_it : (now : Now) (o : Operation) (group : GroupId) (r : Reading) (p : ℕ) → Quiet now → Leads (finishes s now o group r p)
+  finishes_it now o group r p h = finishes_by o.id o.began o.visited o.message now o.request o.phase group r p h
 
-  reads_on_by : (again : Now → Operation → Now) → Stays again → (now : Now) (o : Operation) (group : GroupId) (noted : Option Epoch) (asked : List ℕ) (stage : Stage) → Quiet now → Quiet (reads_on s again now o group (record { noted = noted; asked = asked; stage = stage }))
-  reads_on_by again more now o group noted asked (Polling heard best at) h = h
-  reads_on_by again more now o group noted asked (Catching p search) h = either (nat_le p (prefix_of now.met group)) _ _
-      (finishes_it again more (completes_read s now group (record { noted = noted; asked = asked; stage = Catching p search }) p) o group (record { noted = noted; asked = asked; stage = Catching p search }) p
+  reads_on_by : (now : Now) (o : Operation) (group : GroupId) (noted : Option Epoch) (asked : List ℕ) (stage : Stage) → Quiet now → Leads (reads_on s now o group (record { noted = noted; asked = asked; stage = stage }))
+  reads_on_by now o group noted asked (Polling heard best at) h = h
+  reads_on_by now o group noted asked (Catching p search) h = either_next (nat_le p (prefix_of now.met group)) _ _
+      (finishes_it (completes_read s now group (record { noted = noted; asked = asked; stage = Catching p search }) p) o group (record { noted = noted; asked = asked; stage = Catching p search }) p
       (completes_read_it now group (record { noted = noted; asked = asked; stage = Catching p search }) p h))
       h
 
-  acts_by : (again : Now → Operation → Now) → Stays again → (now : Now) (id : OpId) (request : Request) (began : ℕ) (visited : List GroupId) (message : Option Enter) (phase : Phase) → Quiet now
-      → Quiet (acts s again now (record { id = id; request = request; began = began; visited = visited; message = message; phase = phase }))
-  acts_by again more now id request began visited message (Reads group r) h =
-      reads_on_by again more now (record { id = id; request = request; began = began; visited = visited; message = message; phase = Reads group r }) group r.noted r.asked r.stage h
-  acts_by again more now id request began visited message (Proposes group n asked proposal promised) h =
+  acts_by : (now : Now) (id : OpId) (request : Request) (began : ℕ) (visited : List GroupId) (message : Option Enter) (phase : Phase) → Quiet now
+      → Leads (acts s now (record { id = id; request = request; began = began; visited = visited; message = message; phase = phase }))
+  acts_by now id request began visited message (Reads group r) h =
+      reads_on_by now (record { id = id; request = request; began = began; visited = visited; message = message; phase = Reads group r }) group r.noted r.asked r.stage h
+  acts_by now id request began visited message (Proposes group n asked proposal promised) h =
       unless_decided_it now (record { id = id; request = request; began = began; visited = visited; message = message; phase = Proposes group n asked proposal promised }) n promised (decided now.met group n) h
 
-  within_it : (most : ℕ) → Stays (acts_within most s)
-  within_it zero now o h = h
-  within_it (suc most) now o h = acts_by (acts_within most s) (within_it most) now o.id o.request o.began o.visited o.message o.phase h
+  -- until it rests
+  rests_within_it : (most : ℕ) (next : Next) → Leads next → Quiet (rests_within most s next)
+  rests_within_it most (Rests now) h = h
+  rests_within_it zero (ActsAgain now o) h = h
+  rests_within_it (suc most) (ActsAgain now o) h = rests_within_it most (acts s now o) (acts_by now o.id o.request o.began o.visited o.message o.phase h)
 
-  goes_on_it : Stays (goes_on s)
-  goes_on_it now o h = within_it (length (groups_of now.met) + 2) now o h
+  goes_on_it : (now : Now) (o : Operation) → Quiet now → Quiet (goes_on s now o)
+  goes_on_it now o h = rests_within_it (length (groups_of now.met) + 2) (ActsAgain now o) h
 
   -- one after another, and at a tick
   pub all_act_it : (ts : List Heard) (now : Now) → Quiet now → Quiet (all_act s now ts)
@@ -223,34 +232,34 @@ module _ (s : Setting) where
       (either (is_out s clock o) _ _ (ends_it now o.id (last_answer o) (last_plain o o.phase) h) (goes_on_it (sends_more now (does_due s clock o).sends) (does_due s clock o).operation h))
 
   -- an operation that begins, and is no refresh
-  read_begins_it : (now : Now) (o : Operation) (request : ReadRequest) (mode : Mode) → Quiet now → Quiet (read_begins s now o request mode)
-  read_begins_it now o request Current h = begins_read_it (goes_on s) goes_on_it now o request.group None [] h
+  read_begins_it : (now : Now) (o : Operation) (request : ReadRequest) (mode : Mode) → Quiet now → Leads (read_begins s now o request mode)
+  read_begins_it now o request Current h = begins_read_it now o request.group None [] h
   read_begins_it now o request Snapshot h = ends_it now o.id _ (read_plain s request.group request.mode request.rows _ _ _) h
   read_begins_it now o request Inconsistent h = ends_it now o.id _ (read_plain s request.group request.mode request.rows _ _ _) h
 
-  local_find_it : (now : Now) (o : Operation) (request : FindRequest) (group : GroupId) (mode : Mode) → Quiet now → Quiet (local_find_begins s now o request group mode)
-  local_find_it now o request group Current h = begins_read_it (goes_on s) goes_on_it now o group None [] h
+  local_find_it : (now : Now) (o : Operation) (request : FindRequest) (group : GroupId) (mode : Mode) → Quiet now → Leads (local_find_begins s now o request group mode)
+  local_find_it now o request group Current h = begins_read_it now o group None [] h
   local_find_it now o request group Snapshot h = ends_it now o.id _ (local_plain s.cluster.schema request (applied_position now group) (snapshot_listed now group)) h
   local_find_it now o request group Inconsistent h = ends_it now o.id _ (local_plain s.cluster.schema request (applied_position now group) (stored_listed now group)) h
 
-  find_begins_it : (now : Now) (o : Operation) (request : FindRequest) (group : Option GroupId) → Quiet now → Quiet (find_begins s now o request group)
+  find_begins_it : (now : Now) (o : Operation) (request : FindRequest) (group : Option GroupId) → Quiet now → Leads (find_begins s now o request group)
   find_begins_it now o request None h = ends_it now o.id _ (global_plain s.cluster.schema now.met request) h
   find_begins_it now o request (Some group) h = local_find_it now o request group request.mode h
 
   module _ (id : OpId) (began : ℕ) (visited : List GroupId) (message : Option Enter) (phase : Phase) where
-    begins_by : (now : Now) (request : Request) → is_refresh request ≡ false → Quiet now → Quiet (begins s now (one id began visited message request phase))
-    begins_by now (Txn transaction) other h = begins_read_it (goes_on s) goes_on_it now (one id began visited message (Txn transaction) phase) transaction.group None [] h
-    begins_by now (BatchRequest group transactions) other h = begins_read_it (goes_on s) goes_on_it now (one id began visited message (BatchRequest group transactions) phase) group None [] h
-    begins_by now (ReadRequested request) other h = read_begins_it now (one id began visited message (ReadRequested request) phase) request request.mode h
-    begins_by now (Find request) other h = find_begins_it now (one id began visited message (Find request) phase) request request.group h
-    begins_by now PumpEnter other h = picks_message_it (goes_on s) goes_on_it now (one id began visited message PumpEnter phase) [] (next_to_enter id (applied_logs now)) h
-    begins_by now PumpHandle other h = picks_group_it (goes_on s) goes_on_it now (one id began visited message PumpHandle phase) [] (next_to_handle (applied_logs now)) h
-    begins_by now Refresh other h = absurd (cc)
+    first_by : (now : Now) (request : Request) → is_refresh request ≡ false → Quiet now → Leads (acts_first s now (one id began visited message request phase))
+    first_by now (Txn transaction) other h = begins_read_it now (one id began visited message (Txn transaction) phase) transaction.group None [] h
+    first_by now (BatchRequest group transactions) other h = begins_read_it now (one id began visited message (BatchRequest group transactions) phase) group None [] h
+    first_by now (ReadRequested request) other h = read_begins_it now (one id began visited message (ReadRequested request) phase) request request.mode h
+    first_by now (Find request) other h = find_begins_it now (one id began visited message (Find request) phase) request request.group h
+    first_by now PumpEnter other h = picks_message_it now (one id began visited message PumpEnter phase) [] (next_to_enter id (applied_logs now)) h
+    first_by now PumpHandle other h = picks_group_it now (one id began visited message PumpHandle phase) [] (next_to_handle (applied_logs now)) h
+    first_by now Refresh other h = absurd (cc)
 
   -- ---- the marks that an operation leaves as it begins: a refresh those that are applied, and any other those that were
   module _ (id : OpId) (began : ℕ) (visited : List GroupId) (message : Option Enter) (phase : Phase) where
     quiet_marks : (now : Now) (request : Request) → now.answers ≡ [] → is_refresh request ≡ false → refreshed_marks (onto (begins s now (one id began visited message request phase)).answers now.met) ≡ refreshed_marks now.met
-    quiet_marks now request none other = marks_after (begins s now (one id began visited message request phase)).answers now.met (begins_by id began visited message phase now request other (ap (list_all is_unshown) none))
+    quiet_marks now request none other = marks_after (begins s now (one id began visited message request phase)).answers now.met (rests_within_it (length (groups_of now.met) + 2) (acts_first s now (one id began visited message request phase)) (first_by id began visited message phase now request other (ap (list_all is_unshown) none)))
 
     marks_by : (now : Now) (request : Request) → now.answers ≡ [] → refreshed_marks (onto (begins s now (one id began visited message request phase)).answers now.met) ≡ marks_then now request
     marks_by now (Txn transaction) none = quiet_marks now (Txn transaction) none refl

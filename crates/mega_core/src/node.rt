@@ -65,7 +65,7 @@ impl<R: Records, V: Versions> Node<R, V> {
         let opened = mem::replace(&mut self.open, Items::new(alloc));
         let heard = all_hear(alloc, &self.replica.members, clock, message, opened)?;
         let voter = &self.replica.voter;
-        let groups = touched(alloc, voter, &message.body, heard.as_slice())?;
+        let groups = touched(alloc, voter, &message.body, &heard)?;
         let before = watched(alloc, &self.replica, groups)?;
         let taken = takes(alloc, &mut self.replica, heard, message)?;
         let Arrival {

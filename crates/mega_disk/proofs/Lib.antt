@@ -1,4 +1,5 @@
 mod Best
+pub mod Burning
 pub mod Chains
 mod Changed
 mod Filled

@@ -29,6 +29,7 @@ use Rattle.mega_rules.specs.Locks.{cell_calls, grant_note, lapse_note, last_gran
 use Rattle.mega_rules.specs.Members.{is_cell, is_full, keep_of}
 use Rattle.mega_rules.specs.Steps.{onto, told_notes}
 use Rattle.mega_leases.specs.Opening.{AreOwed, is_owed}
+use Rattle.mega_leases.proofs.Opened.{equal_by_test}
 use Rattle.mega_durable.specs.Granted.{KeepsGrants, grant_in, is_among}
 
 -- ---- epochs
@@ -162,16 +163,13 @@ AreApart (node ∷ others) = (is_among node others ≡ false) × AreApart others
 pub nodes_apart : AreApart nodes
 nodes_apart = (refl, (refl, (refl, (refl, (refl, (refl, (refl, (refl, (refl, tt)))))))))
 
-is_node : (a b : ℕ) → (a == b) ≡ true → a ≡ b
-is_node a b same = grind (arith, nat_tests)
-
 -- a node among others is not the one that is not among them
 other_node : (node other : ℕ) (others : List ℕ) → is_among other others ≡ false → is_among node others ≡ true → (other == node) ≡ false
 other_node node other others none some = by (other == node) refl
   where
     by : (test : Bool) → (other == node) ≡ test → test ≡ false
     by false is = refl
-    by true is = absurd (false≢true (sym none ∙ (ap (λ n. is_among n others) (is_node other node is) ∙ some)))
+    by true is = absurd (false≢true (sym none ∙ (ap (λ n. is_among n others) (equal_by_test other node is) ∙ some)))
 
 -- ---- the lapses of a tick
 abbrev lapses_of : (ℕ → Option Epoch) → List ℕ → List Met
@@ -200,7 +198,7 @@ lapses_granted gone (other ∷ others) met node apart = by (gone other) refl (λ
         ∙ ap (λ found. lapsed_after found (last_grant met node)) (sym is ∙ ap gone same)
       where
         same : other ≡ node
-        same = is_node other node on
+        same = equal_by_test other node on
 
         not_there : is_among node others ≡ false
         not_there = ap (λ n. is_among n others) (sym same) ∙ apart.0
@@ -308,7 +306,7 @@ one_asked calls from node epoch now keep last keeps = by (from == node) refl
         → grant_in (cond test (asked (lock_of calls node) epoch (renewal calls now keep)) (lock_of calls node)) ≡ cond test (granted_after (answer (lock_of calls from) epoch) epoch last) last
     by true is =
         asked_keeps (lock_of calls node) epoch (renewal calls now keep)
-        ∙ (λ i. granted_after (answer (lock_of calls (sym (is_node from node is) i)) epoch) epoch (keeps i))
+        ∙ (λ i. granted_after (answer (lock_of calls (sym (equal_by_test from node is) i)) epoch) epoch (keeps i))
     by false is = keeps
 
 if_still : (t : Bool) (items : List Met) → All IsStill items → All IsStill (cond t items [])
@@ -413,10 +411,10 @@ reopens_keep f node (other ∷ others) apart is = by (other == node) refl is (re
 
     by : (test : Bool) → (other == node) ≡ test → (test || is_among node others) ≡ true → (is_among node others ≡ true → grant_in (lock_of after node) ≡ f node)
         → grant_in (lock_of (reopening other (f other) ++ after) node) ≡ f node
-    by true own here rest = one (f other) refl ∙ ap f (is_node other node own)
+    by true own here rest = one (f other) refl ∙ ap f (equal_by_test other node own)
       where
         free : lock_of after node ≡ Free
-        free = free_opens f node others (ap (λ n. is_among n others) (sym (is_node other node own)) ∙ apart.0)
+        free = free_opens f node others (ap (λ n. is_among n others) (sym (equal_by_test other node own)) ∙ apart.0)
 
         one : (last : Option (Epoch × Bool)) → f other ≡ last → grant_in (lock_of (reopening other last ++ after) node) ≡ last
         one None is = ap grant_in free
@@ -447,7 +445,7 @@ opens_lapsed c me met other epoch opening held keeps node among =
   where
     by : (test : Bool) → (other == node) ≡ test → grant_in (cond test (reopened (lock_of (cell_calls c me met) node) epoch false) (lock_of (cell_calls c me met) node)) ≡ cond test (after_lapse (last_grant met node) epoch) (last_grant met node)
     by true own =
-        ended_keeps (lock_of (cell_calls c me met) node) epoch (keeps node among ∙ (ap (last_grant met) (sym (is_node other node own)) ∙ held))
+        ended_keeps (lock_of (cell_calls c me met) node) epoch (keeps node among ∙ (ap (last_grant met) (sym (equal_by_test other node own)) ∙ held))
         ∙ ap (λ (last : Option (Epoch × Bool)). after_lapse last epoch) (keeps node among)
     by false off = keeps node among
 

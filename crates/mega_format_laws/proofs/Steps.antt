@@ -1,5 +1,5 @@
 -- The step of a node notes, sends and leaves only what is of the format.
-use Rattle.std.proofs.Common.{◌≡◌, ℕ, ◌+◌, ◌==◌, ◌&&◌, ◌≤◌, Bool, cond, List, [], ◌∷◌, ◌++◌, map, flat_map, fold, Option, Some, None, refl, min, arith}
+use Rattle.std.proofs.Common.{◌≡◌, ℕ, ◌+◌, ◌==◌, ◌&&◌, ◌≤◌, Bool, cond, List, [], ◌∷◌, ◌++◌, map, flat_map, fold, Option, Some, None, refl, min, arith, length}
 use Rattle.std.specs.Prelude.{filter, nat_le, nat_lt, is_none}
 use Rattle.mega_base.specs.declared.names.Epoch.{Epoch}
 use Rattle.mega_base.specs.declared.names.GroupId.{GroupId}
@@ -33,8 +33,8 @@ use Rattle.mega_voter.specs.of_rules.Locks.{asked_for, grant_note, lapses_at}
 use Rattle.mega_voter.specs.of_rules.Coordinators.{acquires_at, coordinator_calls, counts_notes, forget_notes, grant_notes, is_cell_in, lost_note, tick_notes, tick_told}
 use Rattle.mega_voter.specs.of_rules.Replies.{reply_to}
 use Rattle.mega_voter.specs.of_rules.Operations.{Node, Now, Operation, Phase, Proposes, Reads, Setting}
-use Rattle.mega_voter.specs.of_rules.Acting.{ends, goes_on, reader_of, sends_more}
-use Rattle.mega_voter.specs.of_rules.Steps.{Begin, Decision, Event, Heard, Step, Take, Tick, acts_in_turn, all_act, applied_at, apply_note, apply_notes, at_first, at_open, background, begin_step, begins, decision_at, decision_note, does_due, find_begins, first_settled, hears_message, if_new, is_out, last_answer, lapse_notes, lease_notes, local_find_begins, new_operation, news, onto, op_of, portion_of, read_begins, read_decision, refusal, crashed, settled_by, start, start_items, start_note, start_notes, step, step_of, stored_after, take_step, taken, tick_step, ticked, told_decision, told_notes, unless_refused}
+use Rattle.mega_voter.specs.of_rules.Acting.{ends, reader_of, sends_more}
+use Rattle.mega_voter.specs.of_rules.Steps.{Begin, Decision, Event, Heard, Step, Take, Tick, acts_first, acts_in_turn, all_act, applied_at, apply_note, apply_notes, at_first, at_open, background, begin_step, crashed, decision_at, decision_note, does_due, find_begins, first_settled, hears_message, if_new, is_out, lapse_notes, last_answer, lease_notes, local_find_begins, new_operation, news, onto, op_of, portion_of, read_begins, read_decision, refusal, settled_by, start, start_items, start_note, start_notes, step, step_of, stored_after, take_step, taken, tick_step, ticked, told_decision, told_notes, unless_refused}
 use Rattle.mega_format_laws.specs.Rounds.{AreMessages, Each, IsPlace, IsSender, IsShort}
 use Rattle.mega_format_laws.specs.Histories.{IsClock, IsItem, IsMet}
 use Rattle.mega_format_laws.specs.Decisions.{AreDecided}
@@ -46,7 +46,7 @@ use Rattle.mega_format_laws.proofs.Reading.{falls_due_formed, first_formed, hear
 use Rattle.mega_format_laws.proofs.Histories.{start_formed}
 use Rattle.mega_format_laws.proofs.Locks.{grant_note_formed, lapses_formed}
 use Rattle.mega_format_laws.proofs.Replies.{acquires_at_formed, background_formed, byte_of, news_formed, reply_formed}
-use Rattle.mega_format_laws.proofs.Acting.{AreOutcomes, begins_formed, ends_formed, goes_formed, picks_enter, picks_handle, reader_formed, sends_formed}
+use Rattle.mega_format_laws.proofs.Acting.{AreOutcomes, Leads, begins_formed, ends_formed, goes_formed, picks_enter, picks_handle, reader_formed, rests_formed, sends_formed}
 
 onto_formed : (items met : List Met) → IsMet items → IsMet met → IsMet (onto items met)
 onto_formed [] met h k = k
@@ -279,33 +279,33 @@ op_formed s met h k = ((byte_of s.me h.me, start_formed met k, (omega arith, lea
 opened_formed : (s : Setting) (met : List Met) (request : Request) (now : ℕ) → IsSetting s → IsMet met → IsRequest request → IsOperation (new_operation (op_of s met) request now)
 opened_formed s met request now h k r = record { id = op_formed s met h k; request = r; message = tt; phase = ((omega arith, omega arith), first_formed now) }
 
-read_begun : (s : Setting) (now : Now) (o : Operation) (request : ReadRequest) (mode : Mode) → AreOutcomes s → IsSetting s → IsNow now → IsOperation o → IsGroup request.group → IsNow (read_begins s now o request mode)
-read_begun s now o request Current a h k i g = begins_formed s (goes_on s) now o request.group None [] h (goes_formed s a h) k i g tt
+read_begun : (s : Setting) (now : Now) (o : Operation) (request : ReadRequest) (mode : Mode) → AreOutcomes s → IsSetting s → IsNow now → IsOperation o → IsGroup request.group → Leads (read_begins s now o request mode)
+read_begun s now o request Current a h k i g = begins_formed s now o request.group None [] h k i g tt
 read_begun s now o request Snapshot a h k i g = ends_formed now o.id _ k
 read_begun s now o request Inconsistent a h k i g = ends_formed now o.id _ k
 
-local_begun : (s : Setting) (now : Now) (o : Operation) (request : FindRequest) (group : GroupId) (mode : Mode) → AreOutcomes s → IsSetting s → IsNow now → IsOperation o → IsGroup group → IsNow (local_find_begins s now o request group mode)
-local_begun s now o request group Current a h k i g = begins_formed s (goes_on s) now o group None [] h (goes_formed s a h) k i g tt
+local_begun : (s : Setting) (now : Now) (o : Operation) (request : FindRequest) (group : GroupId) (mode : Mode) → AreOutcomes s → IsSetting s → IsNow now → IsOperation o → IsGroup group → Leads (local_find_begins s now o request group mode)
+local_begun s now o request group Current a h k i g = begins_formed s now o group None [] h k i g tt
 local_begun s now o request group Snapshot a h k i g = ends_formed now o.id _ k
 local_begun s now o request group Inconsistent a h k i g = ends_formed now o.id _ k
 
-find_begun : (s : Setting) (now : Now) (o : Operation) (request : FindRequest) (group : Option GroupId) → AreOutcomes s → IsSetting s → IsNow now → IsOperation o → IsOption IsGroup group → IsNow (find_begins s now o request group)
+find_begun : (s : Setting) (now : Now) (o : Operation) (request : FindRequest) (group : Option GroupId) → AreOutcomes s → IsSetting s → IsNow now → IsOperation o → IsOption IsGroup group → Leads (find_begins s now o request group)
 find_begun s now o request None a h k i g = ends_formed now o.id _ k
 find_begun s now o request (Some group) a h k i g = local_begun s now o request group request.mode a h k i g
 
-begun_by : (s : Setting) (now : Now) (id : OpId) (request : Request) (began : ℕ) (visited : List GroupId) (message : Option Enter) (phase : Phase) → AreOutcomes s → IsSetting s → IsNow now
+first_by : (s : Setting) (now : Now) (id : OpId) (request : Request) (began : ℕ) (visited : List GroupId) (message : Option Enter) (phase : Phase) → AreOutcomes s → IsSetting s → IsNow now
     → IsOperation (record { id = id; request = request; began = began; visited = visited; message = message; phase = phase })
-    → IsNow (begins s now (record { id = id; request = request; began = began; visited = visited; message = message; phase = phase }))
-begun_by s now id (Txn t) began visited message phase a h k i = begins_formed s (goes_on s) now _ t.group None [] h (goes_formed s a h) k i (i.request).group tt
-begun_by s now id (Batch group ts) began visited message phase a h k i = begins_formed s (goes_on s) now _ group None [] h (goes_formed s a h) k i (i.request).0 tt
-begun_by s now id (Read request) began visited message phase a h k i = read_begun s now _ request request.mode a h k i i.request
-begun_by s now id (Find request) began visited message phase a h k i = find_begun s now _ request request.group a h k i i.request
-begun_by s now id PumpEnter began visited message phase a h k i = picks_enter s (goes_on s) now _ [] h (goes_formed s a h) k i
-begun_by s now id PumpHandle began visited message phase a h k i = picks_handle s (goes_on s) now _ [] h (goes_formed s a h) k i
-begun_by s now id Refresh began visited message phase a h k i = ends_formed now id _ k
+    → Leads (acts_first s now (record { id = id; request = request; began = began; visited = visited; message = message; phase = phase }))
+first_by s now id (Txn t) began visited message phase a h k i = begins_formed s now _ t.group None [] h k i (i.request).group tt
+first_by s now id (Batch group ts) began visited message phase a h k i = begins_formed s now _ group None [] h k i (i.request).0 tt
+first_by s now id (Read request) began visited message phase a h k i = read_begun s now _ request request.mode a h k i i.request
+first_by s now id (Find request) began visited message phase a h k i = find_begun s now _ request request.group a h k i i.request
+first_by s now id PumpEnter began visited message phase a h k i = picks_enter s now _ [] h k i
+first_by s now id PumpHandle began visited message phase a h k i = picks_handle s now _ [] h k i
+first_by s now id Refresh began visited message phase a h k i = ends_formed now id _ k
 
 refused_or : (s : Setting) (now : Now) (o : Operation) (answer : Option Answer) → AreOutcomes s → IsSetting s → IsNow now → IsOperation o → IsNow (unless_refused s now o answer)
-refused_or s now o None a h k i = begun_by s now o.id o.request o.began o.visited o.message o.phase a h k (record { id = i.id; request = i.request; message = i.message; phase = i.phase })
+refused_or s now o None a h k i = rests_formed (length (groups_of now.met) + 2) s (acts_first s now o) a h (first_by s now o.id o.request o.began o.visited o.message o.phase a h k (record { id = i.id; request = i.request; message = i.message; phase = i.phase }))
 refused_or s now o (Some answer) a h k i = ends_formed now o.id answer k
 
 begin_formed : (s : Setting) (node : Node) (request : Request) (text : List ℕ) → AreOutcomes s → IsSetting s → IsNode node → IsRequest request → IsStep (begin_step s node request text)

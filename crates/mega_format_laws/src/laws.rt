@@ -1,4 +1,4 @@
-//! Laws, as contracts of functions that do nothing.
+//! Laws of the message format, as contracts of functions that do nothing.
 
 ghost use Rattle.std.specs.Prelude.{All, ◌≡◌, ◌≤◌, codes, ℕ, List, [], length, Ok, Option, Some, true};
 ghost use Rattle.mega_base.specs.declared.names.Epoch.{Epoch};

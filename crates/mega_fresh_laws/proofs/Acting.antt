@@ -3,6 +3,7 @@
 use Rattle.std.proofs.Common.{◌≡◌, ℕ, zero, suc, ◌+◌, ◌-◌, ◌≤◌, nat_le, Bool, true, false, cond, List, [], ◌∷◌, ◌++◌, take, length, Option, Some, None, Result, Ok, Err, refl, sym, ap, ◌∙◌, subst, arith}
 use Rattle.std.proofs.lemmas.Bool.Decides.{nat_tests}
 use Rattle.std.specs.List.{list_any}
+use Rattle.std.specs.Result.{is_ok}
 use Rattle.std.proofs.lemmas.Option.{same_Some}
 use Rattle.mega_base.specs.declared.names.Epoch.{Epoch}
 use Rattle.mega_base.specs.declared.names.GroupId.{GroupId}
@@ -53,7 +54,7 @@ use Rattle.mega_leased_laws.specs.of_settled_laws.of_run_laws.of_tape_laws.of_pr
 use Rattle.mega_leased_laws.specs.of_settled_laws.of_run_laws.of_tape_laws.of_promises.of_rules.Met.{Met, Answers, Validates}
 use Rattle.mega_leased_laws.specs.of_settled_laws.of_run_laws.of_tape_laws.of_promises.of_rules.Queues.{Posted, enter_entry, is_named, names_entered, next_to_enter, next_to_handle, oldest_unhandled}
 use Rattle.mega_leased_laws.specs.of_settled_laws.of_run_laws.of_tape_laws.of_promises.of_rules.Operations.{Now, Operation, Phase, Promised, Proposes, Reads, Replies, Results, Setting}
-use Rattle.mega_leased_laws.specs.of_settled_laws.of_run_laws.of_tape_laws.of_promises.of_rules.Acting.{acts, acts_within, applied_logs, batch_sealed, begins_read, committed, completes_read, ends, enters, finishes, goes_on, handles, handling, in_phase, is_taken, is_visited, keeps, leader_after, listed_at, picks_group, picks_message, proposes, proposes_by, read_answer, read_begun, reader_of, reads_on, rows_answer, rows_at, sealed, sends_more, table_rows, unless_decided, unless_full, validated_by, verdict, visiting}
+use Rattle.mega_leased_laws.specs.of_settled_laws.of_run_laws.of_tape_laws.of_promises.of_rules.Acting.{ActsAgain, Next, Rests, acts, applied_logs, batch_sealed, begins_read, committed, completes_read, ends, enters, finishes, goes_on, handles, handling, in_phase, is_visited, keeps, leader_after, listed_at, picks_group, picks_message, proposes, proposes_by, read_answer, read_begun, reader_of, reads_on, rests_within, rows_answer, rows_at, sealed, sends_more, table_rows, unless_decided, unless_full, validated_by, verdict, visiting}
 use Rattle.mega_leased_laws.specs.of_settled_laws.of_run_laws.of_tape_laws.of_promises.of_rules.Steps.{onto}
 use Rattle.mega_leased_laws.specs.of_settled_laws.of_run_laws.of_tape_laws.Lawful.{Lawful, message}
 use Rattle.mega_leased_laws.specs.of_settled_laws.of_run_laws.of_tape_laws.Places.{In}
@@ -181,7 +182,12 @@ module _ (Far : List Item → OpId → GroupId → ℕ → Type 0) (enough : Suf
     abbrev pub W : Now → Operation → Type 0
     W now o = Guard now → Turn now o
 
-    either_so : (t : Bool) (one other : Now) → (t ≡ true → P one) → P other → P (cond t one other)
+    -- what an operation comes to: it has acted, or it acts again
+    abbrev pub Leads : Next → Type 0
+    Leads (Rests now) = P now
+    Leads (ActsAgain now o) = W now o
+
+    either_so : (t : Bool) (one other : Next) → (t ≡ true → Leads one) → Leads other → Leads (cond t one other)
     either_so true one other h k = h refl
     either_so false one other h k = k
 
@@ -337,131 +343,131 @@ module _ (Far : List Item → OpId → GroupId → ℕ → Type 0) (enough : Suf
 
     -- ---- an operation that reads, in fields
 
-    module _ (again : Now → Operation → Now) (more : (now : Now) (o : Operation) → W now o → P (again now o)) where
-      pub begins_read_it : (now : Now) (o : Operation) (group : GroupId) (message : Option Enter) (asked : List ℕ) → (Guard now → Begins now o group) → P (begins_read s again now o group message asked)
-      begins_read_it now o group message asked begun =
-          more (sends_more now (read_begun s now o group asked).sends) (visiting o group message (read_begun s now o group asked)) (visits now o asked group message begun)
+    pub begins_read_it : (now : Now) (o : Operation) (group : GroupId) (message : Option Enter) (asked : List ℕ) → (Guard now → Begins now o group) → Leads (begins_read s now o group message asked)
+    begins_read_it now o group message asked begun = visits now o asked group message begun
 
-      pub picks_message_it : (now : Now) (o : Operation) (asked : List ℕ) (one : Option Posted) → ((group : GroupId) → Guard now → Begins now o group) → ((answer : Answer) → ((request : Request) → IsFarAnswer Far s.cluster tape o.id request answer) → P (ends now o.id answer))
-          → P (picks_message s again now o asked one)
-      picks_message_it now o asked None begun ended = ended _ (λ request. tt)
-      picks_message_it now o asked (Some one) begun ended = begins_read_it now o one.to (Some one.message) asked (begun one.to)
+    pub picks_message_it : (now : Now) (o : Operation) (asked : List ℕ) (one : Option Posted) → ((group : GroupId) → Guard now → Begins now o group) → ((answer : Answer) → ((request : Request) → IsFarAnswer Far s.cluster tape o.id request answer) → P (ends now o.id answer))
+        → Leads (picks_message s now o asked one)
+    picks_message_it now o asked None begun ended = ended _ (λ request. tt)
+    picks_message_it now o asked (Some one) begun ended = begins_read_it now o one.to (Some one.message) asked (begun one.to)
 
-      pub picks_group_it : (now : Now) (o : Operation) (asked : List ℕ) (one : Option GroupId) → ((group : GroupId) → Guard now → Begins now o group) → ((answer : Answer) → ((request : Request) → IsFarAnswer Far s.cluster tape o.id request answer) → P (ends now o.id answer))
-          → P (picks_group s again now o asked one)
-      picks_group_it now o asked None begun ended = ended _ (λ request. tt)
-      picks_group_it now o asked (Some group) begun ended = begins_read_it now o group None asked (begun group)
+    pub picks_group_it : (now : Now) (o : Operation) (asked : List ℕ) (one : Option GroupId) → ((group : GroupId) → Guard now → Begins now o group) → ((answer : Answer) → ((request : Request) → IsFarAnswer Far s.cluster tape o.id request answer) → P (ends now o.id answer))
+        → Leads (picks_group s now o asked one)
+    picks_group_it now o asked None begun ended = ended _ (λ request. tt)
+    picks_group_it now o asked (Some group) begun ended = begins_read_it now o group None asked (begun group)
 
-      -- what is read completely
-      module _ (id : OpId) (began : ℕ) (visited : List GroupId) (message : Option Enter) (group : GroupId) (noted : Option Epoch) (asked : List ℕ) (p : ℕ) (search : Option Search) where
-        abbrev r : Reading
-        r = caught noted asked p search
+    -- what is read completely
+    module _ (id : OpId) (began : ℕ) (visited : List GroupId) (message : Option Enter) (group : GroupId) (noted : Option Epoch) (asked : List ℕ) (p : ℕ) (search : Option Search) where
+      abbrev r : Reading
+      r = caught noted asked p search
 
-        abbrev one : Request → Operation
-        one request = record { id = id; request = request; began = began; visited = visited; message = message; phase = Reads group r }
+      abbrev one : Request → Operation
+      one request = record { id = id; request = request; began = began; visited = visited; message = message; phase = Reads group r }
 
-        module _ (now : Now) (le : p ≤ prefix_of now.met group) where
-          abbrev log : List Content
-          log = take p (log_of now.met group)
+      module _ (now : Now) (le : p ≤ prefix_of now.met group) where
+        abbrev log : List Content
+        log = take p (log_of now.met group)
 
-          covered : (request : Request) → W now (one request) → Guard now → Far tape id group p
-          covered request w guard = (((w guard).phase).1).1
+        covered : (request : Request) → W now (one request) → Guard now → Far tape id group p
+        covered request w guard = (((w guard).phase).1).1
 
-          over : (request : Request) → W now (one request) → Guard now → (Shows : ℕ → List Content → Type 0) → Shows p log → ReadOver Far tape id group Shows
-          over request w guard Shows shows = reads_over now (one request) group p (w guard) (covered request w guard) le Shows shows
+        over : (request : Request) → W now (one request) → Guard now → (Shows : ℕ → List Content → Type 0) → Shows p log → ReadOver Far tape id group Shows
+        over request w guard Shows shows = reads_over now (one request) group p (w guard) (covered request w guard) le Shows shows
 
-          -- it ends, or goes on where the log is not full
-          full_it : (request : Request) (next : Now) → W now (one request) → (Of request group → is_write request ≡ true → group_written request ≡ Some group) → P next → P (unless_full s now (one request) p next)
-          full_it request next w home k = either_so (nat_le ((s.cluster).limit).0 p) _ next (λ full. ends_it now (one request) (LogFull (record { 0 = p })) w (λ guard t. record {
-            group = group;
-            home = home (((w guard).phase).1).0;
-            reads = over request w guard (λ n front. (n ≡ p) × (((s.cluster).limit).0 ≤ n)) (refl, le_is ((s.cluster).limit).0 p full);
-          })) k
+        -- it ends, or goes on where the log is not full
+        full_it : (request : Request) (next : Next) → W now (one request) → (Of request group → is_write request ≡ true → group_written request ≡ Some group) → Leads next → Leads (unless_full s now (one request) p next)
+        full_it request next w home k = either_so (nat_le ((s.cluster).limit).0 p) _ next (λ full. ends_it now (one request) (LogFull (record { 0 = p })) w (λ guard t. record {
+          group = group;
+          home = home (((w guard).phase).1).0;
+          reads = over request w guard (λ n front. (n ≡ p) × (((s.cluster).limit).0 ≤ n)) (refl, le_is ((s.cluster).limit).0 p full);
+        })) k
 
-          proposed : (request : Request) (own : Content) (promised : Promised) → W now (one request) → P (proposes s now (one request) group r p own promised)
-          proposed request own promised w = proposes_it now (one request) group r p own promised w (covered request w)
+        proposed : (request : Request) (own : Content) (promised : Promised) → W now (one request) → P (proposes s now (one request) group r p own promised)
+        proposed request own promised w = proposes_it now (one request) group r p own promised w (covered request w)
 
-          again_reads : (request : Request) → ((other : GroupId) → Of request other) → W now (one request) → (other : GroupId) → Guard now → Begins now (one request) other
-          again_reads request of w other guard = let t = w guard in record { acting = t.acting; node = t.node; asked = t.asked; full = ap (is_full s.cluster) (sym t.node) ∙ (t.phase).0; of = of other }
+        again_reads : (request : Request) → ((other : GroupId) → Of request other) → W now (one request) → (other : GroupId) → Guard now → Begins now (one request) other
+        again_reads request of w other guard = let t = w guard in record { acting = t.acting; node = t.node; asked = t.asked; full = ap (is_full s.cluster) (sym t.node) ∙ (t.phase).0; of = of other }
 
-          nothing_left : (request : Request) → W now (one request) → (answer : Answer) → ((asked_of : Request) → IsFarAnswer Far s.cluster tape id asked_of answer) → P (ends now id answer)
-          nothing_left request w answer far = ends_it now (one request) answer w (λ guard t. far request)
+        nothing_left : (request : Request) → W now (one request) → (answer : Answer) → ((asked_of : Request) → IsFarAnswer Far s.cluster tape id asked_of answer) → P (ends now id answer)
+        nothing_left request w answer far = ends_it now (one request) answer w (λ guard t. far request)
 
-          sealed_it : (transaction : Transaction) (result : Result Done Turned) → outcome (s.cluster).schema transaction (rows_at now group p) ≡ result → W now (one (Txn transaction)) → P (sealed s now (one (Txn transaction)) group r p result)
-          sealed_it transaction (Err turn) e w = ends_it now (one (Txn transaction)) (TurnedAnswer turn) w (λ guard t.
-              subst (λ g. ReadOver Far tape id g (λ n front. outcome (s.cluster).schema transaction (after front no_rows) ≡ Err turn)) (sym (((w guard).phase).1).0)
-              (over (Txn transaction) w guard (λ n front. outcome (s.cluster).schema transaction (after front no_rows) ≡ Err turn) e))
-          sealed_it transaction (Ok done) e w = proposed (Txn transaction) (entry_of_done id done) (Replies done.replies) w
+        sealed_it : (transaction : Transaction) (result : Result Done Turned) → outcome (s.cluster).schema transaction (rows_at now group p) ≡ result → W now (one (Txn transaction)) → P (sealed s now (one (Txn transaction)) group r p result)
+        sealed_it transaction (Err turn) e w = ends_it now (one (Txn transaction)) (TurnedAnswer turn) w (λ guard t.
+            subst (λ g. ReadOver Far tape id g (λ n front. outcome (s.cluster).schema transaction (after front no_rows) ≡ Err turn)) (sym (((w guard).phase).1).0)
+            (over (Txn transaction) w guard (λ n front. outcome (s.cluster).schema transaction (after front no_rows) ≡ Err turn) e))
+        sealed_it transaction (Ok done) e w = proposed (Txn transaction) (entry_of_done id done) (Replies done.replies) w
 
-          batch_sealed_it : (own : GroupId) (transactions : List Transaction) → W now (one (BatchRequest own transactions)) → P (batch_sealed s now (one (BatchRequest own transactions)) group r p (batch_outcome (s.cluster).schema own transactions (rows_at now group p)))
-          batch_sealed_it own transactions w = either (list_any is_taken (batch_outcome (s.cluster).schema own transactions (rows_at now group p)).results) _ _
-              (proposed (BatchRequest own transactions) (entry_of_batch id (batch_outcome (s.cluster).schema own transactions (rows_at now group p))) (Results (batch_outcome (s.cluster).schema own transactions (rows_at now group p)).results) w)
-              (ends_it now (one (BatchRequest own transactions)) (AllTurned (batch_outcome (s.cluster).schema own transactions (rows_at now group p)).results) w (λ guard t.
-              subst (λ g. ReadOver Far tape id g (λ n front. (batch_outcome (s.cluster).schema own transactions (after front no_rows)).results ≡ (batch_outcome (s.cluster).schema own transactions (rows_at now group p)).results)) (sym (((w guard).phase).1).0)
-              (over (BatchRequest own transactions) w guard (λ n front. (batch_outcome (s.cluster).schema own transactions (after front no_rows)).results ≡ (batch_outcome (s.cluster).schema own transactions (rows_at now group p)).results) refl)))
+        batch_sealed_it : (own : GroupId) (transactions : List Transaction) → W now (one (BatchRequest own transactions)) → P (batch_sealed s now (one (BatchRequest own transactions)) group r p (batch_outcome (s.cluster).schema own transactions (rows_at now group p)))
+        batch_sealed_it own transactions w = either (list_any is_ok (batch_outcome (s.cluster).schema own transactions (rows_at now group p)).results) _ _
+            (proposed (BatchRequest own transactions) (entry_of_batch id (batch_outcome (s.cluster).schema own transactions (rows_at now group p))) (Results (batch_outcome (s.cluster).schema own transactions (rows_at now group p)).results) w)
+            (ends_it now (one (BatchRequest own transactions)) (AllTurned (batch_outcome (s.cluster).schema own transactions (rows_at now group p)).results) w (λ guard t.
+            subst (λ g. ReadOver Far tape id g (λ n front. (batch_outcome (s.cluster).schema own transactions (after front no_rows)).results ≡ (batch_outcome (s.cluster).schema own transactions (rows_at now group p)).results)) (sym (((w guard).phase).1).0)
+            (over (BatchRequest own transactions) w guard (λ n front. (batch_outcome (s.cluster).schema own transactions (after front no_rows)).results ≡ (batch_outcome (s.cluster).schema own transactions (rows_at now group p)).results) refl)))
 
-          read_it : (request : ReadRequest) → W now (one (ReadRequested request)) → P (ends now id (read_answer s request p (rows_at now group p) (listed_at now group p)))
-          read_it request w = ends_it now (one (ReadRequested request)) (read_answer s request p (rows_at now group p) (listed_at now group p)) w (λ guard t.
-              subst (IsFarAnswer Far s.cluster tape id (ReadRequested request)) (answer_is s request p log) (rows_far s.cluster tape id request p (rows_shown (s.cluster).schema request log request.rows) (λ current.
-              subst (λ g. ReadOver Far tape id g (λ n front. read_over s.cluster request n front ≡ rows_answer p (rows_shown (s.cluster).schema request log request.rows))) (sym (((w guard).phase).1).0)
-              (over (ReadRequested request) w guard (λ n front. read_over s.cluster request n front ≡ rows_answer p (rows_shown (s.cluster).schema request log request.rows)) refl))))
+        read_it : (request : ReadRequest) → W now (one (ReadRequested request)) → P (ends now id (read_answer s request p (rows_at now group p) (listed_at now group p)))
+        read_it request w = ends_it now (one (ReadRequested request)) (read_answer s request p (rows_at now group p) (listed_at now group p)) w (λ guard t.
+            subst (IsFarAnswer Far s.cluster tape id (ReadRequested request)) (answer_is s request p log) (rows_far s.cluster tape id request p (rows_shown (s.cluster).schema request log request.rows) (λ current.
+            subst (λ g. ReadOver Far tape id g (λ n front. read_over s.cluster request n front ≡ rows_answer p (rows_shown (s.cluster).schema request log request.rows))) (sym (((w guard).phase).1).0)
+            (over (ReadRequested request) w guard (λ n front. read_over s.cluster request n front ≡ rows_answer p (rows_shown (s.cluster).schema request log request.rows)) refl))))
 
-          find_it : (request : FindRequest) → W now (one (Find request)) → P (ends now id (local_found (s.cluster).schema request p (listed_at now group p)))
-          find_it request w = ends_it now (one (Find request)) (local_found (s.cluster).schema request p (listed_at now group p)) w (λ guard t.
-              found_far s.cluster tape id request request _ _ (listed_at now group p) _ (λ current other is.
-              subst (λ g. ReadOver Far tape id g (λ n front. find_over s.cluster request n front ≡ local_found (s.cluster).schema request p (listed_at now group p))) (same_Some group other (sym (((w guard).phase).1).0 ∙ is))
-              (over (Find request) w guard (λ n front. find_over s.cluster request n front ≡ local_found (s.cluster).schema request p (listed_at now group p)) refl)))
+        find_it : (request : FindRequest) → W now (one (Find request)) → P (ends now id (local_found (s.cluster).schema request p (listed_at now group p)))
+        find_it request w = ends_it now (one (Find request)) (local_found (s.cluster).schema request p (listed_at now group p)) w (λ guard t.
+            found_far s.cluster tape id request request _ _ (listed_at now group p) _ (λ current other is.
+            subst (λ g. ReadOver Far tape id g (λ n front. find_over s.cluster request n front ≡ local_found (s.cluster).schema request p (listed_at now group p))) (same_Some group other (sym (((w guard).phase).1).0 ∙ is))
+            (over (Find request) w guard (λ n front. find_over s.cluster request n front ≡ local_found (s.cluster).schema request p (listed_at now group p)) refl)))
 
-          enters_it : (picked : Option Enter) → W now (one PumpEnter) → P (enters s again now (one PumpEnter) group r p picked)
-          enters_it None w = picks_message_it now (one PumpEnter) (asked_by r) (next_to_enter id (applied_logs now)) (again_reads PumpEnter (λ other. tt) w) (nothing_left PumpEnter w)
-          enters_it (Some picked) w = either (is_named picked.name (names_entered log)) _ _
-              (picks_message_it now (one PumpEnter) (asked_by r) (next_to_enter id (applied_logs now)) (again_reads PumpEnter (λ other. tt) w) (nothing_left PumpEnter w)) (proposed PumpEnter (enter_entry id picked) (Replies []) w)
+        enters_it : (picked : Option Enter) → W now (one PumpEnter) → Leads (enters s now (one PumpEnter) group r p picked)
+        enters_it None w = picks_message_it now (one PumpEnter) (asked_by r) (next_to_enter id (applied_logs now)) (again_reads PumpEnter (λ other. tt) w) (nothing_left PumpEnter w)
+        enters_it (Some picked) w = either_so (is_named picked.name (names_entered log)) _ _
+            (λ there. picks_message_it now (one PumpEnter) (asked_by r) (next_to_enter id (applied_logs now)) (again_reads PumpEnter (λ other. tt) w) (nothing_left PumpEnter w)) (proposed PumpEnter (enter_entry id picked) (Replies []) w)
 
-          handles_it : (oldest : Option Enter) → W now (one PumpHandle) → P (handles s again now (one PumpHandle) group r p oldest)
-          handles_it None w = picks_group_it now (one PumpHandle) (asked_by r) (next_to_handle (applied_logs now)) (again_reads PumpHandle (λ other. tt) w) (nothing_left PumpHandle w)
-          handles_it (Some oldest) w = either (has s.handlers oldest.queue) _ _
-              (proposed PumpHandle (handling s id group oldest (table_rows (s.cluster).schema group (listed_at now group p))) (Replies []) w) (ends_it now (one PumpHandle) (NoHandler oldest.queue) w (λ guard t. tt))
+        handles_it : (oldest : Option Enter) → W now (one PumpHandle) → Leads (handles s now (one PumpHandle) group r p oldest)
+        handles_it None w = picks_group_it now (one PumpHandle) (asked_by r) (next_to_handle (applied_logs now)) (again_reads PumpHandle (λ other. tt) w) (nothing_left PumpHandle w)
+        handles_it (Some oldest) w = either_so (has s.handlers oldest.queue) _ _
+            (λ there. proposed PumpHandle (handling s id group oldest (table_rows (s.cluster).schema group (listed_at now group p))) (Replies []) w) (ends_it now (one PumpHandle) (NoHandler oldest.queue) w (λ guard t. tt))
 
-          finishes_by : (request : Request) → W now (one request) → P (finishes s again now (one request) group r p)
-          finishes_by (Txn transaction) w = full_it (Txn transaction) _ w (λ of is. ap Some of) (sealed_it transaction (outcome (s.cluster).schema transaction (rows_at now group p)) refl w)
-          finishes_by (BatchRequest own transactions) w = full_it (BatchRequest own transactions) _ w (λ of is. ap Some of) (batch_sealed_it own transactions w)
-          finishes_by (ReadRequested request) w = read_it request w
-          finishes_by (Find request) w = find_it request w
-          finishes_by PumpEnter w = full_it PumpEnter _ w (λ of is. cc) (enters_it message w)
-          finishes_by PumpHandle w = full_it PumpHandle _ w (λ of is. cc) (handles_it (oldest_unhandled log) w)
-          finishes_by Refresh w = keeps_it now (one Refresh) w
+        finishes_by : (request : Request) → W now (one request) → Leads (finishes s now (one request) group r p)
+        finishes_by (Txn transaction) w = full_it (Txn transaction) _ w (λ of is. ap Some of) (sealed_it transaction (outcome (s.cluster).schema transaction (rows_at now group p)) refl w)
+        finishes_by (BatchRequest own transactions) w = full_it (BatchRequest own transactions) _ w (λ of is. ap Some of) (batch_sealed_it own transactions w)
+        finishes_by (ReadRequested request) w = read_it request w
+        finishes_by (Find request) w = find_it request w
+        finishes_by PumpEnter w = full_it PumpEnter _ w (λ of is. cc) (enters_it message w)
+        finishes_by PumpHandle w = full_it PumpHandle _ w (λ of is. cc) (handles_it (oldest_unhandled log) w)
+        finishes_by Refresh w = keeps_it now (one Refresh) w
 
-      module _ (id : OpId) (began : ℕ) (visited : List GroupId) (message : Option Enter) where
-        abbrev in_fields : Request → Phase → Operation
-        in_fields request phase = record { id = id; request = request; began = began; visited = visited; message = message; phase = phase }
+    module _ (id : OpId) (began : ℕ) (visited : List GroupId) (message : Option Enter) where
+      abbrev in_fields : Request → Phase → Operation
+      in_fields request phase = record { id = id; request = request; began = began; visited = visited; message = message; phase = phase }
 
-        seeks_it : (now : Now) (request : Request) (group : GroupId) (noted : Option Epoch) (asked : List ℕ) (p : ℕ) (search : Option Search) (least : ℕ) → W now (in_fields request (Reads group (caught noted asked p search)))
-            → W (sends_more now (seeks (reader_of s id group) (caught noted asked p search) least (clock_of now.met)).sends) (in_fields request (Reads group (seeks (reader_of s id group) (caught noted asked p search) least (clock_of now.met)).reading))
-        seeks_it now request group noted asked p search least w guard = let t = w guard in record {
-          acting = sends_acting now _ t.acting (never_far tape _ (seeks_never (reader_of s id group) (caught noted asked p search) least (clock_of now.met)));
-          node = t.node;
-          asked = t.asked;
-          phase = ((t.phase).0, (((t.phase).1).0, seeks_far Far enough s.cluster tape l q id group (caught noted asked p search) least (clock_of now.met) ((t.phase).1).1));
-        }
+      seeks_it : (now : Now) (request : Request) (group : GroupId) (noted : Option Epoch) (asked : List ℕ) (p : ℕ) (search : Option Search) (least : ℕ) → W now (in_fields request (Reads group (caught noted asked p search)))
+          → W (sends_more now (seeks (reader_of s id group) (caught noted asked p search) least (clock_of now.met)).sends) (in_fields request (Reads group (seeks (reader_of s id group) (caught noted asked p search) least (clock_of now.met)).reading))
+      seeks_it now request group noted asked p search least w guard = let t = w guard in record {
+        acting = sends_acting now _ t.acting (never_far tape _ (seeks_never (reader_of s id group) (caught noted asked p search) least (clock_of now.met)));
+        node = t.node;
+        asked = t.asked;
+        phase = ((t.phase).0, (((t.phase).1).0, seeks_far Far enough s.cluster tape l q id group (caught noted asked p search) least (clock_of now.met) ((t.phase).1).1));
+      }
 
-        reads_on_by : (now : Now) (request : Request) (group : GroupId) (noted : Option Epoch) (asked : List ℕ) (stage : Stage) → W now (in_fields request (Reads group (record { noted = noted; asked = asked; stage = stage })))
-            → P (reads_on s again now (in_fields request (Reads group (record { noted = noted; asked = asked; stage = stage }))) group (record { noted = noted; asked = asked; stage = stage }))
-        reads_on_by now request group noted asked (Polling heard best at) w = keeps_it now (in_fields request (Reads group (record { noted = noted; asked = asked; stage = Polling heard best at }))) w
-        reads_on_by now request group noted asked (Catching p search) w = either_so (nat_le p (prefix_of now.met group)) _ _
-            (λ all. finishes_by id began visited message group noted asked p search (completes_read s now group (caught noted asked p search) p)
-            (completes_le now group noted asked p search (le_is p (prefix_of now.met group) all)) request
-            (completes_it now (in_fields request (Reads group (caught noted asked p search))) group noted asked p search w))
-            (keeps_it (sends_more now (seeks (reader_of s id group) (caught noted asked p search) (prefix_of now.met group + 1) (clock_of now.met)).sends)
-            (in_fields request (Reads group (seeks (reader_of s id group) (caught noted asked p search) (prefix_of now.met group + 1) (clock_of now.met)).reading))
-            (seeks_it now request group noted asked p search (prefix_of now.met group + 1) w))
+      reads_on_by : (now : Now) (request : Request) (group : GroupId) (noted : Option Epoch) (asked : List ℕ) (stage : Stage) → W now (in_fields request (Reads group (record { noted = noted; asked = asked; stage = stage })))
+          → Leads (reads_on s now (in_fields request (Reads group (record { noted = noted; asked = asked; stage = stage }))) group (record { noted = noted; asked = asked; stage = stage }))
+      reads_on_by now request group noted asked (Polling heard best at) w = keeps_it now (in_fields request (Reads group (record { noted = noted; asked = asked; stage = Polling heard best at }))) w
+      reads_on_by now request group noted asked (Catching p search) w = either_so (nat_le p (prefix_of now.met group)) _ _
+          (λ all. finishes_by id began visited message group noted asked p search (completes_read s now group (caught noted asked p search) p)
+          (completes_le now group noted asked p search (le_is p (prefix_of now.met group) all)) request
+          (completes_it now (in_fields request (Reads group (caught noted asked p search))) group noted asked p search w))
+          (keeps_it (sends_more now (seeks (reader_of s id group) (caught noted asked p search) (prefix_of now.met group + 1) (clock_of now.met)).sends)
+          (in_fields request (Reads group (seeks (reader_of s id group) (caught noted asked p search) (prefix_of now.met group + 1) (clock_of now.met)).reading))
+          (seeks_it now request group noted asked p search (prefix_of now.met group + 1) w))
 
-        acts_by : (now : Now) (request : Request) (phase : Phase) → W now (in_fields request phase) → P (acts s again now (in_fields request phase))
-        acts_by now request (Reads group r) w = reads_on_by now request group r.noted r.asked r.stage w
-        acts_by now request (Proposes group n asked proposal promised) w = unless_decided_it now (in_fields request (Proposes group n asked proposal promised)) n promised (decided now.met group n) w
+      acts_by : (now : Now) (request : Request) (phase : Phase) → W now (in_fields request phase) → Leads (acts s now (in_fields request phase))
+      acts_by now request (Reads group r) w = reads_on_by now request group r.noted r.asked r.stage w
+      acts_by now request (Proposes group n asked proposal promised) w = unless_decided_it now (in_fields request (Proposes group n asked proposal promised)) n promised (decided now.met group n) w
 
-    acts_within_it : (most : ℕ) (now : Now) (o : Operation) → W now o → P (acts_within most s now o)
-    acts_within_it zero now o w = keeps_it now o w
-    acts_within_it (suc most) now o w = acts_by (acts_within most s) (acts_within_it most) o.id o.began o.visited o.message now o.request o.phase w
+    -- until it rests
+    pub rests_within_it : (most : ℕ) (next : Next) → Leads next → P (rests_within most s next)
+    rests_within_it most (Rests now) h = h
+    rests_within_it zero (ActsAgain now o) w = keeps_it now o w
+    rests_within_it (suc most) (ActsAgain now o) w = rests_within_it most (acts s now o) (acts_by o.id o.began o.visited o.message now o.request o.phase w)
 
     pub goes_on_it : (now : Now) (o : Operation) → W now o → P (goes_on s now o)
-    goes_on_it now o w = acts_within_it (length (groups_of now.met) + 2) now o w
+    goes_on_it now o w = rests_within_it (length (groups_of now.met) + 2) (ActsAgain now o) w

@@ -1,5 +1,5 @@
 -- All that the operations of a node do in a step, one after another: what they hear, what is due, and one that begins.
-use Rattle.std.proofs.Common.{◌≡◌, ℕ, ◌-◌, nat_le, Bool, true, false, cond, List, [], ◌∷◌, length, map, flat_map, fold, Option, Some, None, refl, sym, ap, ◌∙◌, subst}
+use Rattle.std.proofs.Common.{◌≡◌, ℕ, ◌-◌, nat_le, Bool, true, false, cond, List, [], ◌∷◌, length, map, flat_map, fold, Option, Some, None, refl, sym, ap, ◌∙◌, subst, ◌+◌}
 use Rattle.std.proofs.lemmas.Option.{same_Some}
 use Rattle.mega_base.specs.declared.names.GroupId.{GroupId}
 use Rattle.mega_base.specs.declared.names.OpId.{OpId}
@@ -26,9 +26,10 @@ use Rattle.mega_leased_laws.specs.of_settled_laws.of_run_laws.of_tape_laws.of_pr
 use Rattle.mega_leased_laws.specs.of_settled_laws.of_run_laws.of_tape_laws.of_promises.of_rules.Members.{is_full}
 use Rattle.mega_leased_laws.specs.of_settled_laws.of_run_laws.of_tape_laws.of_promises.of_rules.Met.{Met}
 use Rattle.mega_leased_laws.specs.of_settled_laws.of_run_laws.of_tape_laws.of_promises.of_rules.Queues.{next_to_enter, next_to_handle}
+use Rattle.mega_leased_laws.specs.of_settled_laws.of_run_laws.of_tape_laws.of_promises.of_rules.Logs.{groups_of}
 use Rattle.mega_leased_laws.specs.of_settled_laws.of_run_laws.of_tape_laws.of_promises.of_rules.Operations.{Now, Operation, Phase, Proposes, Reads, Setting}
-use Rattle.mega_leased_laws.specs.of_settled_laws.of_run_laws.of_tape_laws.of_promises.of_rules.Acting.{applied_logs, begins_read, ends, goes_on, read_answer, reader_of, rows_answer, sends_more}
-use Rattle.mega_leased_laws.specs.of_settled_laws.of_run_laws.of_tape_laws.of_promises.of_rules.Steps.{Heard, acts_in_turn, all_act, begins, does_due, find_begins, hears_message, is_current, is_out, last_answer, local_find_begins, new_operation, read_begins, ticked, unless_refused}
+use Rattle.mega_leased_laws.specs.of_settled_laws.of_run_laws.of_tape_laws.of_promises.of_rules.Acting.{Next, applied_logs, begins_read, ends, read_answer, reader_of, rows_answer, sends_more}
+use Rattle.mega_leased_laws.specs.of_settled_laws.of_run_laws.of_tape_laws.of_promises.of_rules.Steps.{Heard, acts_first, acts_in_turn, all_act, does_due, find_begins, hears_message, is_current, is_out, last_answer, local_find_begins, new_operation, read_begins, ticked, unless_refused}
 use Rattle.mega_leased_laws.specs.of_settled_laws.of_run_laws.of_tape_laws.Lawful.{Lawful, message}
 use Rattle.mega_leased_laws.specs.of_settled_laws.of_run_laws.of_tape_laws.Places.{Took}
 use Rattle.mega_leased_laws.specs.of_settled_laws.of_run_laws.of_tape_laws.Polls.{ArePolls}
@@ -45,7 +46,7 @@ use Rattle.mega_leased_laws.specs.of_settled_laws.of_run_laws.of_tape_laws.of_pr
 use Rattle.mega_index.specs.Fits.{numbered}
 use Rattle.mega_leased_laws.specs.of_settled_laws.of_run_laws.of_tape_laws.of_promises.of_rules.Finding.{group_bytes, group_marks, refreshed_marks, rows_through}
 use Rattle.mega_leased_laws.specs.of_settled_laws.of_run_laws.of_tape_laws.of_promises.of_rules.Steps.{applied_position, needs_full, snapshot_listed, stored_listed, unless_missing}
-use Rattle.mega_fresh_laws.proofs.Acting.{Acting, Begins, Guard, Locals, answers_more, begins_read_it, found_far, goes_on_it, never_far, picks_group_it, picks_message_it, rows_far, sends_acting}
+use Rattle.mega_fresh_laws.proofs.Acting.{Acting, Begins, Guard, Leads, Locals, answers_more, begins_read_it, found_far, goes_on_it, never_far, picks_group_it, picks_message_it, rests_within_it, rows_far, sends_acting}
 
 module _ (Far : List Item → OpId → GroupId → ℕ → Type 0) (enough : Suffices Far) where
   clash_of : {X : Type 0} (t : Bool) → t ≡ true → t ≡ false → X
@@ -112,6 +113,10 @@ module _ (Far : List Item → OpId → GroupId → ℕ → Type 0) (enough : Suf
 
     abbrev pub Ended : Now → Type 0
     Ended now = Guarded now → ActingAt now
+
+    -- what an operation comes to
+    abbrev Led : Next → Type 0
+    Led next = Leads Far enough s usage tape l q base last known locals next
 
     record Heeds (t : Heard) : Type 0 where
       node : ((t.operation).id).node.0 ≡ s.me
@@ -182,17 +187,17 @@ module _ (Far : List Item → OpId → GroupId → ℕ → Type 0) (enough : Suf
         ready : (group : GroupId) → is_full s.cluster s.me ≡ true → Of request group → Guarded now → Begins Far enough s usage tape l q base last known locals now o group
         ready group full of guard = record { acting = p guard; node = node; asked = asked; full = full; of = of }
 
-        reads : (group : GroupId) (message : Option Enter) → is_full s.cluster s.me ≡ true → Of request group → Ended (begins_read s (goes_on s) now o group message [])
-        reads group message full of = begins_read_it Far enough s usage tape l q base last known locals (goes_on s) (goes_on_it Far enough s usage tape l q base last known locals) now o group message [] (ready group full of)
+        reads : (group : GroupId) (message : Option Enter) → is_full s.cluster s.me ≡ true → Of request group → Led (begins_read s now o group message [])
+        reads group message full of = begins_read_it Far enough s usage tape l q base last known locals now o group message [] (ready group full of)
 
       read_begins_it : (request : ReadRequest) → asked_for usage.meaning tape id ≡ Some (ReadRequested request) → (is_current request.mode ≡ true → is_full s.cluster s.me ≡ true) → (mode : Mode) → request.mode ≡ mode
-          → Ended (read_begins s now (new_operation id (ReadRequested request) clock) request mode)
+          → Led (read_begins s now (new_operation id (ReadRequested request) clock) request mode)
       read_begins_it request asked full Current e = reads (ReadRequested request) asked request.group None (full (ap is_current e)) refl
       read_begins_it request asked full Snapshot e = given (ReadRequested request) asked _ (read_far s tape id request _ _ _ (λ current. let clashing = sym current ∙ ap is_current e in cc))
       read_begins_it request asked full Inconsistent e = given (ReadRequested request) asked _ (read_far s tape id request _ _ _ (λ current. let clashing = sym current ∙ ap is_current e in cc))
 
       local_find_it : (request : FindRequest) (group : GroupId) → request.group ≡ Some group → asked_for usage.meaning tape id ≡ Some (Find request) → (is_current request.mode ≡ true → is_full s.cluster s.me ≡ true) → (mode : Mode) → request.mode ≡ mode
-          → Ended (local_find_begins s now (new_operation id (Find request) clock) request group mode)
+          → Led (local_find_begins s now (new_operation id (Find request) clock) request group mode)
       local_find_it request group of asked full Current e = reads (Find request) asked group None (full (ap is_current e)) of
       local_find_it request group of asked full Snapshot e = given (Find request) asked _ (found_far Far enough s.cluster tape id request request (group_marks request.group (applied_position now group)) (group_bytes request.group) (snapshot_listed now group)
           (numbered (s.cluster).schema.indexes request.index) (λ current. clash_of (is_current request.mode) current (ap is_current e)))
@@ -200,23 +205,23 @@ module _ (Far : List Item → OpId → GroupId → ℕ → Type 0) (enough : Suf
           (numbered (s.cluster).schema.indexes request.index) (λ current. clash_of (is_current request.mode) current (ap is_current e)))
 
       find_begins_it : (request : FindRequest) → asked_for usage.meaning tape id ≡ Some (Find request) → (is_current request.mode ≡ true → is_full s.cluster s.me ≡ true) → (group : Option GroupId) → request.group ≡ group
-          → Ended (find_begins s now (new_operation id (Find request) clock) request group)
+          → Led (find_begins s now (new_operation id (Find request) clock) request group)
       find_begins_it request asked full None e = given (Find request) asked _ (found_far Far enough s.cluster tape id request request (refreshed_marks now.met) [] (flat_map (rows_through now.met) (refreshed_marks now.met))
           (numbered (s.cluster).schema.indexes request.index) (λ current other is. none_some other (sym e ∙ is)))
       find_begins_it request asked full (Some group) e = local_find_it request group e asked full request.mode refl
 
-      begins_it : (request : Request) → asked_for usage.meaning tape id ≡ Some request → (needs_full request ≡ true → is_full s.cluster s.me ≡ true) → Ended (begins s now (new_operation id request clock))
-      begins_it (Txn transaction) asked full = reads (Txn transaction) asked transaction.group None (full refl) refl
-      begins_it (BatchRequest group transactions) asked full = reads (BatchRequest group transactions) asked group None (full refl) refl
-      begins_it (ReadRequested request) asked full = read_begins_it request asked full request.mode refl
-      begins_it (Find request) asked full = find_begins_it request asked full request.group refl
-      begins_it PumpEnter asked full = picks_message_it Far enough s usage tape l q base last known locals (goes_on s) (goes_on_it Far enough s usage tape l q base last known locals) now (new_operation id PumpEnter clock) [] (next_to_enter id (applied_logs now))
+      first_by : (request : Request) → asked_for usage.meaning tape id ≡ Some request → (needs_full request ≡ true → is_full s.cluster s.me ≡ true) → Led (acts_first s now (new_operation id request clock))
+      first_by (Txn transaction) asked full = reads (Txn transaction) asked transaction.group None (full refl) refl
+      first_by (BatchRequest group transactions) asked full = reads (BatchRequest group transactions) asked group None (full refl) refl
+      first_by (ReadRequested request) asked full = read_begins_it request asked full request.mode refl
+      first_by (Find request) asked full = find_begins_it request asked full request.group refl
+      first_by PumpEnter asked full = picks_message_it Far enough s usage tape l q base last known locals now (new_operation id PumpEnter clock) [] (next_to_enter id (applied_logs now))
           (λ group. ready PumpEnter asked group (full refl) tt) (λ answer far. given PumpEnter asked answer (far PumpEnter))
-      begins_it PumpHandle asked full = picks_group_it Far enough s usage tape l q base last known locals (goes_on s) (goes_on_it Far enough s usage tape l q base last known locals) now (new_operation id PumpHandle clock) [] (next_to_handle (applied_logs now))
+      first_by PumpHandle asked full = picks_group_it Far enough s usage tape l q base last known locals now (new_operation id PumpHandle clock) [] (next_to_handle (applied_logs now))
           (λ group. ready PumpHandle asked group (full refl) tt) (λ answer far. given PumpHandle asked answer (far PumpHandle))
-      begins_it Refresh asked full = given Refresh asked _ tt
+      first_by Refresh asked full = given Refresh asked _ tt
 
       pub begun_it : (request : Request) → asked_for usage.meaning tape id ≡ Some request → (refusal : Option Answer) → (refusal ≡ None → needs_full request ≡ true → is_full s.cluster s.me ≡ true) → ((answer : Answer) → refusal ≡ Some answer → IsFarAnswer Far s.cluster tape id request answer)
           → Ended (unless_refused s now (new_operation id request clock) refusal)
-      begun_it request asked None full far = begins_it request asked (full refl)
+      begun_it request asked None full far = rests_within_it Far enough s usage tape l q base last known locals (length (groups_of now.met) + 2) (acts_first s now (new_operation id request clock)) (first_by request asked (full refl))
       begun_it request asked (Some answer) full far = given request asked answer (far answer refl)

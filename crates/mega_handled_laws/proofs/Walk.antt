@@ -2,6 +2,7 @@
 use Rattle.std.proofs.Common.{◌≡◌, inl, inr, ℕ, zero, suc, ◌+◌, ◌≤◌, nat_le, Bool, true, false, cond, List, [], ◌∷◌, take, length, fold, Option, Some, None, Result, Ok, Err, refl, arith}
 use Rattle.std.proofs.lemmas.Bool.Decides.{nat_tests}
 use Rattle.std.specs.List.{list_any}
+use Rattle.std.specs.Result.{is_ok}
 use Rattle.mega_base.specs.declared.names.Epoch.{Epoch}
 use Rattle.mega_base.specs.declared.names.GroupId.{GroupId}
 use Rattle.mega_base.specs.declared.names.OpId.{OpId}
@@ -33,8 +34,8 @@ use Rattle.mega_run_laws.specs.of_rules.Logs.{decided, groups_of, log_of, prefix
 use Rattle.mega_run_laws.specs.of_rules.Met.{Validates}
 use Rattle.mega_run_laws.specs.of_rules.Queues.{Posted, enter_entry, is_named, names_entered, next_to_enter, next_to_handle, oldest_unhandled}
 use Rattle.mega_run_laws.specs.of_rules.Operations.{Now, Operation, Phase, Promised, Proposes, Reads, Replies, Results, Setting}
-use Rattle.mega_run_laws.specs.of_rules.Acting.{acts, acts_within, applied_logs, batch_sealed, begins_read, completes_read, ends, enters, finishes, goes_on, handles, handling, is_taken, keeps, leader_after, listed_at, picks_group, picks_message, proposes, proposes_by, read_begun, reader_of, reads_on, rows_at, sealed, sends_more, stored_with, table_rows, unless_decided, unless_full, validated_by, validates, visiting}
-use Rattle.mega_run_laws.specs.of_rules.Steps.{Heard, acts_in_turn, all_act, begins, does_due, find_begins, is_out, local_find_begins, read_begins, ticked, unless_refused}
+use Rattle.mega_run_laws.specs.of_rules.Acting.{ActsAgain, Next, Rests, acts, applied_logs, batch_sealed, begins_read, completes_read, ends, enters, finishes, goes_on, handles, handling, keeps, leader_after, listed_at, picks_group, picks_message, proposes, proposes_by, read_begun, reader_of, reads_on, rests_within, rows_at, sealed, sends_more, stored_with, table_rows, unless_decided, unless_full, validated_by, validates}
+use Rattle.mega_run_laws.specs.of_rules.Steps.{Heard, acts_first, acts_in_turn, all_act, does_due, find_begins, is_out, local_find_begins, read_begins, ticked, unless_refused}
 use Rattle.mega_run_laws.specs.Justified.{Each}
 use Rattle.mega_run_laws.proofs.Prefixes.{prefix_more}
 use Rattle.mega_run_laws.proofs.Turns.{each_on}
@@ -69,14 +70,20 @@ completed s now group p (Some epoch) le = by (refused_at s.cluster now.met group
     by None = let more = prefix_more (Validates group p) now.met group in omega (arith, le, more)
 
 module _ (s : Setting) (On : OpId → Type 0) (A : Message → Type 0) (P : Now → Type 0) (l : Lasts s On A P) where
-  abbrev Stays : (Now → Operation → Now) → Type 0
-  Stays again = (now : Now) (o : Operation) → On o.id → P now → P (again now o)
+  -- what an operation comes to keeps it, whether it acts again or not
+  abbrev Leads : Next → Type 0
+  Leads (Rests now) = P now
+  Leads (ActsAgain now o) = On o.id × P now
 
   either : (t : Bool) (one other : Now) → P one → P other → P (cond t one other)
   either true one other h k = h
   either false one other h k = k
 
-  either_so : (t : Bool) (one other : Now) → (t ≡ true → P one) → P other → P (cond t one other)
+  either_next : (t : Bool) (one other : Next) → Leads one → Leads other → Leads (cond t one other)
+  either_next true one other h k = h
+  either_next false one other h k = k
+
+  either_so : (t : Bool) (one other : Next) → (t ≡ true → Leads one) → Leads other → Leads (cond t one other)
   either_so true one other h k = h refl
   either_so false one other h k = k
 
@@ -103,76 +110,76 @@ module _ (s : Setting) (On : OpId → Type 0) (A : Message → Type 0) (P : Now 
   sealed_it now o group r p (Ok done) on h = proposes_it now o group r p (entry_of_done o.id done) (Replies done.replies) on (inl refl) h
 
   batch_it : (now : Now) (o : Operation) (group : GroupId) (r : Reading) (p : ℕ) (b : Batch) → On o.id → P now → P (batch_sealed s now o group r p b)
-  batch_it now o group r p b on h = either (list_any is_taken b.results) _ _ (proposes_it now o group r p (entry_of_batch o.id b) (Results b.results) on (inl refl) h) (l.ends_it now o.id _ h)
+  batch_it now o group r p b on h = either (list_any is_ok b.results) _ _ (proposes_it now o group r p (entry_of_batch o.id b) (Results b.results) on (inl refl) h) (l.ends_it now o.id _ h)
 
-  full_it : (now : Now) (o : Operation) (p : ℕ) (next : Now) → P now → P next → P (unless_full s now o p next)
-  full_it now o p next h k = either (nat_le (s.cluster.limit).0 p) _ next (l.ends_it now o.id _ h) k
+  full_it : (now : Now) (o : Operation) (p : ℕ) (next : Next) → P now → Leads next → Leads (unless_full s now o p next)
+  full_it now o p next h k = either_next (nat_le (s.cluster.limit).0 p) _ next (l.ends_it now o.id _ h) k
 
-  module _ (again : Now → Operation → Now) (more : Stays again) where
-    begins_read_it : (now : Now) (o : Operation) (group : GroupId) (message : Option Enter) (asked : List ℕ) → On o.id → P now → P (begins_read s again now o group message asked)
-    begins_read_it now o group message asked on h =
-        more (sends_more now (read_begun s now o group asked).sends) (visiting o group message (read_begun s now o group asked)) on (quiet_it now (read_begun s now o group asked).sends (begun_quiet s now o group asked) h)
+  begins_read_it : (now : Now) (o : Operation) (group : GroupId) (message : Option Enter) (asked : List ℕ) → On o.id → P now → Leads (begins_read s now o group message asked)
+  begins_read_it now o group message asked on h = (on, quiet_it now (read_begun s now o group asked).sends (begun_quiet s now o group asked) h)
 
-    picks_message_it : (now : Now) (o : Operation) (asked : List ℕ) (one : Option Posted) → On o.id → P now → P (picks_message s again now o asked one)
-    picks_message_it now o asked None on h = l.ends_it now o.id _ h
-    picks_message_it now o asked (Some one) on h = begins_read_it now o one.to (Some one.message) asked on h
+  picks_message_it : (now : Now) (o : Operation) (asked : List ℕ) (one : Option Posted) → On o.id → P now → Leads (picks_message s now o asked one)
+  picks_message_it now o asked None on h = l.ends_it now o.id _ h
+  picks_message_it now o asked (Some one) on h = begins_read_it now o one.to (Some one.message) asked on h
 
-    picks_group_it : (now : Now) (o : Operation) (asked : List ℕ) (one : Option GroupId) → On o.id → P now → P (picks_group s again now o asked one)
-    picks_group_it now o asked None on h = l.ends_it now o.id _ h
-    picks_group_it now o asked (Some group) on h = begins_read_it now o group None asked on h
+  picks_group_it : (now : Now) (o : Operation) (asked : List ℕ) (one : Option GroupId) → On o.id → P now → Leads (picks_group s now o asked one)
+  picks_group_it now o asked None on h = l.ends_it now o.id _ h
+  picks_group_it now o asked (Some group) on h = begins_read_it now o group None asked on h
 
-    enters_it : (now : Now) (o : Operation) (group : GroupId) (r : Reading) (p : ℕ) (message : Option Enter) → On o.id → P now → P (enters s again now o group r p message)
-    enters_it now o group r p None on h = picks_message_it now o (asked_by r) (next_to_enter o.id (applied_logs now)) on h
-    enters_it now o group r p (Some message) on h = either (is_named message.name (names_entered (take p (log_of now.met group)))) _ _
-        (picks_message_it now o (asked_by r) (next_to_enter o.id (applied_logs now)) on h) (proposes_it now o group r p (enter_entry o.id message) (Replies []) on (inl refl) h)
+  enters_it : (now : Now) (o : Operation) (group : GroupId) (r : Reading) (p : ℕ) (message : Option Enter) → On o.id → P now → Leads (enters s now o group r p message)
+  enters_it now o group r p None on h = picks_message_it now o (asked_by r) (next_to_enter o.id (applied_logs now)) on h
+  enters_it now o group r p (Some message) on h = either_next (is_named message.name (names_entered (take p (log_of now.met group)))) _ _
+      (picks_message_it now o (asked_by r) (next_to_enter o.id (applied_logs now)) on h) (proposes_it now o group r p (enter_entry o.id message) (Replies []) on (inl refl) h)
 
-    handles_it : (now : Now) (o : Operation) (group : GroupId) (r : Reading) (p : ℕ) (message : Option Enter) → oldest_unhandled (take p (log_of now.met group)) ≡ message → p ≤ prefix_of now.met group → On o.id → P now → P (handles s again now o group r p message)
-    handles_it now o group r p None oldest le on h = picks_group_it now o (asked_by r) (next_to_handle (applied_logs now)) on h
-    handles_it now o group r p (Some message) oldest le on h = either (has s.handlers message.queue) _ _
-        (proposes_it now o group r p (handling s o.id group message (table_rows s.cluster.schema group (listed_at now group p))) (Replies []) on
-        (inr (record { message = message; below = p; reaches = refl; within = le; oldest = oldest; is = refl })) h)
-        (l.ends_it now o.id _ h)
+  handles_it : (now : Now) (o : Operation) (group : GroupId) (r : Reading) (p : ℕ) (message : Option Enter) → oldest_unhandled (take p (log_of now.met group)) ≡ message → p ≤ prefix_of now.met group → On o.id → P now → Leads (handles s now o group r p message)
+  handles_it now o group r p None oldest le on h = picks_group_it now o (asked_by r) (next_to_handle (applied_logs now)) on h
+  handles_it now o group r p (Some message) oldest le on h = either_next (has s.handlers message.queue) _ _
+      (proposes_it now o group r p (handling s o.id group message (table_rows s.cluster.schema group (listed_at now group p))) (Replies []) on
+      (inr (record { message = message; below = p; reaches = refl; within = le; oldest = oldest; is = refl })) h)
+      (l.ends_it now o.id _ h)
 
-    module _ (id : OpId) (began : ℕ) (visited : List GroupId) (message : Option Enter) (on : On id) where
-      abbrev one : Request → Phase → Operation
-      one request phase = record { id = id; request = request; began = began; visited = visited; message = message; phase = phase }
+  module _ (id : OpId) (began : ℕ) (visited : List GroupId) (message : Option Enter) (on : On id) where
+    abbrev one : Request → Phase → Operation
+    one request phase = record { id = id; request = request; began = began; visited = visited; message = message; phase = phase }
 
-      finishes_it : (now : Now) (request : Request) (phase : Phase) (group : GroupId) (r : Reading) (p : ℕ) → p ≤ prefix_of now.met group → P now → P (finishes s again now (one request phase) group r p)
-      finishes_it now (Txn transaction) phase group r p le h = full_it now (one (Txn transaction) phase) p _ h (sealed_it now (one (Txn transaction) phase) group r p (outcome s.cluster.schema transaction (rows_at now group p)) on h)
-      finishes_it now (BatchRequest own transactions) phase group r p le h = full_it now (one (BatchRequest own transactions) phase) p _ h (batch_it now (one (BatchRequest own transactions) phase) group r p (batch_outcome s.cluster.schema own transactions (rows_at now group p)) on h)
-      finishes_it now (ReadRequested request) phase group r p le h = l.ends_it now id _ h
-      finishes_it now (Find request) phase group r p le h = l.ends_it now id _ h
-      finishes_it now PumpEnter phase group r p le h = full_it now (one PumpEnter phase) p _ h (enters_it now (one PumpEnter phase) group r p message on h)
-      finishes_it now PumpHandle phase group r p le h = full_it now (one PumpHandle phase) p _ h (handles_it now (one PumpHandle phase) group r p (oldest_unhandled (take p (log_of now.met group))) refl le on h)
-      finishes_it now Refresh phase group r p le h = l.keeps_it now (one Refresh phase) h
+    finishes_it : (now : Now) (request : Request) (phase : Phase) (group : GroupId) (r : Reading) (p : ℕ) → p ≤ prefix_of now.met group → P now → Leads (finishes s now (one request phase) group r p)
+    finishes_it now (Txn transaction) phase group r p le h = full_it now (one (Txn transaction) phase) p _ h (sealed_it now (one (Txn transaction) phase) group r p (outcome s.cluster.schema transaction (rows_at now group p)) on h)
+    finishes_it now (BatchRequest own transactions) phase group r p le h = full_it now (one (BatchRequest own transactions) phase) p _ h (batch_it now (one (BatchRequest own transactions) phase) group r p (batch_outcome s.cluster.schema own transactions (rows_at now group p)) on h)
+    finishes_it now (ReadRequested request) phase group r p le h = l.ends_it now id _ h
+    finishes_it now (Find request) phase group r p le h = l.ends_it now id _ h
+    finishes_it now PumpEnter phase group r p le h = full_it now (one PumpEnter phase) p _ h (enters_it now (one PumpEnter phase) group r p message on h)
+    finishes_it now PumpHandle phase group r p le h = full_it now (one PumpHandle phase) p _ h (handles_it now (one PumpHandle phase) group r p (oldest_unhandled (take p (log_of now.met group))) refl le on h)
+    finishes_it now Refresh phase group r p le h = l.keeps_it now (one Refresh phase) h
 
-      reads_on_it : (now : Now) (request : Request) (phase : Phase) (group : GroupId) (noted : Option Epoch) (asked : List ℕ) (stage : Stage) → P now
-          → P (reads_on s again now (one request phase) group (record { noted = noted; asked = asked; stage = stage }))
-      reads_on_it now request phase group noted asked (Polling heard best at) h = l.keeps_it now (one request phase) h
-      reads_on_it now request phase group noted asked (Catching p search) h = either_so (nat_le p (prefix_of now.met group)) _ _
-          (λ has_all. finishes_it (completes_read s now group r p) request phase group r p
-          (completed s filled group p noted (le_is p (prefix_of now.met group) has_all)) (validates_fact filled group p noted (l.stores_it now (filled.stored) h)))
-          (l.keeps_it _ _ (quiet_it now (seeks (reader_of s id group) r (prefix_of now.met group + 1) (clock_of now.met)).sends (seeks_quiet (reader_of s id group) r (prefix_of now.met group + 1) (clock_of now.met)) h))
-        where
-          r : Reading
-          r = record { noted = noted; asked = asked; stage = Catching p search }
+    reads_on_it : (now : Now) (request : Request) (phase : Phase) (group : GroupId) (noted : Option Epoch) (asked : List ℕ) (stage : Stage) → P now
+        → Leads (reads_on s now (one request phase) group (record { noted = noted; asked = asked; stage = stage }))
+    reads_on_it now request phase group noted asked (Polling heard best at) h = l.keeps_it now (one request phase) h
+    reads_on_it now request phase group noted asked (Catching p search) h = either_so (nat_le p (prefix_of now.met group)) _ _
+        (λ has_all. finishes_it (completes_read s now group r p) request phase group r p
+        (completed s filled group p noted (le_is p (prefix_of now.met group) has_all)) (validates_fact filled group p noted (l.stores_it now (filled.stored) h)))
+        (l.keeps_it _ _ (quiet_it now (seeks (reader_of s id group) r (prefix_of now.met group + 1) (clock_of now.met)).sends (seeks_quiet (reader_of s id group) r (prefix_of now.met group + 1) (clock_of now.met)) h))
+      where
+        r : Reading
+        r = record { noted = noted; asked = asked; stage = Catching p search }
 
-          filled : Now
-          filled = record now { stored = stored_with now.stored group (after_read p (log_of now.met group) (now.stored group)) }
+        filled : Now
+        filled = record now { stored = stored_with now.stored group (after_read p (log_of now.met group) (now.stored group)) }
 
-      acts_by : (now : Now) (request : Request) (phase : Phase) → P now → P (acts s again now (one request phase))
-      acts_by now request (Reads group r) h = reads_on_it now request (Reads group r) group r.noted r.asked r.stage h
-      acts_by now request (Proposes group n asked proposal promised) h = unless_decided_it now (one request (Proposes group n asked proposal promised)) n promised (decided now.met group n) h
+    acts_by : (now : Now) (request : Request) (phase : Phase) → P now → Leads (acts s now (one request phase))
+    acts_by now request (Reads group r) h = reads_on_it now request (Reads group r) group r.noted r.asked r.stage h
+    acts_by now request (Proposes group n asked proposal promised) h = unless_decided_it now (one request (Proposes group n asked proposal promised)) n promised (decided now.met group n) h
 
-  acts_it : (again : Now → Operation → Now) → Stays again → Stays (acts s again)
-  acts_it again more now o on h = acts_by again more o.id o.began o.visited o.message on now o.request o.phase h
+  acts_it : (now : Now) (o : Operation) → On o.id → P now → Leads (acts s now o)
+  acts_it now o on h = acts_by o.id o.began o.visited o.message on now o.request o.phase h
 
-  acts_within_it : (most : ℕ) → Stays (acts_within most s)
-  acts_within_it zero now o on h = l.keeps_it now o h
-  acts_within_it (suc most) now o on h = acts_it (acts_within most s) (acts_within_it most) now o on h
+  -- until it rests
+  rests_within_it : (most : ℕ) (next : Next) → Leads next → P (rests_within most s next)
+  rests_within_it most (Rests now) h = h
+  rests_within_it zero (ActsAgain now o) h = l.keeps_it now o h.1
+  rests_within_it (suc most) (ActsAgain now o) h = rests_within_it most (acts s now o) (acts_it now o h.0 h.1)
 
-  goes_on_it : Stays (goes_on s)
-  goes_on_it now o on h = acts_within_it (length (groups_of now.met) + 2) now o on h
+  goes_on_it : (now : Now) (o : Operation) → On o.id → P now → P (goes_on s now o)
+  goes_on_it now o on h = rests_within_it (length (groups_of now.met) + 2) (ActsAgain now o) (on, h)
 
   -- ---- the operations of a step
 
@@ -191,17 +198,17 @@ module _ (s : Setting) (On : OpId → Type 0) (A : Message → Type 0) (P : Now 
 
   -- ---- an operation that begins
 
-  read_begins_it : (now : Now) (o : Operation) (request : ReadRequest) (mode : Mode) → On o.id → P now → P (read_begins s now o request mode)
-  read_begins_it now o request Current on h = begins_read_it (goes_on s) goes_on_it now o request.group None [] on h
+  read_begins_it : (now : Now) (o : Operation) (request : ReadRequest) (mode : Mode) → On o.id → P now → Leads (read_begins s now o request mode)
+  read_begins_it now o request Current on h = begins_read_it now o request.group None [] on h
   read_begins_it now o request Snapshot on h = l.ends_it now o.id _ h
   read_begins_it now o request Inconsistent on h = l.ends_it now o.id _ h
 
-  local_find_it : (now : Now) (o : Operation) (request : FindRequest) (group : GroupId) (mode : Mode) → On o.id → P now → P (local_find_begins s now o request group mode)
-  local_find_it now o request group Current on h = begins_read_it (goes_on s) goes_on_it now o group None [] on h
+  local_find_it : (now : Now) (o : Operation) (request : FindRequest) (group : GroupId) (mode : Mode) → On o.id → P now → Leads (local_find_begins s now o request group mode)
+  local_find_it now o request group Current on h = begins_read_it now o group None [] on h
   local_find_it now o request group Snapshot on h = l.ends_it now o.id _ h
   local_find_it now o request group Inconsistent on h = l.ends_it now o.id _ h
 
-  find_begins_it : (now : Now) (o : Operation) (request : FindRequest) (group : Option GroupId) → On o.id → P now → P (find_begins s now o request group)
+  find_begins_it : (now : Now) (o : Operation) (request : FindRequest) (group : Option GroupId) → On o.id → P now → Leads (find_begins s now o request group)
   find_begins_it now o request None on h = l.ends_it now o.id _ h
   find_begins_it now o request (Some group) on h = local_find_it now o request group request.mode on h
 
@@ -209,15 +216,15 @@ module _ (s : Setting) (On : OpId → Type 0) (A : Message → Type 0) (P : Now 
     abbrev new : Request → Operation
     new request = record { id = id; request = request; began = began; visited = visited; message = message; phase = phase }
 
-    begins_it : (now : Now) (request : Request) → P now → P (begins s now (new request))
-    begins_it now (Txn transaction) h = begins_read_it (goes_on s) goes_on_it now (new (Txn transaction)) transaction.group None [] on h
-    begins_it now (BatchRequest group transactions) h = begins_read_it (goes_on s) goes_on_it now (new (BatchRequest group transactions)) group None [] on h
-    begins_it now (ReadRequested request) h = read_begins_it now (new (ReadRequested request)) request request.mode on h
-    begins_it now (Find request) h = find_begins_it now (new (Find request)) request request.group on h
-    begins_it now PumpEnter h = picks_message_it (goes_on s) goes_on_it now (new PumpEnter) [] (next_to_enter id (applied_logs now)) on h
-    begins_it now PumpHandle h = picks_group_it (goes_on s) goes_on_it now (new PumpHandle) [] (next_to_handle (applied_logs now)) on h
-    begins_it now Refresh h = l.ends_it now id _ h
+    first_it : (now : Now) (request : Request) → P now → Leads (acts_first s now (new request))
+    first_it now (Txn transaction) h = begins_read_it now (new (Txn transaction)) transaction.group None [] on h
+    first_it now (BatchRequest group transactions) h = begins_read_it now (new (BatchRequest group transactions)) group None [] on h
+    first_it now (ReadRequested request) h = read_begins_it now (new (ReadRequested request)) request request.mode on h
+    first_it now (Find request) h = find_begins_it now (new (Find request)) request request.group on h
+    first_it now PumpEnter h = picks_message_it now (new PumpEnter) [] (next_to_enter id (applied_logs now)) on h
+    first_it now PumpHandle h = picks_group_it now (new PumpHandle) [] (next_to_handle (applied_logs now)) on h
+    first_it now Refresh h = l.ends_it now id _ h
 
   pub begun_it : (now : Now) (o : Operation) (refusal : Option Answer) → On o.id → P now → P (unless_refused s now o refusal)
-  begun_it now o None on h = begins_it o.id o.began o.visited o.message o.phase on now o.request h
+  begun_it now o None on h = rests_within_it (length (groups_of now.met) + 2) (acts_first s now o) (first_it o.id o.began o.visited o.message o.phase on now o.request h)
   begun_it now o (Some answer) on h = l.ends_it now o.id answer h

@@ -1,3 +1,4 @@
+pub mod Joining
 pub mod Contents
 pub mod Tokens
 pub mod Trees

@@ -74,8 +74,8 @@ own_opens node other None calls own free = free
 own_opens node other (Some last) calls own free =
     ap (λ test. cond test (reopened (lock_of calls node) last.0 last.1) (lock_of calls node)) own ∙ ap (λ lock. reopened lock last.0 last.1) free
 
-is_node : (a b : ℕ) → (a == b) ≡ true → a ≡ b
-is_node a b same = grind (arith, nat_tests)
+pub equal_by_test : (a b : ℕ) → (a == b) ≡ true → a ≡ b
+equal_by_test a b same = grind (arith, nat_tests)
 
 none_opens : (f : ℕ → Option (Epoch × Bool)) (node : ℕ) (others : List ℕ) → found node others ≡ false → lock_of (flat_map (λ other. reopening other (f other)) others) node ≡ Free
 none_opens f node [] none = refl
@@ -94,8 +94,8 @@ some_opens f node (other ∷ others) apart is = by (other == node) refl is (some
         → (found node others ≡ true → lock_of (flat_map (λ more. reopening more (f more)) others) node ≡ opened_with (f node))
         → lock_of (flat_map (λ more. reopening more (f more)) (other ∷ others)) node ≡ opened_with (f node)
     by true own here rest =
-        own_opens node other (f other) (flat_map (λ more. reopening more (f more)) others) own (none_opens f node others (subst (λ (n : ℕ). found n others ≡ false) (is_node other node own) apart.0))
-        ∙ ap (λ n. opened_with (f n)) (is_node other node own)
+        own_opens node other (f other) (flat_map (λ more. reopening more (f more)) others) own (none_opens f node others (subst (λ (n : ℕ). found n others ≡ false) (equal_by_test other node own) apart.0))
+        ∙ ap (λ n. opened_with (f n)) (equal_by_test other node own)
     by false off there rest = other_opens node other (f other) (flat_map (λ more. reopening more (f more)) others) off ∙ rest there
 
 nodes_apart : AreApart nodes
@@ -159,7 +159,7 @@ module _ (c : Cluster) (me start : ℕ) (met known : List Met) (o : Opened c me 
   }
     where
       held_at_own : (other : ℕ) → (node == other) ≡ true → last_grant known other ≡ Some (epoch, true)
-      held_at_own other own = ap (last_grant known) (sym (is_node node other own)) ∙ held
+      held_at_own other own = ap (last_grant known) (sym (equal_by_test node other own)) ∙ held
 
       both : (other : ℕ) (test : Bool) → (node == other) ≡ test
           → cond test (reopened (opened_with (last_grant known other)) epoch false) (opened_with (last_grant known other)) ≡ opened_with (cond test (after_lapse (last_grant known other) epoch) (last_grant known other))

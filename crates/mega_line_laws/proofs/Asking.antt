@@ -34,7 +34,8 @@ use Rattle.mega_format_laws.proofs.Lines.{batch_request, finds, reads, txn_reque
 use Rattle.mega_json_laws.specs.Whole.{IsWhole}
 use Rattle.mega_line_laws.specs.Meanings.{asked_by, asked_in, meaning_in}
 use Rattle.mega_line_laws.proofs.Again.{whole_data}
-use Rattle.mega_line_laws.proofs.Spelled.{Spelled, both_fine, by_object, spelled}
+use Rattle.mega_schedule.proofs.BothFine.{both_fine}
+use Rattle.mega_line_laws.proofs.Spelled.{Spelled, by_object, spelled}
 use Rattle.mega_line_laws.proofs.Typed.{get_whole, transaction_typed, transactions_typed}
 
 at_most_that : (m n : ℕ) → nat_le m n ≡ true → m ≤ n

@@ -18,7 +18,8 @@ use Rattle.mega_format_laws.specs.Requests.{IsRequest}
 use Rattle.mega_json_laws.specs.Whole.{IsWhole}
 use Rattle.mega_json_laws.proofs.Whole.{put_whole, read_whole}
 use Rattle.mega_line_laws.proofs.Asking.{operation_asked}
-use Rattle.mega_line_laws.proofs.Spelled.{both_fine, object_is}
+use Rattle.mega_schedule.proofs.BothFine.{both_fine}
+use Rattle.mega_line_laws.proofs.Spelled.{object_is}
 
 -- the object as a line has it
 with_node_whole : (node : ℕ) (d : Data) → node < 2 ^ 64 → IsWhole d → IsWhole (with_node node d)

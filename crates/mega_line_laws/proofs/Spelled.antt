@@ -14,7 +14,8 @@ use Rattle.mega_schedule.specs.declared.world_event.WorldEvent.{WorldEvent}
 use Rattle.mega_schedule.specs.Events.{event_in, event_of, object_of, of_form, of_object, of_word, only_object}
 use Rattle.mega_schedule.specs.Fields.{floats_check}
 use Rattle.mega_schedule.specs.Forms.{fields_check, form_named, line_check}
-use Rattle.mega_schedule.specs.Verdicts.{judged, ◌⊓◌}
+use Rattle.mega_schedule.specs.Verdicts.{judged}
+use Rattle.mega_schedule.proofs.BothFine.{both_fine}
 
 -- a line's object, its form, and that it is read with no fault
 pub record Spelled (schema : Schema) (line : List ℕ) (event : WorldEvent) : Type 0 where
@@ -29,29 +30,6 @@ pub record Spelled (schema : Schema) (line : List ℕ) (event : WorldEvent) : Ty
   pub is : event_in schema form json ≡ event
 
 -- ---- verdicts
-
-pub record AreFine (one two : Verdict) : Type 0 where
-  pub first : one ≡ Fine
-  pub second : two ≡ Fine
-
-pub both_fine : (one two : Verdict) → one ⊓ two ≡ Fine → AreFine one two
-both_fine Fine two e = record { first = refl; second = e }
-both_fine Missing two e = absurd (cc)
-both_fine Extra Missing e = absurd (cc)
-both_fine Extra Extra e = absurd (cc)
-both_fine Extra WrongKind e = absurd (cc)
-both_fine Extra OutOfRange e = absurd (cc)
-both_fine Extra Fine e = absurd (cc)
-both_fine WrongKind Missing e = absurd (cc)
-both_fine WrongKind Extra e = absurd (cc)
-both_fine WrongKind WrongKind e = absurd (cc)
-both_fine WrongKind OutOfRange e = absurd (cc)
-both_fine WrongKind Fine e = absurd (cc)
-both_fine OutOfRange Missing e = absurd (cc)
-both_fine OutOfRange Extra e = absurd (cc)
-both_fine OutOfRange WrongKind e = absurd (cc)
-both_fine OutOfRange OutOfRange e = absurd (cc)
-both_fine OutOfRange Fine e = absurd (cc)
 
 no_floats : (d : Data) → floats_check d ≡ Fine → has_float d ≡ false
 no_floats d e = go (has_float d) e

@@ -1,4 +1,4 @@
-//! Laws, as contracts of functions that do nothing.
+//! Laws of what is read of an input, as contracts of functions that do nothing.
 
 ghost use Rattle.std.specs.Prelude.{◌≡◌, ◌<◌, ◌≤◌, ◌^◌, ℕ, List, Ok, Some};
 ghost use Rattle.mega_base.specs.declared.names.NodeId.{NodeId as Node};

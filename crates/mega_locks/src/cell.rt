@@ -15,7 +15,7 @@ pub struct Cell {
 }
 
 /// The epochs that lapse at this clock reading, by node.
-#[tactic(auto, using(crate::proofs::Places::so_far_more, crate::proofs::Places::so_far_all))]
+#[tactic(auto, using(mega_base::proofs::Mapped::so_far_more, mega_base::proofs::Mapped::so_far_all))]
 fn lapses_of(locks: &[Lock; 9], first: Term, now: u64) -> [Option<Epoch>; 9]
     ensures { result ≡ map (lapse first now) locks.now }
 {
@@ -27,7 +27,7 @@ fn lapses_of(locks: &[Lock; 9], first: Term, now: u64) -> [Option<Epoch>; 9]
 }
 
 /// The locks after a tick at this clock reading.
-#[tactic(auto, using(crate::proofs::Places::so_far_more, crate::proofs::Places::so_far_all))]
+#[tactic(auto, using(mega_base::proofs::Mapped::so_far_more, mega_base::proofs::Mapped::so_far_all))]
 fn ticked_locks(locks: &[Lock; 9], first: Term, now: u64) -> [Lock; 9]
     ensures { result ≡ map (ticked first now) locks.now }
 {

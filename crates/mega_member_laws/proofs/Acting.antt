@@ -2,6 +2,7 @@
 use Rattle.std.proofs.Common.{ℕ, zero, suc, ◌+◌, ◌≤◌, List, [], ◌∷◌, length, Option, Some, None, Result, Ok, Err}
 use Rattle.std.specs.Prelude.{nat_le, nat_lt, take}
 use Rattle.std.specs.List.{list_any}
+use Rattle.std.specs.Result.{is_ok}
 use Rattle.mega_base.specs.declared.names.Epoch.{Epoch}
 use Rattle.mega_base.specs.declared.names.GroupId.{GroupId}
 use Rattle.mega_base.specs.declared.names.OpId.{OpId}
@@ -38,7 +39,7 @@ use Rattle.mega_format_laws.specs.of_rules.Logs.{decided, groups_of, log_of, pre
 use Rattle.mega_format_laws.specs.of_rules.Coordinators.{refused_at, serves_at, valid_at}
 use Rattle.mega_format_laws.specs.of_rules.Queues.{Posted, enter_entry, is_named, names_entered, next_to_enter, next_to_handle, oldest_unhandled}
 use Rattle.mega_format_laws.specs.of_rules.Operations.{Now, Operation, Phase, Promised, Proposes, Reads, Replies, Results, Setting}
-use Rattle.mega_format_laws.specs.of_rules.Acting.{acts, acts_within, applied_logs, batch_sealed, begins_read, completes_read, ends, enters, finishes, goes_on, handles, handling, has_nothing, in_phase, is_taken, is_visited, keeps, leader_after, listed_at, named_leader, picks_group, picks_message, picks_to_enter, picks_to_handle, proposes, proposes_by, proposes_there, read_begun, reader_of, reads_group, reads_on, rows_at, sealed, seeks_on, sends_more, table_rows, unless_decided, unless_full, validated_by, validates, verdict, visiting}
+use Rattle.mega_format_laws.specs.of_rules.Acting.{ActsAgain, Next, Rests, acts, applied_logs, batch_sealed, begins_read, completes_read, ends, enters, finishes, goes_on, handles, handling, has_nothing, in_phase, is_visited, keeps, leader_after, listed_at, named_leader, picks_group, picks_message, picks_to_enter, picks_to_handle, proposes, proposes_by, proposes_there, read_begun, reader_of, reads_on, rests_within, rows_at, sealed, seeks_on, sends_more, table_rows, unless_decided, unless_full, validated_by, validates, verdict}
 use Rattle.mega_format_laws.specs.Rounds.{Each}
 use Rattle.mega_format_laws.proofs.Each.{each_both, either}
 use Rattle.mega_member_laws.specs.Messages.{AreWithin, IsHere, IsWithin, NamesHere}
@@ -116,8 +117,10 @@ completes_within s now group r p h = validates_within s _ group p r.noted (recor
 
 -- ---- a pump reads a group, and picks
 
-abbrev pub Again : Cluster → (Now → Operation → Now) → Type 0
-Again c again = (now : Now) (o : Operation) → NowWithin c now → OperationWithin c o → NowWithin c (again now o)
+-- what an operation comes to: the node is within the cluster, and so is the operation that acts again
+abbrev pub Leads : Cluster → Next → Type 0
+Leads c (Rests now) = NowWithin c now
+Leads c (ActsAgain now o) = NowWithin c now × OperationWithin c o
 
 begun_within : (s : Setting) (now : Now) (o : Operation) (group : GroupId) (asked : List ℕ) → HasCells s → OperationWithin s.cluster o → ReadMoveWithin s.cluster (read_begun s now o group asked)
 begun_within s now o group asked h i =
@@ -128,30 +131,28 @@ begun_within s now o group asked h i =
     (local_within s.cluster asked (top_of now.met group))
     (polled_within s.cluster (reader_of s o.id group) (serves_at s.cluster now.met) asked (clock_of now.met) who))
 
-group_within : (s : Setting) (again : Now → Operation → Now) (now : Now) (o : Operation) (group : GroupId) (message : Option Enter) (t : ReadMove) → Again s.cluster again → NowWithin s.cluster now → OperationWithin s.cluster o → ReadMoveWithin s.cluster t
-    → NowWithin s.cluster (reads_group s again now o group message t)
-group_within s again now o group message t more k i r = more (sends_more now t.sends) (visiting o group message t) (sends_within s.cluster now t.sends k r.sends) (record { id = i.id; phase = r.reading })
+pub begins_within : (s : Setting) (now : Now) (o : Operation) (group : GroupId) (message : Option Enter) (asked : List ℕ) → HasCells s → NowWithin s.cluster now → OperationWithin s.cluster o
+    → Leads s.cluster (begins_read s now o group message asked)
+begins_within s now o group message asked h k i =
+    let t = begun_within s now o group asked h i in
+    (sends_within s.cluster now (read_begun s now o group asked).sends k t.sends, record { id = i.id; phase = t.reading })
 
-pub begins_within : (s : Setting) (again : Now → Operation → Now) (now : Now) (o : Operation) (group : GroupId) (message : Option Enter) (asked : List ℕ) → HasCells s → Again s.cluster again → NowWithin s.cluster now → OperationWithin s.cluster o
-    → NowWithin s.cluster (begins_read s again now o group message asked)
-begins_within s again now o group message asked h more k i = group_within s again now o group message (read_begun s now o group asked) more k i (begun_within s now o group asked h i)
-
-nothing_within : (c : Cluster) (now : Now) (o : Operation) → NowWithin c now → NowWithin c (has_nothing now o)
+nothing_within : (c : Cluster) (now : Now) (o : Operation) → NowWithin c now → Leads c (has_nothing now o)
 nothing_within c now o h = ends_within c now o.id _ h
 
-message_picked : (s : Setting) (again : Now → Operation → Now) (now : Now) (o : Operation) (asked : List ℕ) (found : Option Posted) → HasCells s → Again s.cluster again → NowWithin s.cluster now → OperationWithin s.cluster o → NowWithin s.cluster (picks_message s again now o asked found)
-message_picked s again now o asked None h more k i = nothing_within s.cluster now o k
-message_picked s again now o asked (Some one) h more k i = begins_within s again now o one.to (Some one.message) asked h more k i
+message_picked : (s : Setting) (now : Now) (o : Operation) (asked : List ℕ) (found : Option Posted) → HasCells s → NowWithin s.cluster now → OperationWithin s.cluster o → Leads s.cluster (picks_message s now o asked found)
+message_picked s now o asked None h k i = nothing_within s.cluster now o k
+message_picked s now o asked (Some one) h k i = begins_within s now o one.to (Some one.message) asked h k i
 
-group_picked : (s : Setting) (again : Now → Operation → Now) (now : Now) (o : Operation) (asked : List ℕ) (found : Option GroupId) → HasCells s → Again s.cluster again → NowWithin s.cluster now → OperationWithin s.cluster o → NowWithin s.cluster (picks_group s again now o asked found)
-group_picked s again now o asked None h more k i = nothing_within s.cluster now o k
-group_picked s again now o asked (Some group) h more k i = begins_within s again now o group None asked h more k i
+group_picked : (s : Setting) (now : Now) (o : Operation) (asked : List ℕ) (found : Option GroupId) → HasCells s → NowWithin s.cluster now → OperationWithin s.cluster o → Leads s.cluster (picks_group s now o asked found)
+group_picked s now o asked None h k i = nothing_within s.cluster now o k
+group_picked s now o asked (Some group) h k i = begins_within s now o group None asked h k i
 
-pub picks_enter : (s : Setting) (again : Now → Operation → Now) (now : Now) (o : Operation) (asked : List ℕ) → HasCells s → Again s.cluster again → NowWithin s.cluster now → OperationWithin s.cluster o → NowWithin s.cluster (picks_to_enter s again now o asked)
-picks_enter s again now o asked h more k i = message_picked s again now o asked (next_to_enter o.id (applied_logs now)) h more k i
+pub picks_enter : (s : Setting) (now : Now) (o : Operation) (asked : List ℕ) → HasCells s → NowWithin s.cluster now → OperationWithin s.cluster o → Leads s.cluster (picks_to_enter s now o asked)
+picks_enter s now o asked h k i = message_picked s now o asked (next_to_enter o.id (applied_logs now)) h k i
 
-pub picks_handle : (s : Setting) (again : Now → Operation → Now) (now : Now) (o : Operation) (asked : List ℕ) → HasCells s → Again s.cluster again → NowWithin s.cluster now → OperationWithin s.cluster o → NowWithin s.cluster (picks_to_handle s again now o asked)
-picks_handle s again now o asked h more k i = group_picked s again now o asked (next_to_handle (applied_logs now)) h more k i
+pub picks_handle : (s : Setting) (now : Now) (o : Operation) (asked : List ℕ) → HasCells s → NowWithin s.cluster now → OperationWithin s.cluster o → Leads s.cluster (picks_to_handle s now o asked)
+picks_handle s now o asked h k i = group_picked s now o asked (next_to_handle (applied_logs now)) h k i
 
 -- ---- what a complete read comes to
 
@@ -160,77 +161,79 @@ sealed_within s now o group r p (Err turn) h k i = ends_within s.cluster now o.i
 sealed_within s now o group r p (Ok done) h k i = proposes_within s now o group r p (entry_of_done o.id done) (Replies done.replies) h k i i.id
 
 batch_within : (s : Setting) (now : Now) (o : Operation) (group : GroupId) (r : Reading) (p : ℕ) (b : BatchDone) → HasCells s → NowWithin s.cluster now → OperationWithin s.cluster o → NowWithin s.cluster (batch_sealed s now o group r p b)
-batch_within s now o group r p b h k i = either (NowWithin s.cluster) (list_any is_taken b.results) (proposes s now o group r p (entry_of_batch o.id b) (Results b.results)) (ends now o.id (AllTurned b.results))
+batch_within s now o group r p b h k i = either (NowWithin s.cluster) (list_any is_ok b.results) (proposes s now o group r p (entry_of_batch o.id b) (Results b.results)) (ends now o.id (AllTurned b.results))
     (proposes_within s now o group r p (entry_of_batch o.id b) (Results b.results) h k i i.id) (ends_within s.cluster now o.id (AllTurned b.results) k)
 
-enters_within : (s : Setting) (again : Now → Operation → Now) (now : Now) (o : Operation) (group : GroupId) (r : Reading) (p : ℕ) (message : Option Enter) → HasCells s → Again s.cluster again → NowWithin s.cluster now → OperationWithin s.cluster o
-    → NowWithin s.cluster (enters s again now o group r p message)
-enters_within s again now o group r p None h more k i = picks_enter s again now o (asked_by r) h more k i
-enters_within s again now o group r p (Some message) h more k i = either (NowWithin s.cluster) (is_named message.name (names_entered (take p (log_of now.met group)))) _ _
-    (picks_enter s again now o (asked_by r) h more k i) (proposes_within s now o group r p (enter_entry o.id message) (Replies []) h k i i.id)
+enters_within : (s : Setting) (now : Now) (o : Operation) (group : GroupId) (r : Reading) (p : ℕ) (message : Option Enter) → HasCells s → NowWithin s.cluster now → OperationWithin s.cluster o
+    → Leads s.cluster (enters s now o group r p message)
+enters_within s now o group r p None h k i = picks_enter s now o (asked_by r) h k i
+enters_within s now o group r p (Some message) h k i = either (Leads s.cluster) (is_named message.name (names_entered (take p (log_of now.met group)))) _ _
+    (picks_enter s now o (asked_by r) h k i) (proposes_within s now o group r p (enter_entry o.id message) (Replies []) h k i i.id)
 
 handle_here : (c : Cluster) (op : OpId) (name : Name) (effect : Effect) → IsHere c op.node.0 → NamesHere c (handle_entry op name effect)
 handle_here c op name effect h = either (NamesHere c) (nat_lt most_bytes (length (entry_text (entry_handling op name effect)))) (entry_handling op name ([], [])) (entry_handling op name effect) h h
 
-handles_within : (s : Setting) (again : Now → Operation → Now) (now : Now) (o : Operation) (group : GroupId) (r : Reading) (p : ℕ) (message : Option Enter) → HasCells s → Again s.cluster again → NowWithin s.cluster now → OperationWithin s.cluster o
-    → NowWithin s.cluster (handles s again now o group r p message)
-handles_within s again now o group r p None h more k i = picks_handle s again now o (asked_by r) h more k i
-handles_within s again now o group r p (Some message) h more k i = either (NowWithin s.cluster) (has s.handlers message.queue) _ _
+handles_within : (s : Setting) (now : Now) (o : Operation) (group : GroupId) (r : Reading) (p : ℕ) (message : Option Enter) → HasCells s → NowWithin s.cluster now → OperationWithin s.cluster o
+    → Leads s.cluster (handles s now o group r p message)
+handles_within s now o group r p None h k i = picks_handle s now o (asked_by r) h k i
+handles_within s now o group r p (Some message) h k i = either (Leads s.cluster) (has s.handlers message.queue) _ _
     (proposes_within s now o group r p (handling s o.id group message (table_rows s.cluster.schema group (listed_at now group p))) (Replies []) h k i
     (handle_here s.cluster o.id message.name (handled s.cluster.schema group (table_rows s.cluster.schema group (listed_at now group p)) (effect_by (meaning s.handlers message.queue) message (table_rows s.cluster.schema group (listed_at now group p)))) i.id))
     (ends_within s.cluster now o.id (NoHandler message.queue) k)
 
-full_or : (s : Setting) (now : Now) (o : Operation) (p : ℕ) (next : Now) → NowWithin s.cluster now → NowWithin s.cluster next → NowWithin s.cluster (unless_full s now o p next)
-full_or s now o p next k n = either (NowWithin s.cluster) (nat_le (s.cluster.limit).0 p) (ends now o.id (LogFull (record { 0 = p }))) next (ends_within s.cluster now o.id (LogFull (record { 0 = p })) k) n
+full_or : (s : Setting) (now : Now) (o : Operation) (p : ℕ) (next : Next) → NowWithin s.cluster now → Leads s.cluster next → Leads s.cluster (unless_full s now o p next)
+full_or s now o p next k n = either (Leads s.cluster) (nat_le (s.cluster.limit).0 p) (Rests (ends now o.id (LogFull (record { 0 = p })))) next (ends_within s.cluster now o.id (LogFull (record { 0 = p })) k) n
 
-finishes_by : (s : Setting) (again : Now → Operation → Now) (now : Now) (id : OpId) (request : Request) (began : ℕ) (visited : List GroupId) (message : Option Enter) (phase : Phase) (group : GroupId) (r : Reading) (p : ℕ)
-    → HasCells s → Again s.cluster again → NowWithin s.cluster now → OperationWithin s.cluster (record { id = id; request = request; began = began; visited = visited; message = message; phase = phase })
-    → NowWithin s.cluster (finishes s again now (record { id = id; request = request; began = began; visited = visited; message = message; phase = phase }) group r p)
-finishes_by s again now id (Txn t) began visited message phase group r p h more k i = full_or s now (record { id = id; request = Txn t; began = began; visited = visited; message = message; phase = phase }) p _ k
+finishes_by : (s : Setting) (now : Now) (id : OpId) (request : Request) (began : ℕ) (visited : List GroupId) (message : Option Enter) (phase : Phase) (group : GroupId) (r : Reading) (p : ℕ)
+    → HasCells s → NowWithin s.cluster now → OperationWithin s.cluster (record { id = id; request = request; began = began; visited = visited; message = message; phase = phase })
+    → Leads s.cluster (finishes s now (record { id = id; request = request; began = began; visited = visited; message = message; phase = phase }) group r p)
+finishes_by s now id (Txn t) began visited message phase group r p h k i = full_or s now (record { id = id; request = Txn t; began = began; visited = visited; message = message; phase = phase }) p _ k
     (sealed_within s now (record { id = id; request = Txn t; began = began; visited = visited; message = message; phase = phase }) group r p (outcome s.cluster.schema t (rows_at now group p)) h k i)
-finishes_by s again now id (Batch own ts) began visited message phase group r p h more k i = full_or s now (record { id = id; request = Batch own ts; began = began; visited = visited; message = message; phase = phase }) p _ k
+finishes_by s now id (Batch own ts) began visited message phase group r p h k i = full_or s now (record { id = id; request = Batch own ts; began = began; visited = visited; message = message; phase = phase }) p _ k
     (batch_within s now (record { id = id; request = Batch own ts; began = began; visited = visited; message = message; phase = phase }) group r p (batch_outcome s.cluster.schema own ts (rows_at now group p)) h k i)
-finishes_by s again now id (ReadRequested request) began visited message phase group r p h more k i = ends_within s.cluster now id _ k
-finishes_by s again now id (Find request) began visited message phase group r p h more k i = ends_within s.cluster now id _ k
-finishes_by s again now id PumpEnter began visited message phase group r p h more k i = full_or s now (record { id = id; request = PumpEnter; began = began; visited = visited; message = message; phase = phase }) p _ k
-    (enters_within s again now (record { id = id; request = PumpEnter; began = began; visited = visited; message = message; phase = phase }) group r p message h more k i)
-finishes_by s again now id PumpHandle began visited message phase group r p h more k i = full_or s now (record { id = id; request = PumpHandle; began = began; visited = visited; message = message; phase = phase }) p _ k
-    (handles_within s again now (record { id = id; request = PumpHandle; began = began; visited = visited; message = message; phase = phase }) group r p (oldest_unhandled (take p (log_of now.met group))) h more k i)
-finishes_by s again now id Refresh began visited message phase group r p h more k i = keeps_within s.cluster now _ k i
+finishes_by s now id (ReadRequested request) began visited message phase group r p h k i = ends_within s.cluster now id _ k
+finishes_by s now id (Find request) began visited message phase group r p h k i = ends_within s.cluster now id _ k
+finishes_by s now id PumpEnter began visited message phase group r p h k i = full_or s now (record { id = id; request = PumpEnter; began = began; visited = visited; message = message; phase = phase }) p _ k
+    (enters_within s now (record { id = id; request = PumpEnter; began = began; visited = visited; message = message; phase = phase }) group r p message h k i)
+finishes_by s now id PumpHandle began visited message phase group r p h k i = full_or s now (record { id = id; request = PumpHandle; began = began; visited = visited; message = message; phase = phase }) p _ k
+    (handles_within s now (record { id = id; request = PumpHandle; began = began; visited = visited; message = message; phase = phase }) group r p (oldest_unhandled (take p (log_of now.met group))) h k i)
+finishes_by s now id Refresh began visited message phase group r p h k i = keeps_within s.cluster now _ k i
 
-finishes_within : (s : Setting) (again : Now → Operation → Now) (now : Now) (o : Operation) (group : GroupId) (r : Reading) (p : ℕ) → HasCells s → Again s.cluster again → NowWithin s.cluster now → OperationWithin s.cluster o
-    → NowWithin s.cluster (finishes s again now o group r p)
-finishes_within s again now o group r p h more k i = finishes_by s again now o.id o.request o.began o.visited o.message o.phase group r p h more k (record { id = i.id; phase = i.phase })
+finishes_within : (s : Setting) (now : Now) (o : Operation) (group : GroupId) (r : Reading) (p : ℕ) → HasCells s → NowWithin s.cluster now → OperationWithin s.cluster o
+    → Leads s.cluster (finishes s now o group r p)
+finishes_within s now o group r p h k i = finishes_by s now o.id o.request o.began o.visited o.message o.phase group r p h k (record { id = i.id; phase = i.phase })
 
 -- ---- an operation acts
 
 seeks_on_within : (c : Cluster) (o : Operation) (now : Now) (group : GroupId) (t : ReadMove) → NowWithin c now → OperationWithin c o → ReadMoveWithin c t → NowWithin c (seeks_on o now group t)
 seeks_on_within c o now group t k i m = keeps_within c (sends_more now t.sends) (in_phase o (Reads group t.reading)) (sends_within c now t.sends k m.sends) (phase_within c o (Reads group t.reading) i m.reading)
 
-reads_by : (s : Setting) (again : Now → Operation → Now) (now : Now) (o : Operation) (group : GroupId) (noted : Option Epoch) (asked : List ℕ) (stage : Stage) → HasCells s → Again s.cluster again → NowWithin s.cluster now → OperationWithin s.cluster o
-    → ReadingWithin s.cluster (record { noted = noted; asked = asked; stage = stage }) → NowWithin s.cluster (reads_on s again now o group (record { noted = noted; asked = asked; stage = stage }))
-reads_by s again now o group noted asked (Polling heard best sent) h more k i q = keeps_within s.cluster now o k i
-reads_by s again now o group noted asked (Catching p search) h more k i q = either (NowWithin s.cluster) (nat_le p (prefix_of now.met group)) _ _
-    (finishes_within s again (completes_read s now group r p) o group r p h more (completes_within s now group r p k) i)
+reads_by : (s : Setting) (now : Now) (o : Operation) (group : GroupId) (noted : Option Epoch) (asked : List ℕ) (stage : Stage) → HasCells s → NowWithin s.cluster now → OperationWithin s.cluster o
+    → ReadingWithin s.cluster (record { noted = noted; asked = asked; stage = stage }) → Leads s.cluster (reads_on s now o group (record { noted = noted; asked = asked; stage = stage }))
+reads_by s now o group noted asked (Polling heard best sent) h k i q = keeps_within s.cluster now o k i
+reads_by s now o group noted asked (Catching p search) h k i q = either (Leads s.cluster) (nat_le p (prefix_of now.met group)) _ _
+    (finishes_within s (completes_read s now group r p) o group r p h (completes_within s now group r p k) i)
     (seeks_on_within s.cluster o now group (seeks (reader_of s o.id group) r (prefix_of now.met group + 1) (clock_of now.met)) k i
     (seeks_within s.cluster (reader_of s o.id group) r (prefix_of now.met group + 1) (clock_of now.met) (reader_within s o.id group h i.id) q))
   where
     r : Reading
     r = record { noted = noted; asked = asked; stage = Catching p search }
 
-acts_by : (s : Setting) (again : Now → Operation → Now) (now : Now) (id : OpId) (request : Request) (began : ℕ) (visited : List GroupId) (message : Option Enter) (phase : Phase) → HasCells s → Again s.cluster again → NowWithin s.cluster now
-    → OperationWithin s.cluster (record { id = id; request = request; began = began; visited = visited; message = message; phase = phase }) → NowWithin s.cluster (acts s again now (record { id = id; request = request; began = began; visited = visited; message = message; phase = phase }))
-acts_by s again now id request began visited message (Reads group r) h more k i =
-    reads_by s again now (record { id = id; request = request; began = began; visited = visited; message = message; phase = Reads group r }) group r.noted r.asked r.stage h more k i (record { stage = (i.phase).stage })
-acts_by s again now id request began visited message (Proposes group n asked p promised) h more k i =
+acts_by : (s : Setting) (now : Now) (id : OpId) (request : Request) (began : ℕ) (visited : List GroupId) (message : Option Enter) (phase : Phase) → HasCells s → NowWithin s.cluster now
+    → OperationWithin s.cluster (record { id = id; request = request; began = began; visited = visited; message = message; phase = phase }) → Leads s.cluster (acts s now (record { id = id; request = request; began = began; visited = visited; message = message; phase = phase }))
+acts_by s now id request began visited message (Reads group r) h k i =
+    reads_by s now (record { id = id; request = request; began = began; visited = visited; message = message; phase = Reads group r }) group r.noted r.asked r.stage h k i (record { stage = (i.phase).stage })
+acts_by s now id request began visited message (Proposes group n asked p promised) h k i =
     decided_ends s.cluster now (record { id = id; request = request; began = began; visited = visited; message = message; phase = Proposes group n asked p promised }) n promised (decided now.met group n) k i
 
-acts_stays : (s : Setting) (again : Now → Operation → Now) → HasCells s → Again s.cluster again → Again s.cluster (acts s again)
-acts_stays s again h more now o k i = acts_by s again now o.id o.request o.began o.visited o.message o.phase h more k (record { id = i.id; phase = i.phase })
+acts_within : (s : Setting) (now : Now) (o : Operation) → HasCells s → NowWithin s.cluster now → OperationWithin s.cluster o → Leads s.cluster (acts s now o)
+acts_within s now o h k i = acts_by s now o.id o.request o.began o.visited o.message o.phase h k (record { id = i.id; phase = i.phase })
 
-within_stays : (most : ℕ) (s : Setting) → HasCells s → Again s.cluster (acts_within most s)
-within_stays zero s h now o k i = keeps_within s.cluster now o k i
-within_stays (suc most) s h now o k i = acts_stays s (acts_within most s) h (within_stays most s h) now o k i
+-- until it rests
+pub rests_stays : (most : ℕ) (s : Setting) (next : Next) → HasCells s → Leads s.cluster next → NowWithin s.cluster (rests_within most s next)
+rests_stays most s (Rests now) h k = k
+rests_stays zero s (ActsAgain now o) h k = keeps_within s.cluster now o k.0 k.1
+rests_stays (suc most) s (ActsAgain now o) h k = rests_stays most s (acts s now o) h (acts_within s now o h k.0 k.1)
 
-pub goes_within : (s : Setting) → HasCells s → Again s.cluster (goes_on s)
-goes_within s h now o k i = within_stays (length (groups_of now.met) + 2) s h now o k i
+pub goes_within : (s : Setting) → HasCells s → (now : Now) (o : Operation) → NowWithin s.cluster now → OperationWithin s.cluster o → NowWithin s.cluster (goes_on s now o)
+goes_within s h now o k i = rests_stays (length (groups_of now.met) + 2) s (ActsAgain now o) h (k, i)

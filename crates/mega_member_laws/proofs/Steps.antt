@@ -1,5 +1,5 @@
 -- The step of a node notes, sends and leaves only what stays within its cluster.
-use Rattle.std.proofs.Common.{ℕ, ◌==◌, ◌&&◌, ◌≤◌, Bool, cond, List, [], ◌∷◌, ◌++◌, length, map, flat_map, fold, Option, Some, None, ◌≡◌, refl}
+use Rattle.std.proofs.Common.{ℕ, ◌==◌, ◌&&◌, ◌≤◌, Bool, cond, List, [], ◌∷◌, ◌++◌, length, map, flat_map, fold, Option, Some, None, ◌≡◌, refl, ◌+◌}
 use Rattle.std.specs.Prelude.{filter, nat_le, nat_lt, is_none}
 use Rattle.mega_base.specs.declared.names.Epoch.{Epoch}
 use Rattle.mega_base.specs.declared.names.GroupId.{GroupId}
@@ -33,8 +33,8 @@ use Rattle.mega_format_laws.specs.of_rules.Locks.{asked_for, cell_calls, grant_n
 use Rattle.mega_format_laws.specs.of_rules.Coordinators.{acquires_at, coordinator_calls, counts_notes, forget_notes, grant_notes, is_cell_in, lost_note, tick_notes, tick_told}
 use Rattle.mega_format_laws.specs.of_rules.Replies.{reply_to}
 use Rattle.mega_format_laws.specs.of_rules.Operations.{Node, Now, Operation, Phase, Proposes, Reads, Setting}
-use Rattle.mega_format_laws.specs.of_rules.Acting.{ends, goes_on, reader_of, sends_more}
-use Rattle.mega_format_laws.specs.of_rules.Steps.{Begin, Decision, Event, Heard, Step, Take, Tick, acts_in_turn, all_act, applied_at, apply_note, apply_notes, at_first, at_open, background, begin_step, begins, decision_at, decision_note, does_due, find_begins, first_settled, hears_message, if_new, is_out, last_answer, lapse_notes, lease_notes, local_find_begins, new_operation, news, onto, op_of, portion_of, read_begins, read_decision, refusal, crashed, settled_by, start, start_items, start_note, start_notes, step, step_of, stored_after, take_step, taken, tick_step, ticked, told_decision, told_notes, unless_refused}
+use Rattle.mega_format_laws.specs.of_rules.Acting.{ends, reader_of, sends_more}
+use Rattle.mega_format_laws.specs.of_rules.Steps.{Begin, Decision, Event, Heard, Step, Take, Tick, acts_first, acts_in_turn, all_act, applied_at, apply_note, apply_notes, at_first, at_open, background, begin_step, crashed, decision_at, decision_note, does_due, find_begins, first_settled, hears_message, if_new, is_out, lapse_notes, last_answer, lease_notes, local_find_begins, new_operation, news, onto, op_of, portion_of, read_begins, read_decision, refusal, settled_by, start, start_items, start_note, start_notes, step, step_of, stored_after, take_step, taken, tick_step, ticked, told_decision, told_notes, unless_refused}
 use Rattle.mega_format_laws.specs.Rounds.{Each}
 use Rattle.mega_format_laws.proofs.Each.{each_both, each_fold, each_map, either}
 use Rattle.mega_member_laws.specs.Messages.{AreWithin, CarriesHere, IsHere, IsWithin, NamesHere}
@@ -43,7 +43,7 @@ use Rattle.mega_member_laws.proofs.Members.{any_flat}
 use Rattle.mega_member_laws.proofs.Rounds.{due_within, settled_here, takes_within}
 use Rattle.mega_member_laws.proofs.Reading.{falls_due_within, first_within, hears_within, read_settled_here, site_within}
 use Rattle.mega_member_laws.proofs.Replies.{acquires_at_within, background_within, news_within, reply_within}
-use Rattle.mega_member_laws.proofs.Acting.{HasCells, begins_within, ends_within, goes_within, picks_enter, picks_handle, reader_within, sends_within}
+use Rattle.mega_member_laws.proofs.Acting.{HasCells, Leads, begins_within, ends_within, goes_within, picks_enter, picks_handle, reader_within, rests_stays, sends_within}
 
 onto_within : (c : Cluster) (items met : List Met) → MetWithin c items → MetWithin c met → MetWithin c (onto items met)
 onto_within c [] met h k = k
@@ -282,33 +282,33 @@ tick_within s node now me h n =
 opened_within : (s : Setting) (met : List Met) (request : Request) (now : ℕ) → IsHere s.cluster s.me → OperationWithin s.cluster (new_operation (op_of s met) request now)
 opened_within s met request now me = record { id = me; phase = first_within s.cluster now }
 
-read_begun : (s : Setting) (now : Now) (o : Operation) (request : ReadRequest) (mode : Mode) → HasCells s → NowWithin s.cluster now → OperationWithin s.cluster o → NowWithin s.cluster (read_begins s now o request mode)
-read_begun s now o request Current h k i = begins_within s (goes_on s) now o request.group None [] h (goes_within s h) k i
+read_begun : (s : Setting) (now : Now) (o : Operation) (request : ReadRequest) (mode : Mode) → HasCells s → NowWithin s.cluster now → OperationWithin s.cluster o → Leads s.cluster (read_begins s now o request mode)
+read_begun s now o request Current h k i = begins_within s now o request.group None [] h k i
 read_begun s now o request Snapshot h k i = ends_within s.cluster now o.id _ k
 read_begun s now o request Inconsistent h k i = ends_within s.cluster now o.id _ k
 
-local_begun : (s : Setting) (now : Now) (o : Operation) (request : FindRequest) (group : GroupId) (mode : Mode) → HasCells s → NowWithin s.cluster now → OperationWithin s.cluster o → NowWithin s.cluster (local_find_begins s now o request group mode)
-local_begun s now o request group Current h k i = begins_within s (goes_on s) now o group None [] h (goes_within s h) k i
+local_begun : (s : Setting) (now : Now) (o : Operation) (request : FindRequest) (group : GroupId) (mode : Mode) → HasCells s → NowWithin s.cluster now → OperationWithin s.cluster o → Leads s.cluster (local_find_begins s now o request group mode)
+local_begun s now o request group Current h k i = begins_within s now o group None [] h k i
 local_begun s now o request group Snapshot h k i = ends_within s.cluster now o.id _ k
 local_begun s now o request group Inconsistent h k i = ends_within s.cluster now o.id _ k
 
-find_begun : (s : Setting) (now : Now) (o : Operation) (request : FindRequest) (group : Option GroupId) → HasCells s → NowWithin s.cluster now → OperationWithin s.cluster o → NowWithin s.cluster (find_begins s now o request group)
+find_begun : (s : Setting) (now : Now) (o : Operation) (request : FindRequest) (group : Option GroupId) → HasCells s → NowWithin s.cluster now → OperationWithin s.cluster o → Leads s.cluster (find_begins s now o request group)
 find_begun s now o request None h k i = ends_within s.cluster now o.id _ k
 find_begun s now o request (Some group) h k i = local_begun s now o request group request.mode h k i
 
-begun_by : (s : Setting) (now : Now) (id : OpId) (request : Request) (began : ℕ) (visited : List GroupId) (message : Option Enter) (phase : Phase) → HasCells s → NowWithin s.cluster now
+first_by : (s : Setting) (now : Now) (id : OpId) (request : Request) (began : ℕ) (visited : List GroupId) (message : Option Enter) (phase : Phase) → HasCells s → NowWithin s.cluster now
     → OperationWithin s.cluster (record { id = id; request = request; began = began; visited = visited; message = message; phase = phase })
-    → NowWithin s.cluster (begins s now (record { id = id; request = request; began = began; visited = visited; message = message; phase = phase }))
-begun_by s now id (Txn t) began visited message phase h k i = begins_within s (goes_on s) now _ t.group None [] h (goes_within s h) k i
-begun_by s now id (Batch group ts) began visited message phase h k i = begins_within s (goes_on s) now _ group None [] h (goes_within s h) k i
-begun_by s now id (Read request) began visited message phase h k i = read_begun s now _ request request.mode h k i
-begun_by s now id (Find request) began visited message phase h k i = find_begun s now _ request request.group h k i
-begun_by s now id PumpEnter began visited message phase h k i = picks_enter s (goes_on s) now _ [] h (goes_within s h) k i
-begun_by s now id PumpHandle began visited message phase h k i = picks_handle s (goes_on s) now _ [] h (goes_within s h) k i
-begun_by s now id Refresh began visited message phase h k i = ends_within s.cluster now id _ k
+    → Leads s.cluster (acts_first s now (record { id = id; request = request; began = began; visited = visited; message = message; phase = phase }))
+first_by s now id (Txn t) began visited message phase h k i = begins_within s now _ t.group None [] h k i
+first_by s now id (Batch group ts) began visited message phase h k i = begins_within s now _ group None [] h k i
+first_by s now id (Read request) began visited message phase h k i = read_begun s now _ request request.mode h k i
+first_by s now id (Find request) began visited message phase h k i = find_begun s now _ request request.group h k i
+first_by s now id PumpEnter began visited message phase h k i = picks_enter s now _ [] h k i
+first_by s now id PumpHandle began visited message phase h k i = picks_handle s now _ [] h k i
+first_by s now id Refresh began visited message phase h k i = ends_within s.cluster now id _ k
 
 refused_or : (s : Setting) (now : Now) (o : Operation) (answer : Option Answer) → HasCells s → NowWithin s.cluster now → OperationWithin s.cluster o → NowWithin s.cluster (unless_refused s now o answer)
-refused_or s now o None h k i = begun_by s now o.id o.request o.began o.visited o.message o.phase h k (record { id = i.id; phase = i.phase })
+refused_or s now o None h k i = rests_stays (length (groups_of now.met) + 2) s (acts_first s now o) h (first_by s now o.id o.request o.began o.visited o.message o.phase h k (record { id = i.id; phase = i.phase }))
 refused_or s now o (Some answer) h k i = ends_within s.cluster now o.id answer k
 
 begin_within : (s : Setting) (node : Node) (request : Request) (text : List ℕ) → IsHere s.cluster s.me → HasCells s → StaysWithin s.cluster node → StepWithin s.cluster (begin_step s node request text)

@@ -1,4 +1,4 @@
-//! Laws, as contracts of functions that do nothing.
+//! Laws of who sends to whom, as contracts of functions that do nothing.
 
 ghost use Rattle.std.specs.Prelude.{◌≡◌, ◌≤◌, ℕ, List, [], length, Ok};
 ghost use Rattle.mega_cluster.specs.declared.cluster.Cluster.{Cluster};

@@ -39,9 +39,9 @@ use mega_actions::mega_step_work::Work;
 use mega_base::{Items, NoMemory};
 use mega_disk::{Records, Versions};
 use mega_meanings::QueueHandlers;
-use mega_step_parts::mega_operations::{Heard, Members};
+use mega_step_parts::mega_operations::Members;
 use mega_step_parts::{
-    Chosen, Note, add_sends, decides, decision, has_rows, news_by, note_decision, stores,
+    Chosen, Listeners, Note, add_sends, decides, decision, has_rows, news_by, note_decision, stores,
 };
 use mega_wire::{Body, Message};
 use std::alloc::Global;
@@ -51,7 +51,7 @@ use std::alloc::Global;
 pub struct Arrival {
     pub notes: Items<Note>,
     pub sends: Items<Message>,
-    pub heard: Items<Heard>,
+    pub heard: Listeners,
 }
 
 /// Decides what a message tells or an operation settled by it, and stores a portion of its group where rows are kept.
@@ -60,7 +60,7 @@ fn decides_by<R: Records, V: Versions>(
     alloc: Global,
     replica: &mut Replica<R, V>,
     message: &Message,
-    heard: &[Heard],
+    heard: &Listeners,
 ) -> Result<Option<Chosen>, NoMemory>
     ensures new { IfOk result (λ d. (met : List Met) → Tells replica.old.voter.logs.kept met → d ≡ if_new met (or_settled (told_decision message.now.body) (first_settled heard.now))) }
     ensures kept { IfOk result (λ d. (met : List Met) → IsPlaced d → Tells replica.old.voter.logs.kept met → Tells replica.new.voter.logs.kept (onto (decision_note d) met)) }
@@ -98,7 +98,7 @@ fn assemble(
     me: u8,
     body: &Body,
     told: Reaction,
-    heard: Items<Heard>,
+    heard: Listeners,
     found: &Option<Chosen>,
 ) -> Result<Arrival, NoMemory>
     ensures notes { IfOk result (λ made. map met_of made.notes ≡ map met_of told.notes ++ decision_note found.now) }
@@ -123,7 +123,7 @@ fn assemble(
 pub fn takes<R: Records, V: Versions>(
     alloc: Global,
     replica: &mut Replica<R, V>,
-    heard: Items<Heard>,
+    heard: Listeners,
     message: &Message,
 ) -> Result<Arrival, StepFault>
     ensures taken { IfOk result (λ made. (h : Meanings) (node : RuleNode) (open_ones : List Open) (begun : ℕ) →
@@ -148,7 +148,7 @@ pub fn takes<R: Records, V: Versions>(
     ensures used { StoreUsed V.Versions None replica.old.rows.rows replica.new.rows.rows }
 {
     let told = is_told(alloc, replica, message)?;
-    let found = decides_by(alloc, replica, message, heard.as_slice())?;
+    let found = decides_by(alloc, replica, message, &heard)?;
     let made = assemble(
         alloc,
         &replica.members,
@@ -167,7 +167,7 @@ pub fn acts<R: Records, V: Versions, H: QueueHandlers>(
     alloc: Global,
     handlers: &mut H,
     replica: &mut Replica<R, V>,
-    heard: Items<Heard>,
+    heard: Listeners,
 ) -> Result<Work, ActFault>
     ensures state { V.is_told ≡ true → OnOk result ((h : Meanings) (met : List Met) (stored : Group → ℕ) → Means (H.meant handlers.old) h → All IsHeardAbout heard →
         IsAt V.version h replica.old met stored →
@@ -179,7 +179,15 @@ pub fn acts<R: Records, V: Versions, H: QueueHandlers>(
     ensures leaves { Leaves V.Versions (failed_to_act result) (H.meant handlers.old) (H.meant handlers.new) replica.old replica.new }
     ensures unserved { result ≡ Err act.Unserved → All IsServableHeard heard → ⊥ }
 {
-    let mut work = Work::new(alloc, heard.len())?;
-    replica.all_act(alloc, handlers, &mut work, heard)?;
-    Ok(work)
+    let Listeners { unmoved, heard } = heard;
+    match replica.all_rest(alloc, handlers, unmoved) {
+        Ok(mut work) => {
+            replica.all_act(alloc, handlers, &mut work, heard)?;
+            Ok(work)
+        }
+        Err(fault) => {
+            drop(heard);
+            Err(fault)
+        }
+    }
 }

@@ -1,4 +1,4 @@
-//! What follows from the definitions, as contracts of functions that do nothing.
+//! What follows from what a node met, as contracts of functions that do nothing.
 
 ghost use Rattle.std.specs.Prelude.{[], ◌≡◌, ◌≤◌, ◌++◌, ◌∷◌, false, fold, length, map, ℕ, List, Option, Some, All, take};
 ghost use Rattle.mega_base.specs.declared.names.Epoch.{Epoch};

@@ -1,34 +1,11 @@
 -- One look after another.
-use Rattle.std.proofs.Common.{◌≡◌, ◌∙◌, ◌≤◌, subst, sym, inl, inr, ⊎_elim, refl, ℕ, arith}
+use Rattle.std.proofs.Common.{◌∙◌, arith}
 use Rattle.std.specs.Prelude.{Option, None}
-use Rattle.mega_base.specs.Causes.{Rose}
-use Rattle.mega_disk.specs.Fuse.{Fuse, Untold, Unset, Left, MayBurn, Burns}
 use Rattle.mega_disk.specs.declared.versions.StoreError.{StoreError}
 use Rattle.mega_disk.specs.declared.versions.Versions.{Ghosts}
+use Rattle.mega_disk.proofs.Burning.{burn_then, burns_then, rose_later}
 use Rattle.mega_disk.proofs.Leaves.{then_leaves}
 use Rattle.mega_outcome.specs.Looks.{Looked, Looks}
-
-burn_then : (f g h : Fuse) → MayBurn f g → MayBurn g h → MayBurn f h
-burn_then Untold g h first second = subst (λ (m : Fuse). MayBurn m h) first second
-burn_then Unset g h first second = subst (λ (m : Fuse). MayBurn m h) first second
-burn_then (Left n) g h first second =
-    ⊎_elim
-    (λ gone. inl (let P : Fuse → Type 0 = λ m. MayBurn m h in subst P gone second))
-    (λ left.
-    let P : Fuse → Type 0 = λ m. MayBurn m h in
-    ⊎_elim (λ gone. inl gone) (λ less. inr (less.0, less.1, omega (arith, less.2, left.2))) (subst P left.1 second))
-    first
-
-burns_then : (f g h : Fuse) → MayBurn f g → Burns g h → Burns f h
-burns_then Untold g h first burns = absurd (untold (sym first ∙ burns.was_set.1))
-  where
-    untold : Untold ≡ Left burns.was_set.0 → ⊥
-    untold e = cc
-burns_then Unset g h first burns = absurd (unset (sym first ∙ burns.was_set.1))
-  where
-    unset : Unset ≡ Left burns.was_set.0 → ⊥
-    unset e = cc
-burns_then (Left n) g h first burns = record { was_set = (n, refl); gone = burns.gone }
 
 pub looked_then : {V : Type 0} (store : Ghosts V) (old mid new : V) → Looked store old mid → Looked store mid new → Looked store old new
 looked_then store old mid new first second = record {
@@ -43,9 +20,6 @@ looked_then store old mid new first second = record {
   by_fuse = λ h. second.by_fuse (first.by_fuse h);
   bad_stays = λ n h. first.bad_stays n (second.bad_stays n h);
 }
-
-rose_later : (a b c : ℕ) → a ≤ b → Rose b c → Rose a c
-rose_later a b c le rose = omega (arith, le, rose)
 
 pub looks_then : {V : Type 0} (store : Ghosts V) (failed : Option StoreError) (old mid new : V) → Looks store None old mid → Looks store failed mid new → Looks store failed old new
 looks_then store failed old mid new first second = record {

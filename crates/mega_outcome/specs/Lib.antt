@@ -9,6 +9,7 @@ pub mod Looks
 pub mod Steps
 pub mod Numbers
 pub mod Lengths
+pub mod Naming
 pub mod Extends
 pub mod Group
 pub use Rattle.mega_index.specs as of_index

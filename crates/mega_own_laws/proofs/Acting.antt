@@ -2,6 +2,7 @@
 use Rattle.std.proofs.Common.{◌≡◌, ℕ, zero, suc, ◌+◌, List, [], length, Option, Some, None, Result, Ok, Err, refl}
 use Rattle.std.specs.Prelude.{nat_le, take}
 use Rattle.std.specs.List.{list_any}
+use Rattle.std.specs.Result.{is_ok}
 use Rattle.mega_base.specs.declared.names.Epoch.{Epoch}
 use Rattle.mega_base.specs.declared.names.GroupId.{GroupId}
 use Rattle.mega_base.specs.declared.names.OpId.{OpId}
@@ -38,8 +39,8 @@ use Rattle.mega_run_laws.specs.of_rules.Coordinators.{refused_at, serves_at, val
 use Rattle.mega_run_laws.specs.of_rules.Logs.{decided, groups_of, log_of, prefix_of, top_of}
 use Rattle.mega_run_laws.specs.of_rules.Queues.{Posted, enter_entry, is_named, names_entered, next_to_enter, next_to_handle, oldest_unhandled}
 use Rattle.mega_run_laws.specs.of_rules.Operations.{Now, Operation, Phase, Promised, Proposes, Reads, Replies, Results, Setting}
-use Rattle.mega_run_laws.specs.of_rules.Acting.{acts, acts_within, applied_logs, batch_sealed, begins_read, completes_read, ends, enters, finishes, goes_on, handles, handling, in_phase, is_taken, is_visited, keeps, leader_after, listed_at, picks_group, picks_message, picks_to_enter, picks_to_handle, proposes, proposes_by, proposes_there, read_begun, reader_of, reads_group, reads_on, rows_at, sealed, seeks_on, sends_more, table_rows, unless_decided, unless_full, validated_by, validates, verdict, visiting}
-use Rattle.mega_run_laws.specs.of_rules.Steps.{begins, find_begins, local_find_begins, read_begins, unless_refused}
+use Rattle.mega_run_laws.specs.of_rules.Acting.{ActsAgain, Next, Rests, acts, applied_logs, batch_sealed, begins_read, completes_read, ends, enters, finishes, goes_on, handles, handling, in_phase, is_visited, keeps, leader_after, listed_at, picks_group, picks_message, picks_to_enter, picks_to_handle, proposes, proposes_by, proposes_there, read_begun, reader_of, reads_on, rests_within, rows_at, sealed, seeks_on, sends_more, table_rows, unless_decided, unless_full, validated_by, validates, verdict}
+use Rattle.mega_run_laws.specs.of_rules.Steps.{acts_first, find_begins, local_find_begins, read_begins, unless_refused}
 use Rattle.mega_run_laws.specs.of_tape_laws.Indexed.{IsDeclared}
 use Rattle.mega_run_laws.specs.Justified.{Each}
 use Rattle.mega_run_laws.proofs.Events.{each_append}
@@ -112,8 +113,10 @@ module _ (s : Setting) where
 
   -- ---- a pump reads a group, and picks
 
-  abbrev pub Stays : (Now → Operation → Now) → Type 0
-  Stays again = (now : Now) (o : Operation) → IsOwnNow now → OperationOwn s.cluster.schema o → IsOwnNow (again now o)
+  -- what an operation comes to; one that acts again is of its own too
+  abbrev pub Leads : Next → Type 0
+  Leads (Rests now) = IsOwnNow now
+  Leads (ActsAgain now o) = IsOwnNow now × OperationOwn s.cluster.schema o
 
   begun_own : (now : Now) (o : Operation) (group : GroupId) (asked : List ℕ) → ReadMoveOwn s.cluster.schema group (read_begun s now o group asked)
   begun_own now o group asked =
@@ -123,26 +126,23 @@ module _ (s : Setting) where
       (local_own s.cluster.schema group asked (top_of now.met group))
       (polled_own s.cluster.schema (reader_of s o.id group) (serves_at s.cluster now.met) asked (clock_of now.met)))
 
-  module _ (again : Now → Operation → Now) (more : Stays again) where
-    group_own : (now : Now) (o : Operation) (group : GroupId) (message : Option Enter) (t : ReadMove) → IsOwnNow now → IsOf o.request group → ReadMoveOwn s.cluster.schema group t → IsOwnNow (reads_group s again now o group message t)
-    group_own now o group message t h of m = more (sends_more now t.sends) (visiting o group message t) (sends_own now t.sends h m.sends) (record { about = of; phase = m.reading })
+  begins_read_own : (now : Now) (o : Operation) (group : GroupId) (message : Option Enter) (asked : List ℕ) → IsOwnNow now → IsOf o.request group → Leads (begins_read s now o group message asked)
+  begins_read_own now o group message asked h of =
+      (sends_own now (read_begun s now o group asked).sends h (begun_own now o group asked).sends, record { about = of; phase = (begun_own now o group asked).reading })
 
-    begins_read_own : (now : Now) (o : Operation) (group : GroupId) (message : Option Enter) (asked : List ℕ) → IsOwnNow now → IsOf o.request group → IsOwnNow (begins_read s again now o group message asked)
-    begins_read_own now o group message asked h of = group_own now o group message (read_begun s now o group asked) h of (begun_own now o group asked)
+  message_picked : (now : Now) (o : Operation) (asked : List ℕ) (found : Option Posted) → IsOwnNow now → ((group : GroupId) → IsOf o.request group) → Leads (picks_message s now o asked found)
+  message_picked now o asked None h of = ends_own now o.id _ h
+  message_picked now o asked (Some one) h of = begins_read_own now o one.to (Some one.message) asked h (of one.to)
 
-    message_picked : (now : Now) (o : Operation) (asked : List ℕ) (found : Option Posted) → IsOwnNow now → ((group : GroupId) → IsOf o.request group) → IsOwnNow (picks_message s again now o asked found)
-    message_picked now o asked None h of = ends_own now o.id _ h
-    message_picked now o asked (Some one) h of = begins_read_own now o one.to (Some one.message) asked h (of one.to)
+  group_picked : (now : Now) (o : Operation) (asked : List ℕ) (found : Option GroupId) → IsOwnNow now → ((group : GroupId) → IsOf o.request group) → Leads (picks_group s now o asked found)
+  group_picked now o asked None h of = ends_own now o.id _ h
+  group_picked now o asked (Some group) h of = begins_read_own now o group None asked h (of group)
 
-    group_picked : (now : Now) (o : Operation) (asked : List ℕ) (found : Option GroupId) → IsOwnNow now → ((group : GroupId) → IsOf o.request group) → IsOwnNow (picks_group s again now o asked found)
-    group_picked now o asked None h of = ends_own now o.id _ h
-    group_picked now o asked (Some group) h of = begins_read_own now o group None asked h (of group)
+  picks_enter : (now : Now) (o : Operation) (asked : List ℕ) → IsOwnNow now → ((group : GroupId) → IsOf o.request group) → Leads (picks_to_enter s now o asked)
+  picks_enter now o asked h of = message_picked now o asked (next_to_enter o.id (applied_logs now)) h of
 
-    picks_enter : (now : Now) (o : Operation) (asked : List ℕ) → IsOwnNow now → ((group : GroupId) → IsOf o.request group) → IsOwnNow (picks_to_enter s again now o asked)
-    picks_enter now o asked h of = message_picked now o asked (next_to_enter o.id (applied_logs now)) h of
-
-    picks_handle : (now : Now) (o : Operation) (asked : List ℕ) → IsOwnNow now → ((group : GroupId) → IsOf o.request group) → IsOwnNow (picks_to_handle s again now o asked)
-    picks_handle now o asked h of = group_picked now o asked (next_to_handle (applied_logs now)) h of
+  picks_handle : (now : Now) (o : Operation) (asked : List ℕ) → IsOwnNow now → ((group : GroupId) → IsOf o.request group) → Leads (picks_to_handle s now o asked)
+  picks_handle now o asked h of = group_picked now o asked (next_to_handle (applied_logs now)) h of
 
   module _ (declared : IsDeclared s.cluster.schema) where
     -- ---- what a complete read comes to
@@ -155,91 +155,92 @@ module _ (s : Setting) where
 
     batch_sealed_own : (now : Now) (o : Operation) (group : GroupId) (r : Reading) (p : ℕ) (b : BatchDone) → IsOwnNow now → OperationOwn s.cluster.schema o → IsOf o.request group → IsOwn s.cluster.schema group (entry_of_batch o.id b)
         → IsOwnNow (batch_sealed s now o group r p b)
-    batch_sealed_own now o group r p b h k of e = either IsOwnNow (list_any is_taken b.results) (proposes s now o group r p (entry_of_batch o.id b) (Results b.results)) (ends now o.id (AllTurned b.results))
+    batch_sealed_own now o group r p b h k of e = either IsOwnNow (list_any is_ok b.results) (proposes s now o group r p (entry_of_batch o.id b) (Results b.results)) (ends now o.id (AllTurned b.results))
         (proposes_own now o group r p (entry_of_batch o.id b) (Results b.results) h k of e) (ends_own now o.id (AllTurned b.results) h)
 
-    unless_full_own : (now : Now) (o : Operation) (p : ℕ) (next : Now) → IsOwnNow now → IsOwnNow next → IsOwnNow (unless_full s now o p next)
-    unless_full_own now o p next h k = either IsOwnNow (nat_le (s.cluster.limit).0 p) (ends now o.id (LogFull (record { 0 = p }))) next (ends_own now o.id (LogFull (record { 0 = p })) h) k
+    unless_full_own : (now : Now) (o : Operation) (p : ℕ) (next : Next) → IsOwnNow now → Leads next → Leads (unless_full s now o p next)
+    unless_full_own now o p next h k = either Leads (nat_le (s.cluster.limit).0 p) (Rests (ends now o.id (LogFull (record { 0 = p })))) next (ends_own now o.id (LogFull (record { 0 = p })) h) k
 
-    module _ (again : Now → Operation → Now) (more : Stays again) where
-      enters_own : (now : Now) (o : Operation) (group : GroupId) (r : Reading) (p : ℕ) (message : Option Enter) → IsOwnNow now → OperationOwn s.cluster.schema o → ((group : GroupId) → IsOf o.request group)
-          → IsOwnNow (enters s again now o group r p message)
-      enters_own now o group r p None h k of = picks_enter again more now o (asked_by r) h of
-      enters_own now o group r p (Some message) h k of = either IsOwnNow (is_named message.name (names_entered (take p (log_of now.met group)))) (picks_to_enter s again now o (asked_by r)) (proposes s now o group r p (enter_entry o.id message) (Replies []))
-          (picks_enter again more now o (asked_by r) h of) (proposes_own now o group r p (enter_entry o.id message) (Replies []) h k (of group) tt)
+    enters_own : (now : Now) (o : Operation) (group : GroupId) (r : Reading) (p : ℕ) (message : Option Enter) → IsOwnNow now → OperationOwn s.cluster.schema o → ((group : GroupId) → IsOf o.request group)
+        → Leads (enters s now o group r p message)
+    enters_own now o group r p None h k of = picks_enter now o (asked_by r) h of
+    enters_own now o group r p (Some message) h k of = either Leads (is_named message.name (names_entered (take p (log_of now.met group)))) (picks_to_enter s now o (asked_by r)) (Rests (proposes s now o group r p (enter_entry o.id message) (Replies [])))
+        (picks_enter now o (asked_by r) h of) (proposes_own now o group r p (enter_entry o.id message) (Replies []) h k (of group) tt)
 
-      handles_own : (now : Now) (o : Operation) (group : GroupId) (r : Reading) (p : ℕ) (message : Option Enter) → IsOwnNow now → OperationOwn s.cluster.schema o → ((group : GroupId) → IsOf o.request group)
-          → IsOwnNow (handles s again now o group r p message)
-      handles_own now o group r p None h k of = picks_handle again more now o (asked_by r) h of
-      handles_own now o group r p (Some message) h k of = either IsOwnNow (has s.handlers message.queue)
-          (proposes s now o group r p (handling s o.id group message (table_rows s.cluster.schema group (listed_at now group p))) (Replies [])) (ends now o.id (NoHandler message.queue))
-          (proposes_own now o group r p (handling s o.id group message (table_rows s.cluster.schema group (listed_at now group p))) (Replies []) h k (of group)
-          (handling_own s declared o.id group message (table_rows s.cluster.schema group (listed_at now group p))))
-          (ends_own now o.id (NoHandler message.queue) h)
+    handles_own : (now : Now) (o : Operation) (group : GroupId) (r : Reading) (p : ℕ) (message : Option Enter) → IsOwnNow now → OperationOwn s.cluster.schema o → ((group : GroupId) → IsOf o.request group)
+        → Leads (handles s now o group r p message)
+    handles_own now o group r p None h k of = picks_handle now o (asked_by r) h of
+    handles_own now o group r p (Some message) h k of = either Leads (has s.handlers message.queue)
+        (Rests (proposes s now o group r p (handling s o.id group message (table_rows s.cluster.schema group (listed_at now group p))) (Replies []))) (Rests (ends now o.id (NoHandler message.queue)))
+        (proposes_own now o group r p (handling s o.id group message (table_rows s.cluster.schema group (listed_at now group p))) (Replies []) h k (of group)
+        (handling_own s declared o.id group message (table_rows s.cluster.schema group (listed_at now group p))))
+        (ends_own now o.id (NoHandler message.queue) h)
 
-      module _ (id : OpId) (began : ℕ) (visited : List GroupId) (message : Option Enter) where
-        abbrev one : Request → Phase → Operation
-        one request phase = record { id = id; request = request; began = began; visited = visited; message = message; phase = phase }
+    module _ (id : OpId) (began : ℕ) (visited : List GroupId) (message : Option Enter) where
+      abbrev one : Request → Phase → Operation
+      one request phase = record { id = id; request = request; began = began; visited = visited; message = message; phase = phase }
 
-        finishes_own : (now : Now) (request : Request) (phase : Phase) (group : GroupId) (r : Reading) (p : ℕ) → IsOwnNow now → OperationOwn s.cluster.schema (one request phase) → IsOf request group
-            → IsOwnNow (finishes s again now (one request phase) group r p)
-        finishes_own now (Txn transaction) phase group r p h k of = unless_full_own now (one (Txn transaction) phase) p _ h
-            (sealed_own now (one (Txn transaction) phase) group r p transaction (outcome s.cluster.schema transaction (rows_at now group p)) refl h k of of)
-        finishes_own now (Batch own transactions) phase group r p h k of = unless_full_own now (one (Batch own transactions) phase) p _ h
-            (batch_sealed_own now (one (Batch own transactions) phase) group r p (batch_outcome s.cluster.schema own transactions (rows_at now group p)) h k of
-            (batch_own s.cluster.schema declared id own group transactions (rows_at now group p) of))
-        finishes_own now (Read request) phase group r p h k of = ends_own now id _ h
-        finishes_own now (Find request) phase group r p h k of = ends_own now id _ h
-        finishes_own now PumpEnter phase group r p h k of = unless_full_own now (one PumpEnter phase) p _ h (enters_own now (one PumpEnter phase) group r p message h k (λ g. tt))
-        finishes_own now PumpHandle phase group r p h k of = unless_full_own now (one PumpHandle phase) p _ h (handles_own now (one PumpHandle phase) group r p (oldest_unhandled (take p (log_of now.met group))) h k (λ g. tt))
-        finishes_own now Refresh phase group r p h k of = keeps_own now (one Refresh phase) h k
+      finishes_own : (now : Now) (request : Request) (phase : Phase) (group : GroupId) (r : Reading) (p : ℕ) → IsOwnNow now → OperationOwn s.cluster.schema (one request phase) → IsOf request group
+          → Leads (finishes s now (one request phase) group r p)
+      finishes_own now (Txn transaction) phase group r p h k of = unless_full_own now (one (Txn transaction) phase) p _ h
+          (sealed_own now (one (Txn transaction) phase) group r p transaction (outcome s.cluster.schema transaction (rows_at now group p)) refl h k of of)
+      finishes_own now (Batch own transactions) phase group r p h k of = unless_full_own now (one (Batch own transactions) phase) p _ h
+          (batch_sealed_own now (one (Batch own transactions) phase) group r p (batch_outcome s.cluster.schema own transactions (rows_at now group p)) h k of
+          (batch_own s.cluster.schema declared id own group transactions (rows_at now group p) of))
+      finishes_own now (Read request) phase group r p h k of = ends_own now id _ h
+      finishes_own now (Find request) phase group r p h k of = ends_own now id _ h
+      finishes_own now PumpEnter phase group r p h k of = unless_full_own now (one PumpEnter phase) p _ h (enters_own now (one PumpEnter phase) group r p message h k (λ g. tt))
+      finishes_own now PumpHandle phase group r p h k of = unless_full_own now (one PumpHandle phase) p _ h (handles_own now (one PumpHandle phase) group r p (oldest_unhandled (take p (log_of now.met group))) h k (λ g. tt))
+      finishes_own now Refresh phase group r p h k of = keeps_own now (one Refresh phase) h k
 
-        -- ---- an operation acts
+      -- ---- an operation acts
 
-        reads_own : (now : Now) (request : Request) (group : GroupId) (noted : Option Epoch) (asked : List ℕ) (stage : Stage) → IsOwnNow now → OperationOwn s.cluster.schema (one request (Reads group (record { noted = noted; asked = asked; stage = stage })))
-            → IsOwnNow (reads_on s again now (one request (Reads group (record { noted = noted; asked = asked; stage = stage }))) group (record { noted = noted; asked = asked; stage = stage }))
-        reads_own now request group noted asked (Polling heard best sent) h k = keeps_own now (one request (Reads group (record { noted = noted; asked = asked; stage = Polling heard best sent }))) h k
-        reads_own now request group noted asked (Catching p search) h k = either IsOwnNow (nat_le p (prefix_of now.met group))
-            (finishes s again (completes_read s now group r p) (one request (Reads group r)) group r p) (seeks_on (one request (Reads group r)) now group sought)
-            (finishes_own (completes_read s now group r p) request (Reads group r) group r p (completes_own now group r p h) k k.about)
-            (keeps_own (sends_more now sought.sends) (one request (Reads group sought.reading)) (sends_own now sought.sends h m.sends) (record { about = k.about; phase = m.reading }))
-          where
-            r : Reading
-            r = record { noted = noted; asked = asked; stage = Catching p search }
+      reads_own : (now : Now) (request : Request) (group : GroupId) (noted : Option Epoch) (asked : List ℕ) (stage : Stage) → IsOwnNow now → OperationOwn s.cluster.schema (one request (Reads group (record { noted = noted; asked = asked; stage = stage })))
+          → Leads (reads_on s now (one request (Reads group (record { noted = noted; asked = asked; stage = stage }))) group (record { noted = noted; asked = asked; stage = stage }))
+      reads_own now request group noted asked (Polling heard best sent) h k = keeps_own now (one request (Reads group (record { noted = noted; asked = asked; stage = Polling heard best sent }))) h k
+      reads_own now request group noted asked (Catching p search) h k = either Leads (nat_le p (prefix_of now.met group))
+          (finishes s (completes_read s now group r p) (one request (Reads group r)) group r p) (Rests (seeks_on (one request (Reads group r)) now group sought))
+          (finishes_own (completes_read s now group r p) request (Reads group r) group r p (completes_own now group r p h) k k.about)
+          (keeps_own (sends_more now sought.sends) (one request (Reads group sought.reading)) (sends_own now sought.sends h m.sends) (record { about = k.about; phase = m.reading }))
+        where
+          r : Reading
+          r = record { noted = noted; asked = asked; stage = Catching p search }
 
-            sought : ReadMove
-            sought = seeks (reader_of s id group) r (prefix_of now.met group + 1) (clock_of now.met)
+          sought : ReadMove
+          sought = seeks (reader_of s id group) r (prefix_of now.met group + 1) (clock_of now.met)
 
-            m : ReadMoveOwn s.cluster.schema group sought
-            m = seeks_own s.cluster.schema (reader_of s id group) r (prefix_of now.met group + 1) (clock_of now.met) k.phase
+          m : ReadMoveOwn s.cluster.schema group sought
+          m = seeks_own s.cluster.schema (reader_of s id group) r (prefix_of now.met group + 1) (clock_of now.met) k.phase
 
-        acts_by : (now : Now) (request : Request) (phase : Phase) → IsOwnNow now → OperationOwn s.cluster.schema (one request phase) → IsOwnNow (acts s again now (one request phase))
-        acts_by now request (Reads group r) h k = reads_own now request group r.noted r.asked r.stage h (record { about = k.about; phase = record { stage = (k.phase).stage } })
-        acts_by now request (Proposes group n asked p promised) h k = unless_decided_own now (one request (Proposes group n asked p promised)) n promised (decided now.met group n) h k
+      acts_by : (now : Now) (request : Request) (phase : Phase) → IsOwnNow now → OperationOwn s.cluster.schema (one request phase) → Leads (acts s now (one request phase))
+      acts_by now request (Reads group r) h k = reads_own now request group r.noted r.asked r.stage h (record { about = k.about; phase = record { stage = (k.phase).stage } })
+      acts_by now request (Proposes group n asked p promised) h k = unless_decided_own now (one request (Proposes group n asked p promised)) n promised (decided now.met group n) h k
 
-    acts_own : (again : Now → Operation → Now) → Stays again → Stays (acts s again)
-    acts_own again more now o h k = acts_by again more o.id o.began o.visited o.message now o.request o.phase h (record { about = k.about; phase = k.phase })
+    acts_own : (now : Now) (o : Operation) → IsOwnNow now → OperationOwn s.cluster.schema o → Leads (acts s now o)
+    acts_own now o h k = acts_by o.id o.began o.visited o.message now o.request o.phase h (record { about = k.about; phase = k.phase })
 
-    within_own : (most : ℕ) → Stays (acts_within most s)
-    within_own zero now o h k = keeps_own now o h k
-    within_own (suc most) now o h k = acts_own (acts_within most s) (within_own most) now o h k
+    -- until it rests
+    rests_own : (most : ℕ) (next : Next) → Leads next → IsOwnNow (rests_within most s next)
+    rests_own most (Rests now) h = h
+    rests_own zero (ActsAgain now o) h = keeps_own now o h.0 h.1
+    rests_own (suc most) (ActsAgain now o) h = rests_own most (acts s now o) (acts_own now o h.0 h.1)
 
-    pub goes_own : Stays (goes_on s)
-    goes_own now o h k = within_own (length (groups_of now.met) + 2) now o h k
+    pub goes_own : (now : Now) (o : Operation) → IsOwnNow now → OperationOwn s.cluster.schema o → IsOwnNow (goes_on s now o)
+    goes_own now o h k = rests_own (length (groups_of now.met) + 2) (ActsAgain now o) (h, k)
 
     -- ---- an operation begins
 
-    read_begun_own : (now : Now) (o : Operation) (request : ReadRequest) (mode : Mode) → IsOwnNow now → IsOf o.request request.group → IsOwnNow (read_begins s now o request mode)
-    read_begun_own now o request Current h of = begins_read_own (goes_on s) goes_own now o request.group None [] h of
+    read_begun_own : (now : Now) (o : Operation) (request : ReadRequest) (mode : Mode) → IsOwnNow now → IsOf o.request request.group → Leads (read_begins s now o request mode)
+    read_begun_own now o request Current h of = begins_read_own now o request.group None [] h of
     read_begun_own now o request Snapshot h of = ends_own now o.id _ h
     read_begun_own now o request Inconsistent h of = ends_own now o.id _ h
 
-    local_begun_own : (now : Now) (o : Operation) (request : FindRequest) (group : GroupId) (mode : Mode) → IsOwnNow now → IsOf o.request group → IsOwnNow (local_find_begins s now o request group mode)
-    local_begun_own now o request group Current h of = begins_read_own (goes_on s) goes_own now o group None [] h of
+    local_begun_own : (now : Now) (o : Operation) (request : FindRequest) (group : GroupId) (mode : Mode) → IsOwnNow now → IsOf o.request group → Leads (local_find_begins s now o request group mode)
+    local_begun_own now o request group Current h of = begins_read_own now o group None [] h of
     local_begun_own now o request group Snapshot h of = ends_own now o.id _ h
     local_begun_own now o request group Inconsistent h of = ends_own now o.id _ h
 
-    find_begun_own : (now : Now) (o : Operation) (request : FindRequest) (group : Option GroupId) → IsOwnNow now → ((found : GroupId) → group ≡ Some found → IsOf o.request found) → IsOwnNow (find_begins s now o request group)
+    find_begun_own : (now : Now) (o : Operation) (request : FindRequest) (group : Option GroupId) → IsOwnNow now → ((found : GroupId) → group ≡ Some found → IsOf o.request found) → Leads (find_begins s now o request group)
     find_begun_own now o request None h of = ends_own now o.id _ h
     find_begun_own now o request (Some group) h of = local_begun_own now o request group request.mode h (of group refl)
 
@@ -247,15 +248,15 @@ module _ (s : Setting) where
       abbrev new : Request → Operation
       new request = record { id = id; request = request; began = began; visited = visited; message = message; phase = phase }
 
-      begins_by : (now : Now) (request : Request) → IsOwnNow now → IsOwnNow (begins s now (new request))
-      begins_by now (Txn transaction) h = begins_read_own (goes_on s) goes_own now (new (Txn transaction)) transaction.group None [] h refl
-      begins_by now (Batch group transactions) h = begins_read_own (goes_on s) goes_own now (new (Batch group transactions)) group None [] h refl
-      begins_by now (Read request) h = read_begun_own now (new (Read request)) request request.mode h refl
-      begins_by now (Find request) h = find_begun_own now (new (Find request)) request request.group h (λ group is. is)
-      begins_by now PumpEnter h = picks_enter (goes_on s) goes_own now (new PumpEnter) [] h (λ g. tt)
-      begins_by now PumpHandle h = picks_handle (goes_on s) goes_own now (new PumpHandle) [] h (λ g. tt)
-      begins_by now Refresh h = ends_own now id _ h
+      first_by : (now : Now) (request : Request) → IsOwnNow now → Leads (acts_first s now (new request))
+      first_by now (Txn transaction) h = begins_read_own now (new (Txn transaction)) transaction.group None [] h refl
+      first_by now (Batch group transactions) h = begins_read_own now (new (Batch group transactions)) group None [] h refl
+      first_by now (Read request) h = read_begun_own now (new (Read request)) request request.mode h refl
+      first_by now (Find request) h = find_begun_own now (new (Find request)) request request.group h (λ group is. is)
+      first_by now PumpEnter h = picks_enter now (new PumpEnter) [] h (λ g. tt)
+      first_by now PumpHandle h = picks_handle now (new PumpHandle) [] h (λ g. tt)
+      first_by now Refresh h = ends_own now id _ h
 
     pub begun_or_refused : (now : Now) (o : Operation) (refusal : Option Answer) → IsOwnNow now → IsOwnNow (unless_refused s now o refusal)
-    begun_or_refused now o None h = begins_by o.id o.began o.visited o.message o.phase now o.request h
+    begun_or_refused now o None h = rests_own (length (groups_of now.met) + 2) (acts_first s now o) (first_by o.id o.began o.visited o.message o.phase now o.request h)
     begun_or_refused now o (Some answer) h = ends_own now o.id answer h

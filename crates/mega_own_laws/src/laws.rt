@@ -1,4 +1,4 @@
-//! Laws, as contracts of functions that do nothing.
+//! Laws of whose rows a node writes, as contracts of functions that do nothing.
 
 ghost use Rattle.std.specs.Prelude.{◌≡◌, ◌≢◌, ℕ, List, [], Contains, Ok};
 ghost use Rattle.mega_base.specs.declared.names.GroupId.{GroupId};

@@ -1,6 +1,7 @@
 -- What the operations of a step say: no beginning, and answers that fit.
 use Rattle.std.proofs.Common.{◌≡◌, ℕ, zero, suc, ◌+◌, nat_le, Bool, true, false, cond, List, [], ◌∷◌, ◌++◌, map, take, length, fold, Option, Some, None, Result, Ok, Err, refl}
 use Rattle.std.specs.List.{list_any}
+use Rattle.std.specs.Result.{is_ok}
 use Rattle.mega_base.specs.declared.names.Epoch.{Epoch}
 use Rattle.mega_base.specs.declared.names.GroupId.{GroupId}
 use Rattle.mega_base.specs.declared.names.OpId.{OpId}
@@ -41,9 +42,9 @@ use Rattle.mega_rules.specs.Coordinators.{refused_at}
 use Rattle.mega_rules.specs.Finding.{refreshed_marks}
 use Rattle.mega_rules.specs.Queues.{Posted, enter_entry, is_named, names_entered, next_to_enter, next_to_handle, oldest_unhandled}
 use Rattle.mega_rules.specs.Operations.{Node, Now, Operation, Phase, Promised, Proposes, Reads, Replies, Results, Setting}
-use Rattle.mega_rules.specs.Acting.{acts, acts_within, applied_logs, batch_sealed, begins_read, committed, completes_read, ends, enters, finishes, goes_on, handles, is_taken, keeps, leader_after, listed_at, handling, picks_group, picks_message, proposes, proposes_by, read_answer, read_begun, reads_on, rows_answer, rows_at, sealed, sends_more, table_rows, unless_decided, unless_full, validated_by, validates, verdict}
+use Rattle.mega_rules.specs.Acting.{ActsAgain, Next, Rests, acts, applied_logs, batch_sealed, begins_read, committed, completes_read, ends, enters, finishes, goes_on, handles, handling, keeps, leader_after, listed_at, picks_group, picks_message, proposes, proposes_by, read_answer, read_begun, reads_on, rests_within, rows_answer, rows_at, sealed, sends_more, table_rows, unless_decided, unless_full, validated_by, validates, verdict}
 use Rattle.mega_rules.specs.Replies.{reply_to}
-use Rattle.mega_rules.specs.Steps.{Begin, Decision, Event, Heard, Take, Tick, acts_in_turn, all_act, applied_position, apply_notes, at_first, at_open, begin_step, begins, decision_note, does_due, find_begins, first_settled, hears_message, if_new, is_out, is_worn, lapse_notes, last_answer, lease_notes, local_find_begins, missing_kind, needs_full, new_operation, news, onto, op_of, portion_of, read_begins, refusal, snapshot_listed, step, stored_after, stored_listed, take_step, taken, tick_step, ticked, told_decision, told_notes, unless_busy, unless_missing, unless_refused}
+use Rattle.mega_rules.specs.Steps.{Begin, Decision, Event, Heard, Take, Tick, acts_first, acts_in_turn, all_act, applied_position, apply_notes, at_first, at_open, begin_step, decision_note, does_due, find_begins, first_settled, hears_message, if_new, is_out, is_worn, lapse_notes, last_answer, lease_notes, local_find_begins, missing_kind, needs_full, new_operation, news, onto, op_of, portion_of, read_begins, refusal, snapshot_listed, step, stored_after, stored_listed, take_step, taken, tick_step, ticked, told_decision, told_notes, unless_busy, unless_missing, unless_refused}
 use Rattle.mega_node_laws.proofs.Ending.{taken_by}
 use Rattle.mega_transcript.specs.PlainRows.{are_marks}
 use Rattle.mega_format_laws.specs.Rounds.{Each}
@@ -94,21 +95,23 @@ module _ (s : Setting) where
   completes_it : (now : Now) (group : GroupId) (r : Reading) (p : ℕ) → Said k now → Said k (completes_read s now group r p)
   completes_it now group r p h = validates_it _ group p r.noted (record { marks = h.marks; valid = h.valid; answers = h.answers })
 
-  abbrev Stays : (Now → Operation → Now) → Type 0
-  Stays again = (now : Now) (o : Operation) → Said k now → Said k (again now o)
+  -- what an operation comes to keeps it, whether it acts again or not
+  abbrev Leads : Next → Type 0
+  Leads (Rests now) = Said k now
+  Leads (ActsAgain now o) = Said k now
 
   -- ---- reads that begin
 
-  begins_read_it : (again : Now → Operation → Now) → Stays again → (now : Now) (o : Operation) (group : GroupId) (message : Option Enter) (asked : List ℕ) → Said k now → Said k (begins_read s again now o group message asked)
-  begins_read_it again more now o group message asked h = more _ _ (sends_it now (read_begun s now o group asked).sends h)
+  begins_read_it : (now : Now) (o : Operation) (group : GroupId) (message : Option Enter) (asked : List ℕ) → Said k now → Leads (begins_read s now o group message asked)
+  begins_read_it now o group message asked h = sends_it now (read_begun s now o group asked).sends h
 
-  picks_message_it : (again : Now → Operation → Now) → Stays again → (now : Now) (o : Operation) (asked : List ℕ) (one : Option Posted) → Said k now → Said k (picks_message s again now o asked one)
-  picks_message_it again more now o asked None h = ends_it now o.id _ (marks_fit now) h
-  picks_message_it again more now o asked (Some one) h = begins_read_it again more now o one.to (Some one.message) asked h
+  picks_message_it : (now : Now) (o : Operation) (asked : List ℕ) (one : Option Posted) → Said k now → Leads (picks_message s now o asked one)
+  picks_message_it now o asked None h = ends_it now o.id _ (marks_fit now) h
+  picks_message_it now o asked (Some one) h = begins_read_it now o one.to (Some one.message) asked h
 
-  picks_group_it : (again : Now → Operation → Now) → Stays again → (now : Now) (o : Operation) (asked : List ℕ) (one : Option GroupId) → Said k now → Said k (picks_group s again now o asked one)
-  picks_group_it again more now o asked None h = ends_it now o.id _ (marks_fit now) h
-  picks_group_it again more now o asked (Some group) h = begins_read_it again more now o group None asked h
+  picks_group_it : (now : Now) (o : Operation) (asked : List ℕ) (one : Option GroupId) → Said k now → Leads (picks_group s now o asked one)
+  picks_group_it now o asked None h = ends_it now o.id _ (marks_fit now) h
+  picks_group_it now o asked (Some group) h = begins_read_it now o group None asked h
 
   -- ---- what ends and what proposes
 
@@ -135,25 +138,25 @@ module _ (s : Setting) where
   sealed_it now o group r p (Ok done) w h = proposes_it now o group r p (entry_of_done o.id done) (Replies done.replies) h
 
   batch_it : (now : Now) (o : Operation) (group : GroupId) (r : Reading) (p : ℕ) (b : Batch) → AreWords b.results → Said k now → Said k (batch_sealed s now o group r p b)
-  batch_it now o group r p b w h = by (list_any is_taken b.results) refl
+  batch_it now o group r p b w h = by (list_any is_ok b.results) refl
     where
-      by : (t : Bool) → list_any is_taken b.results ≡ t → Said k (cond t (proposes s now o group r p (entry_of_batch o.id b) (Results b.results)) (ends now o.id (AllTurned b.results)))
+      by : (t : Bool) → list_any is_ok b.results ≡ t → Said k (cond t (proposes s now o group r p (entry_of_batch o.id b) (Results b.results)) (ends now o.id (AllTurned b.results)))
       by true is = proposes_it now o group r p (entry_of_batch o.id b) (Results b.results) h
       by false is = ends_it now o.id (AllTurned b.results) (all_refused b.results w is) h
 
-  full_it : (now : Now) (o : Operation) (p : ℕ) (next : Now) → Said k now → Said k next → Said k (unless_full s now o p next)
-  full_it now o p next h then = either (Said k) (nat_le (s.cluster.limit).0 p) (ends now o.id (LogFull (record { 0 = p }))) next (ends_it now o.id (LogFull (record { 0 = p })) tt h) then
+  full_it : (now : Now) (o : Operation) (p : ℕ) (next : Next) → Said k now → Leads next → Leads (unless_full s now o p next)
+  full_it now o p next h then = either Leads (nat_le (s.cluster.limit).0 p) (Rests (ends now o.id (LogFull (record { 0 = p })))) next (ends_it now o.id (LogFull (record { 0 = p })) tt h) then
 
-  enters_it : (again : Now → Operation → Now) → Stays again → (now : Now) (o : Operation) (group : GroupId) (r : Reading) (p : ℕ) (message : Option Enter) → Said k now → Said k (enters s again now o group r p message)
-  enters_it again more now o group r p None h = picks_message_it again more now o (asked_by r) (next_to_enter o.id (applied_logs now)) h
-  enters_it again more now o group r p (Some message) h =
-      either (Said k) (is_named message.name (names_entered (take p (log_of now.met group)))) _ _
-      (picks_message_it again more now o (asked_by r) (next_to_enter o.id (applied_logs now)) h) (proposes_it now o group r p (enter_entry o.id message) (Replies []) h)
+  enters_it : (now : Now) (o : Operation) (group : GroupId) (r : Reading) (p : ℕ) (message : Option Enter) → Said k now → Leads (enters s now o group r p message)
+  enters_it now o group r p None h = picks_message_it now o (asked_by r) (next_to_enter o.id (applied_logs now)) h
+  enters_it now o group r p (Some message) h =
+      either Leads (is_named message.name (names_entered (take p (log_of now.met group)))) _ _
+      (picks_message_it now o (asked_by r) (next_to_enter o.id (applied_logs now)) h) (proposes_it now o group r p (enter_entry o.id message) (Replies []) h)
 
-  handles_it : (again : Now → Operation → Now) → Stays again → (now : Now) (o : Operation) (group : GroupId) (r : Reading) (p : ℕ) (message : Option Enter) → Said k now → Said k (handles s again now o group r p message)
-  handles_it again more now o group r p None h = picks_group_it again more now o (asked_by r) (next_to_handle (applied_logs now)) h
-  handles_it again more now o group r p (Some message) h =
-      either (Said k) (has s.handlers message.queue) _ _
+  handles_it : (now : Now) (o : Operation) (group : GroupId) (r : Reading) (p : ℕ) (message : Option Enter) → Said k now → Leads (handles s now o group r p message)
+  handles_it now o group r p None h = picks_group_it now o (asked_by r) (next_to_handle (applied_logs now)) h
+  handles_it now o group r p (Some message) h =
+      either Leads (has s.handlers message.queue) _ _
       (proposes_it now o group r p (handling s o.id group message (table_rows s.cluster.schema group (listed_at now group p))) (Replies []) h) (ends_it now o.id (NoHandler message.queue) tt h)
 
   -- ---- reads and finds
@@ -173,40 +176,42 @@ module _ (s : Setting) where
     abbrev one : Request → Phase → Operation
     one request phase = record { id = id; request = request; began = began; visited = visited; message = message; phase = phase }
 
-    finishes_it : (again : Now → Operation → Now) → Stays again → (now : Now) (request : Request) (phase : Phase) (group : GroupId) (r : Reading) (p : ℕ) → Said k now → Said k (finishes s again now (one request phase) group r p)
-    finishes_it again more now (Txn transaction) phase group r p h =
+    finishes_it : (now : Now) (request : Request) (phase : Phase) (group : GroupId) (r : Reading) (p : ℕ) → Said k now → Leads (finishes s now (one request phase) group r p)
+    finishes_it now (Txn transaction) phase group r p h =
         full_it now (one (Txn transaction) phase) p _ h (sealed_it now (one (Txn transaction) phase) group r p (outcome s.cluster.schema transaction (rows_at now group p)) (outcome_words s.cluster.schema transaction (rows_at now group p)) h)
-    finishes_it again more now (BatchRequest own transactions) phase group r p h =
+    finishes_it now (BatchRequest own transactions) phase group r p h =
         full_it now (one (BatchRequest own transactions) phase) p _ h (batch_it now (one (BatchRequest own transactions) phase) group r p (batch_outcome s.cluster.schema own transactions (rows_at now group p)) (batch_words s.cluster.schema own transactions (rows_at now group p)) h)
-    finishes_it again more now (ReadRequested request) phase group r p h = ends_it now id _ (read_fit request p (rows_at now group p) (listed_at now group p)) h
-    finishes_it again more now (Find request) phase group r p h = ends_it now id _ (local_fit s.cluster.schema request p (listed_at now group p)) h
-    finishes_it again more now PumpEnter phase group r p h = full_it now (one PumpEnter phase) p _ h (enters_it again more now (one PumpEnter phase) group r p message h)
-    finishes_it again more now PumpHandle phase group r p h =
-        full_it now (one PumpHandle phase) p _ h (handles_it again more now (one PumpHandle phase) group r p (oldest_unhandled (take p (log_of now.met group))) h)
-    finishes_it again more now Refresh phase group r p h = keeps_it now (one Refresh phase) h
+    finishes_it now (ReadRequested request) phase group r p h = ends_it now id _ (read_fit request p (rows_at now group p) (listed_at now group p)) h
+    finishes_it now (Find request) phase group r p h = ends_it now id _ (local_fit s.cluster.schema request p (listed_at now group p)) h
+    finishes_it now PumpEnter phase group r p h = full_it now (one PumpEnter phase) p _ h (enters_it now (one PumpEnter phase) group r p message h)
+    finishes_it now PumpHandle phase group r p h =
+        full_it now (one PumpHandle phase) p _ h (handles_it now (one PumpHandle phase) group r p (oldest_unhandled (take p (log_of now.met group))) h)
+    finishes_it now Refresh phase group r p h = keeps_it now (one Refresh phase) h
 
-  reads_on_it : (again : Now → Operation → Now) → Stays again → (now : Now) (o : Operation) (group : GroupId) (noted : Option Epoch) (asked : List ℕ) (stage : Stage) → Said k now
-      → Said k (reads_on s again now o group (record { noted = noted; asked = asked; stage = stage }))
-  reads_on_it again more now o group noted asked (Polling heard best at) h = keeps_it now o h
-  reads_on_it again more now o group noted asked (Catching p search) h =
-      either (Said k) (nat_le p (prefix_of now.met group)) _ _
-      (finishes_it o.id o.began o.visited o.message again more (completes_read s now group (record { noted = noted; asked = asked; stage = Catching p search }) p) o.request o.phase group (record { noted = noted; asked = asked; stage = Catching p search }) p
+  reads_on_it : (now : Now) (o : Operation) (group : GroupId) (noted : Option Epoch) (asked : List ℕ) (stage : Stage) → Said k now
+      → Leads (reads_on s now o group (record { noted = noted; asked = asked; stage = stage }))
+  reads_on_it now o group noted asked (Polling heard best at) h = keeps_it now o h
+  reads_on_it now o group noted asked (Catching p search) h =
+      either Leads (nat_le p (prefix_of now.met group)) _ _
+      (finishes_it o.id o.began o.visited o.message (completes_read s now group (record { noted = noted; asked = asked; stage = Catching p search }) p) o.request o.phase group (record { noted = noted; asked = asked; stage = Catching p search }) p
       (completes_it now group (record { noted = noted; asked = asked; stage = Catching p search }) p h))
       (keeps_it _ _ (sends_it now _ h))
 
-  acts_it : (again : Now → Operation → Now) → Stays again → (now : Now) (id : OpId) (request : Request) (began : ℕ) (visited : List GroupId) (message : Option Enter) (phase : Phase) → Said k now
-      → Said k (acts s again now (record { id = id; request = request; began = began; visited = visited; message = message; phase = phase }))
-  acts_it again more now id request began visited message (Reads group r) h =
-      reads_on_it again more now (record { id = id; request = request; began = began; visited = visited; message = message; phase = Reads group r }) group r.noted r.asked r.stage h
-  acts_it again more now id request began visited message (Proposes group n asked proposal promised) h =
+  acts_it : (now : Now) (id : OpId) (request : Request) (began : ℕ) (visited : List GroupId) (message : Option Enter) (phase : Phase) → Said k now
+      → Leads (acts s now (record { id = id; request = request; began = began; visited = visited; message = message; phase = phase }))
+  acts_it now id request began visited message (Reads group r) h =
+      reads_on_it now (record { id = id; request = request; began = began; visited = visited; message = message; phase = Reads group r }) group r.noted r.asked r.stage h
+  acts_it now id request began visited message (Proposes group n asked proposal promised) h =
       unless_decided_it now (record { id = id; request = request; began = began; visited = visited; message = message; phase = Proposes group n asked proposal promised }) n promised (decided now.met group n) h
 
-  acts_within_it : (most : ℕ) → Stays (acts_within most s)
-  acts_within_it zero now o h = keeps_it now o h
-  acts_within_it (suc most) now o h = acts_it (acts_within most s) (acts_within_it most) now o.id o.request o.began o.visited o.message o.phase h
+  -- until it rests
+  rests_within_it : (most : ℕ) (next : Next) → Leads next → Said k (rests_within most s next)
+  rests_within_it most (Rests now) h = h
+  rests_within_it zero (ActsAgain now o) h = keeps_it now o h
+  rests_within_it (suc most) (ActsAgain now o) h = rests_within_it most (acts s now o) (acts_it now o.id o.request o.began o.visited o.message o.phase h)
 
-  goes_on_it : Stays (goes_on s)
-  goes_on_it now o h = acts_within_it (length (groups_of now.met) + 2) now o h
+  goes_on_it : (now : Now) (o : Operation) → Said k now → Said k (goes_on s now o)
+  goes_on_it now o h = rests_within_it (length (groups_of now.met) + 2) (ActsAgain now o) h
 
   all_act_it : (ts : List Heard) (now : Now) → Said k now → Said k (all_act s now ts)
   all_act_it [] now h = h
@@ -224,29 +229,29 @@ module _ (s : Setting) where
 
   -- ---- beginnings
 
-  read_begins_it : (now : Now) (o : Operation) (request : ReadRequest) (mode : Mode) → Said k now → Said k (read_begins s now o request mode)
-  read_begins_it now o request Current h = begins_read_it (goes_on s) goes_on_it now o request.group None [] h
+  read_begins_it : (now : Now) (o : Operation) (request : ReadRequest) (mode : Mode) → Said k now → Leads (read_begins s now o request mode)
+  read_begins_it now o request Current h = begins_read_it now o request.group None [] h
   read_begins_it now o request Snapshot h = ends_it now o.id _ (read_fit request _ _ _) h
   read_begins_it now o request Inconsistent h = ends_it now o.id _ (read_fit request _ _ _) h
 
-  local_find_it : (now : Now) (o : Operation) (request : FindRequest) (group : GroupId) (mode : Mode) → Said k now → Said k (local_find_begins s now o request group mode)
-  local_find_it now o request group Current h = begins_read_it (goes_on s) goes_on_it now o group None [] h
+  local_find_it : (now : Now) (o : Operation) (request : FindRequest) (group : GroupId) (mode : Mode) → Said k now → Leads (local_find_begins s now o request group mode)
+  local_find_it now o request group Current h = begins_read_it now o group None [] h
   local_find_it now o request group Snapshot h = ends_it now o.id _ (local_fit s.cluster.schema request (applied_position now group) (snapshot_listed now group)) h
   local_find_it now o request group Inconsistent h = ends_it now o.id _ (local_fit s.cluster.schema request (applied_position now group) (stored_listed now group)) h
 
-  find_begins_it : (now : Now) (o : Operation) (request : FindRequest) (group : Option GroupId) → Said k now → Said k (find_begins s now o request group)
+  find_begins_it : (now : Now) (o : Operation) (request : FindRequest) (group : Option GroupId) → Said k now → Leads (find_begins s now o request group)
   find_begins_it now o request None h = ends_it now o.id _ (global_fit s.cluster.schema now.met request h.marks) h
   find_begins_it now o request (Some group) h = local_find_it now o request group request.mode h
 
-  begins_it : (now : Now) (id : OpId) (request : Request) (began : ℕ) (visited : List GroupId) (message : Option Enter) (phase : Phase) → Said k now
-      → Said k (begins s now (record { id = id; request = request; began = began; visited = visited; message = message; phase = phase }))
-  begins_it now id (Txn transaction) began visited message phase h = begins_read_it (goes_on s) goes_on_it now (record { id = id; request = Txn transaction; began = began; visited = visited; message = message; phase = phase }) transaction.group None [] h
-  begins_it now id (BatchRequest group transactions) began visited message phase h = begins_read_it (goes_on s) goes_on_it now (record { id = id; request = BatchRequest group transactions; began = began; visited = visited; message = message; phase = phase }) group None [] h
-  begins_it now id (ReadRequested request) began visited message phase h = read_begins_it now (record { id = id; request = ReadRequested request; began = began; visited = visited; message = message; phase = phase }) request request.mode h
-  begins_it now id (Find request) began visited message phase h = find_begins_it now (record { id = id; request = Find request; began = began; visited = visited; message = message; phase = phase }) request request.group h
-  begins_it now id PumpEnter began visited message phase h = picks_message_it (goes_on s) goes_on_it now (record { id = id; request = PumpEnter; began = began; visited = visited; message = message; phase = phase }) [] (next_to_enter id (applied_logs now)) h
-  begins_it now id PumpHandle began visited message phase h = picks_group_it (goes_on s) goes_on_it now (record { id = id; request = PumpHandle; began = began; visited = visited; message = message; phase = phase }) [] (next_to_handle (applied_logs now)) h
-  begins_it now id Refresh began visited message phase h = ends_it now id _ (marks_fit now) h
+  first_it : (now : Now) (id : OpId) (request : Request) (began : ℕ) (visited : List GroupId) (message : Option Enter) (phase : Phase) → Said k now
+      → Leads (acts_first s now (record { id = id; request = request; began = began; visited = visited; message = message; phase = phase }))
+  first_it now id (Txn transaction) began visited message phase h = begins_read_it now (record { id = id; request = Txn transaction; began = began; visited = visited; message = message; phase = phase }) transaction.group None [] h
+  first_it now id (BatchRequest group transactions) began visited message phase h = begins_read_it now (record { id = id; request = BatchRequest group transactions; began = began; visited = visited; message = message; phase = phase }) group None [] h
+  first_it now id (ReadRequested request) began visited message phase h = read_begins_it now (record { id = id; request = ReadRequested request; began = began; visited = visited; message = message; phase = phase }) request request.mode h
+  first_it now id (Find request) began visited message phase h = find_begins_it now (record { id = id; request = Find request; began = began; visited = visited; message = message; phase = phase }) request request.group h
+  first_it now id PumpEnter began visited message phase h = picks_message_it now (record { id = id; request = PumpEnter; began = began; visited = visited; message = message; phase = phase }) [] (next_to_enter id (applied_logs now)) h
+  first_it now id PumpHandle began visited message phase h = picks_group_it now (record { id = id; request = PumpHandle; began = began; visited = visited; message = message; phase = phase }) [] (next_to_handle (applied_logs now)) h
+  first_it now id Refresh began visited message phase h = ends_it now id _ (marks_fit now) h
 
   -- why one is refused at once
   abbrev FitsSome : Option Answer → Type 0
@@ -254,7 +259,7 @@ module _ (s : Setting) where
   FitsSome (Some answer) = IsFit k answer
 
   begun_it : (now : Now) (o : Operation) (why : Option Answer) → FitsSome why → Said k now → Said k (unless_refused s now o why)
-  begun_it now o None fit h = begins_it now o.id o.request o.began o.visited o.message o.phase h
+  begun_it now o None fit h = rests_within_it (length (groups_of now.met) + 2) (acts_first s now o) (first_it now o.id o.request o.began o.visited o.message o.phase h)
   begun_it now o (Some answer) fit h = ends_it now o.id answer fit h
 
   busy_fit : (os : List Operation) → FitsSome (unless_busy os)

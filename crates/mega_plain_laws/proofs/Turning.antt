@@ -2,6 +2,7 @@
 use Rattle.std.proofs.Common.{◌≡◌, ◌||◌, ◌&&◌, ℕ, ◌+◌, nat_lt, not, Bool, true, false, cond, List, [], ◌∷◌, ◌++◌, fold, ℤ, Option, Some, None, Result, Ok, Err}
 use Rattle.std.specs.Prelude.{is_none, is_some, ◌+ℤ◌}
 use Rattle.std.specs.List.{AllByRecursion, list_any}
+use Rattle.std.specs.Result.{is_ok}
 use Rattle.mega_base.specs.declared.names.GroupId.{GroupId}
 use Rattle.mega_base.specs.declared.values.Kind.{Kind}
 use Rattle.mega_base.specs.declared.values.Row.{Row}
@@ -31,7 +32,6 @@ use Rattle.mega_outcome.specs.Checks.{all_checks, check, has_values, holds, may_
 use Rattle.mega_outcome.specs.Outcome.{all_sends, batch_length, batch_outcome, first_change, first_read, first_send, left_out, longest, no_batch, outcome, outcome_in, taken, with_next, with_result}
 use Rattle.mega_outcome.specs.Places.{◌>>=◌, key_in, key_in_table, placed, row_in, spelled}
 use Rattle.mega_outcome.specs.Reads.{all_reads, read, read_rows}
-use Rattle.mega_rules.specs.Acting.{is_taken}
 use Rattle.mega_format_laws.proofs.Each.{either}
 use Rattle.mega_plain_laws.specs.Answers.{AreRefused, IsRefused, IsWord}
 
@@ -180,7 +180,7 @@ pub batch_words : (s : Schema) (group : GroupId) (txns : List Transaction) (rows
 batch_words s group txns rows = all_words s group.key rows txns no_batch tt
 
 -- where none is taken
-one_refused : (one : Result (List (Option Shown)) Turn) (rest : Bool) → Words one → (is_taken one || rest) ≡ false → IsRefused one
+one_refused : (one : Result (List (Option Shown)) Turn) (rest : Bool) → Words one → (is_ok one || rest) ≡ false → IsRefused one
 one_refused (Ok replies) rest w none = cc
 one_refused (Err turn) rest w none = w
 
@@ -188,6 +188,6 @@ rest_refused : (a b : Bool) → (a || b) ≡ false → b ≡ false
 rest_refused true b h = cc
 rest_refused false b h = h
 
-pub all_refused : (results : List (Result (List (Option Shown)) Turn)) → AreWords results → list_any is_taken results ≡ false → AreRefused results
+pub all_refused : (results : List (Result (List (Option Shown)) Turn)) → AreWords results → list_any is_ok results ≡ false → AreRefused results
 all_refused [] w none = tt
-all_refused (one ∷ results) w none = (one_refused one (list_any is_taken results) w.0 none, all_refused results w.1 (rest_refused (is_taken one) (list_any is_taken results) none))
+all_refused (one ∷ results) w none = (one_refused one (list_any is_ok results) w.0 none, all_refused results w.1 (rest_refused (is_ok one) (list_any is_ok results) none))

@@ -3,6 +3,7 @@ use Rattle.std.specs.Prelude.{◌≡◌, ℕ, zero, suc, ◌+◌, ◌*◌, ◌/�
 use Rattle.std.specs.List.{list_any}
 use Rattle.mega_base.specs.declared.names.Epoch.{Epoch}
 pub use Rattle.mega_base.specs.ListWords.{is_empty}
+pub use Rattle.mega_outcome.specs.Naming.{names_nothing}
 use Rattle.mega_cluster.specs.declared.cluster.Cluster.{Cluster}
 use Rattle.mega_disk.specs.declared.pair.Device.{Device}
 use Rattle.mega_disk.specs.declared.pair.Device.TheVariants.{Log, Data}
@@ -10,8 +11,6 @@ use Rattle.mega_handler.specs.Named.{Meanings}
 use Rattle.mega_wire.specs.declared.message.Message.{Message}
 use Rattle.mega_wire.specs.declared.message.Body.{Body}
 use Rattle.mega_wire.specs.declared.message.Body.TheVariants.{Accepted, Promise}
-use Rattle.mega_outcome.specs.declared.request.Request.{Request}
-use Rattle.mega_outcome.specs.declared.request.Request.TheVariants.{Txn, Batch, Read, Find}
 use Rattle.mega_coordinator.specs.Lease.{counted_by}
 use Rattle.mega_coordinator.specs.History.{epoch_after, lease_of}
 use Rattle.mega_coordinator.specs.Groups.{is_same}
@@ -338,13 +337,6 @@ after_event c h cuts now (BeginEvent node request text) =
 
 abbrev pub because : Bool → ℕ → Option ℕ → Option ℕ
 because is_broken why other = if is_broken then Some why else other
-
-abbrev pub names_nothing : Request → Bool
-names_nothing (Txn transaction) = is_empty (transaction.group).key
-names_nothing (Batch group transactions) = is_empty group.key
-names_nothing (Read request) = is_empty (request.group).key
-names_nothing (Find request) = request.index == 0 || (elim request.group [ None ↦ false | Some group ↦ is_empty group.key ])
-names_nothing _ = false
 
 abbrev pub receiver_down : Standing → Option Message → Bool
 receiver_down now None = false

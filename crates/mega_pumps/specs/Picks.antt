@@ -3,7 +3,7 @@ use Rattle.std.specs.Prelude.{ℕ, List, Option, Some, None}
 use Rattle.mega_base.specs.declared.names.GroupId.{GroupId}
 use Rattle.mega_rules.specs.Queues.{Posted}
 use Rattle.mega_rules.specs.Operations.{Now, Operation, Setting}
-use Rattle.mega_rules.specs.Acting.{begins_read, has_nothing}
+use Rattle.mega_rules.specs.Acting.{Next, begins_read, has_nothing}
 use Rattle.mega_pumps.specs.declared.picking.Picked.{Picked}
 
 abbrev pub picked_message : Option Posted → Option Picked
@@ -15,6 +15,6 @@ picked_group None = None
 picked_group (Some group) = Some (record { group = group; message = None })
 
 -- a pump serves what it picked, and ends where that is nothing
-abbrev pub serves : Setting → (Now → Operation → Now) → Now → Operation → List ℕ → Option Picked → Now
-serves s again now o asked None = has_nothing now o
-serves s again now o asked (Some picked) = begins_read s again now o picked.group picked.message asked
+abbrev pub serves : Setting → Now → Operation → List ℕ → Option Picked → Next
+serves s now o asked None = has_nothing now o
+serves s now o asked (Some picked) = begins_read s now o picked.group picked.message asked

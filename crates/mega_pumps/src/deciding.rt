@@ -1,12 +1,12 @@
 //! What a pump does whose read of a group is complete.
-ghost use Rattle.std.specs.Prelude.{◌≡◌, ◌≤◌, true, false, take, IfOk};
+ghost use Rattle.std.specs.Prelude.{◌≡◌, ◌≤◌, true, false, take, IfOk, Some};
 ghost use Rattle.std.specs.Option.{option_copied};
 ghost use Rattle.std.specs.Result.{result_err};
 ghost use Rattle.mega_meanings.specs.Means.{Means};
 ghost use Rattle.mega_outcome.specs.Answers.{rows_at};
 ghost use Rattle.mega_outcome.specs.Looks.{Looks};
 ghost use Rattle.mega_read.specs.declared.reading.Reading.{Reading};
-ghost use Rattle.mega_rules.specs.Acting.{enters, handles, handles_message, listed_at};
+ghost use Rattle.mega_rules.specs.Acting.{enters, handles, listed_at};
 ghost use Rattle.mega_rules.specs.Logs.{log_of, prefix_of};
 ghost use Rattle.mega_rules.specs.Operations.{Now, Operation, Setting};
 ghost use Rattle.mega_rules.specs.Queues.{enter_entry, oldest_unhandled};
@@ -59,8 +59,8 @@ pub fn enters<R: Records>(
     through: u64,
     message: Option<&Enter>,
 ) -> Result<Own, NoMemory>
-    ensures { IfOk result (λ own. (s : Setting) (again : Now → Operation → Now) (now : Now) (o : Operation) (r : Reading) → Tells voter.now.logs.kept now.met → HasNoted voter.now.logs.kept digest.now →
-        through ≤ prefix_of now.met group.now → o.id ≡ op → own_by true s again now o group.now r through own ≡ enters s again now o group.now r through (option_copied message.entry)) }
+    ensures { IfOk result (λ own. (s : Setting) (now : Now) (o : Operation) (r : Reading) → Tells voter.now.logs.kept now.met → HasNoted voter.now.logs.kept digest.now →
+        through ≤ prefix_of now.met group.now → o.id ≡ op → own_by true s now o group.now r through own ≡ enters s now o group.now r through (option_copied message.entry)) }
 {
     match message {
         Some(message) => {
@@ -94,9 +94,9 @@ fn handles_message<V: Versions, H: QueueHandlers>(
     through: u64,
     message: &Enter,
 ) -> Result<Own, StoreError>
-    ensures own { V.is_told ≡ true → IfOk result (λ own. (s : Setting) (again : Now → Operation → Now) (now : Now) (o : Operation) (r : Reading) → Means (H.meant handlers.old) s.handlers → s.cluster.schema ≡ schema.now →
+    ensures own { V.is_told ≡ true → IfOk result (λ own. (s : Setting) (now : Now) (o : Operation) (r : Reading) → Means (H.meant handlers.old) s.handlers → s.cluster.schema ≡ schema.now →
         Shows schema.now group.now (rows_at (V.version rows.old) through) (listed_at now group.now through) → o.id ≡ op →
-        own_by false s again now o group.now r through own ≡ handles_message s now o group.now r through message.now) }
+        own_by false s now o group.now r through own ≡ handles s now o group.now r through (Some message.now)) }
     ensures looks { Looks V.Versions (result_err result) rows.old rows.new }
     ensures handlers { H.meant handlers.new ≡ H.meant handlers.old }
 {
@@ -130,10 +130,10 @@ pub fn handles<R: Records, V: Versions, H: QueueHandlers>(
     group: &GroupId,
     through: u64,
 ) -> Result<Own, StoreError>
-    ensures own { V.is_told ≡ true → IfOk result (λ own. (s : Setting) (again : Now → Operation → Now) (now : Now) (o : Operation) (r : Reading) → Means (H.meant handlers.old) s.handlers → s.cluster.schema ≡ schema.now →
+    ensures own { V.is_told ≡ true → IfOk result (λ own. (s : Setting) (now : Now) (o : Operation) (r : Reading) → Means (H.meant handlers.old) s.handlers → s.cluster.schema ≡ schema.now →
         Tells voter.now.logs.kept now.met → HasNoted voter.now.logs.kept digest.now → through ≤ prefix_of now.met group.now →
         Shows schema.now group.now (rows_at (V.version rows.old) through) (listed_at now group.now through) → o.id ≡ op →
-        own_by false s again now o group.now r through own ≡ handles s again now o group.now r through (oldest_unhandled (take through (log_of now.met group.now)))) }
+        own_by false s now o group.now r through own ≡ handles s now o group.now r through (oldest_unhandled (take through (log_of now.met group.now)))) }
     ensures looks { Looks V.Versions (result_err result) rows.old rows.new }
     ensures handlers { H.meant handlers.new ≡ H.meant handlers.old }
 {

@@ -5,7 +5,7 @@ ghost use Rattle.mega_handler.specs.Named.{Meanings};
 ghost use Rattle.mega_leases.specs.Tells.{Tells as TellsLeases};
 ghost use Rattle.mega_operations.specs.Whole.{whole};
 ghost use Rattle.mega_rules.specs.Operations.{Now, Operation as Open, Phase as OpenPhase};
-ghost use Rattle.mega_rules.specs.Acting.{begins_read, read_begun, sends_more, visiting};
+ghost use Rattle.mega_rules.specs.Acting.{ActsAgain, begins_read, read_begun, sends_more, visiting};
 ghost use Rattle.mega_voter.specs.Telling.{Tells};
 ghost use Rattle.mega_wal.specs.Same.{same_group};
 
@@ -132,8 +132,8 @@ pub fn visits<R: Records>(
     asked: Items<u8>,
 ) -> Result<Heard, NoMemory>
     ensures request { IfOk result (λ heard. heard.operation.request ≡ kept.request) }
-    ensures begins { IfOk result (λ heard. (me : _) (h : Meanings) (now : Now) (again : Now → Open → Now) (phase : OpenPhase) → Tells voter.now.logs.kept now.met → TellsLeases members.now me leases.now now.met →
-        begins_read (record { cluster = members.now; me = me; handlers = h }) again now (whole kept phase) picked.group picked.message asked ≡ again (sends_more now heard.sends) heard.operation) }
+    ensures begins { IfOk result (λ heard. (me : _) (h : Meanings) (now : Now) (phase : OpenPhase) → Tells voter.now.logs.kept now.met → TellsLeases members.now me leases.now now.met →
+        begins_read (record { cluster = members.now; me = me; handlers = h }) now (whole kept phase) picked.group picked.message asked ≡ ActsAgain (sends_more now heard.sends) heard.operation) }
 {
     match visit_of(alloc, members, voter, leases, &kept, &picked.group, asked) {
         Ok(visit) => Ok(visiting(kept, picked, visit)),

@@ -6,19 +6,13 @@ use Rattle.mega_base.specs.declared.names.GroupId.{GroupId}
 use Rattle.mega_entry.specs.declared.content.Content.{Content}
 use Rattle.mega_wal.specs.declared.item.JournalItem.{JournalItem}
 use Rattle.mega_wal.specs.declared.item.JournalItem.TheVariants.{Start, Promise, Accept, Decide, Grant, Lapse, Starts}
-use Rattle.mega_wal.specs.History.{climb, decided_of, first_of, is_place, newest_of, prefix_of}
+use Rattle.mega_base.proofs.Climbs.{climb_up}
+use Rattle.mega_base.specs.Climbing.{climb}
+use Rattle.mega_wal.specs.History.{decided_of, first_of, is_place, newest_of, prefix_of}
 use Rattle.mega_wal.specs.Same.{same_group}
 use Rattle.mega_replica.specs.Stored.{entries_from, log_in, then_more}
 
 -- ---- climbing
-
-climb_up : (test : ℕ → Bool) (steps from : ℕ) → from ≤ climb test steps from
-climb_up test zero from = omega arith
-climb_up test (suc steps) from = by (test (suc from)) (climb_up test steps (suc from))
-  where
-    by : (here : Bool) → suc from ≤ climb test steps (suc from) → from ≤ cond here (climb test steps (suc from)) from
-    by true le = omega (arith, le)
-    by false le = omega arith
 
 climb_more : (test more : ℕ → Bool) → ((n : ℕ) → test n ≡ true → more n ≡ true) → (steps further from : ℕ) → steps ≤ further → climb test steps from ≤ climb more further from
 climb_more test more wider zero further from le = climb_up more further from

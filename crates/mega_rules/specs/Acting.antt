@@ -63,6 +63,11 @@ sends_more now sends = record now { sends = now.sends ++ sends }
 abbrev pub in_phase : Operation → Phase → Operation
 in_phase o phase = record o { phase = phase }
 
+-- what an operation comes to as it acts: it rests, since it ended or stays open, or it began to read a group and acts again in this step
+pub data Next : Type 0 where
+  Rests : (now : Now) → Next
+  ActsAgain : (now : Now) (operation : Operation) → Next
+
 -- the logs of a node as far as they are applied, in order of group, and the positions of those that are not empty
 abbrev pub applied_in : Now → GroupId → Log
 applied_in now group = record { group = group; entries = applied_log (log_of now.met group) (now.stored group) }
@@ -134,20 +139,16 @@ validates s now group p (Some noted) = validated_by now group p (refused_at s.cl
 
 abbrev pub completes_read : Setting → Now → GroupId → Reading → ℕ → Now
 completes_read s now group r p =
-    validates s (record now { stored = stored_with now.stored group (after_read p (log_of now.met group) (now.stored group)) })
-    group p r.noted
+    validates s (record now { stored = stored_with now.stored group (after_read p (log_of now.met group) (now.stored group)) }) group p r.noted
 
 -- a transaction's outcome on the rows through which it read (CIDR 2011, transactions)
 abbrev pub sealed : Setting → Now → Operation → GroupId → Reading → ℕ → Result Done Turn → Now
 sealed s now o group r p (Err turn) = ends now o.id (Turned turn)
 sealed s now o group r p (Ok done) = proposes s now o group r p (entry_of_done o.id done) (Replies done.replies)
 
-abbrev pub is_taken : Result (List (Option Shown)) Turn → Bool
-is_taken result = is_ok result
-
 abbrev pub batch_sealed : Setting → Now → Operation → GroupId → Reading → ℕ → Batch → Now
 batch_sealed s now o group r p b =
-    if list_any is_taken b.results
+    if list_any is_ok b.results
     then proposes s now o group r p (entry_of_batch o.id b) (Results b.results)
     else ends now o.id (AllTurned b.results)
 
@@ -163,8 +164,8 @@ read_answer s request p rows listed = elim request.rows [
 ]
 
 -- a log that has reached its limit takes no further entry
-abbrev pub unless_full : Setting → Now → Operation → ℕ → Now → Now
-unless_full s now o p going_on = if nat_le (s.cluster.limit).0 p then ends now o.id (LogFull (record { 0 = p })) else going_on
+abbrev pub unless_full : Setting → Now → Operation → ℕ → Next → Next
+unless_full s now o p going_on = if nat_le (s.cluster.limit).0 p then Rests (ends now o.id (LogFull (record { 0 = p }))) else going_on
 
 -- the rows of a group's tables: index entries and keys of no table are none of them
 abbrev pub table_rows : Schema → GroupId → Listed → Listed
@@ -191,85 +192,80 @@ read_begun s now o group asked =
 abbrev pub visiting : Operation → GroupId → Option Enter → ReadMove → Operation
 visiting o group message t = record o { visited = o.visited ++ group ∷ []; message = message; phase = Reads group t.reading }
 
-abbrev pub reads_group : Setting → (Now → Operation → Now) → Now → Operation → GroupId → Option Enter → ReadMove → Now
-reads_group s again now o group message t = again (sends_more now t.sends) (visiting o group message t)
-
-abbrev pub begins_read : Setting → (Now → Operation → Now) → Now → Operation → GroupId → Option Enter → List ℕ → Now
-begins_read s again now o group message asked = reads_group s again now o group message (read_begun s now o group asked)
+abbrev pub begins_read : Setting → Now → Operation → GroupId → Option Enter → List ℕ → Next
+begins_read s now o group message asked = let t = read_begun s now o group asked in ActsAgain (sends_more now t.sends) (visiting o group message t)
 
 -- a pump picks the message, or the group, that it is to serve, and ends where there is none
-abbrev pub has_nothing : Now → Operation → Now
-has_nothing now o = ends now o.id (NothingToDo (applied_marks now))
+abbrev pub has_nothing : Now → Operation → Next
+has_nothing now o = Rests (ends now o.id (NothingToDo (applied_marks now)))
 
-abbrev pub picks_message : Setting → (Now → Operation → Now) → Now → Operation → List ℕ → Option Posted → Now
-picks_message s again now o asked None = has_nothing now o
-picks_message s again now o asked (Some one) = begins_read s again now o one.to (Some one.message) asked
+abbrev pub picks_message : Setting → Now → Operation → List ℕ → Option Posted → Next
+picks_message s now o asked None = has_nothing now o
+picks_message s now o asked (Some one) = begins_read s now o one.to (Some one.message) asked
 
-abbrev pub picks_group : Setting → (Now → Operation → Now) → Now → Operation → List ℕ → Option GroupId → Now
-picks_group s again now o asked None = has_nothing now o
-picks_group s again now o asked (Some group) = begins_read s again now o group None asked
+abbrev pub picks_group : Setting → Now → Operation → List ℕ → Option GroupId → Next
+picks_group s now o asked None = has_nothing now o
+picks_group s now o asked (Some group) = begins_read s now o group None asked
 
-abbrev pub picks_to_enter : Setting → (Now → Operation → Now) → Now → Operation → List ℕ → Now
-picks_to_enter s again now o asked = picks_message s again now o asked (next_to_enter o.id (applied_logs now))
+abbrev pub picks_to_enter : Setting → Now → Operation → List ℕ → Next
+picks_to_enter s now o asked = picks_message s now o asked (next_to_enter o.id (applied_logs now))
 
-abbrev pub picks_to_handle : Setting → (Now → Operation → Now) → Now → Operation → List ℕ → Now
-picks_to_handle s again now o asked = picks_group s again now o asked (next_to_handle (applied_logs now))
+abbrev pub picks_to_handle : Setting → Now → Operation → List ℕ → Next
+picks_to_handle s now o asked = picks_group s now o asked (next_to_handle (applied_logs now))
 
 -- a pump that enters: its message, unless it is entered through the position already, and then it picks again
-abbrev pub enters : Setting → (Now → Operation → Now) → Now → Operation → GroupId → Reading → ℕ → Option Enter → Now
-enters s again now o group r p None = picks_to_enter s again now o (asked_by r)
-enters s again now o group r p (Some message) =
+abbrev pub enters : Setting → Now → Operation → GroupId → Reading → ℕ → Option Enter → Next
+enters s now o group r p None = picks_to_enter s now o (asked_by r)
+enters s now o group r p (Some message) =
     if is_named message.name (names_entered (take p (log_of now.met group)))
-    then picks_to_enter s again now o (asked_by r)
-    else proposes s now o group r p (enter_entry o.id message) (Replies [])
+    then picks_to_enter s now o (asked_by r)
+    else Rests (proposes s now o group r p (enter_entry o.id message) (Replies []))
 
 -- a pump that handles: the group's oldest message that is not handled, if its queue has a handler; where there is none left it picks again
-abbrev pub handles_message : Setting → Now → Operation → GroupId → Reading → ℕ → Enter → Now
-handles_message s now o group r p message =
+abbrev pub handles : Setting → Now → Operation → GroupId → Reading → ℕ → Option Enter → Next
+handles s now o group r p None = picks_to_handle s now o (asked_by r)
+handles s now o group r p (Some message) =
     if has s.handlers message.queue
-    then proposes s now o group r p (handling s o.id group message (table_rows s.cluster.schema group (listed_at now group p))) (Replies [])
-    else ends now o.id (NoHandler message.queue)
-
-abbrev pub handles : Setting → (Now → Operation → Now) → Now → Operation → GroupId → Reading → ℕ → Option Enter → Now
-handles s again now o group r p None = picks_to_handle s again now o (asked_by r)
-handles s again now o group r p (Some message) = handles_message s now o group r p message
+    then Rests (proposes s now o group r p (handling s o.id group message (table_rows s.cluster.schema group (listed_at now group p))) (Replies []))
+    else Rests (ends now o.id (NoHandler message.queue))
 
 -- what an operation does whose current read through a position is complete
-abbrev pub finishes : Setting → (Now → Operation → Now) → Now → Operation → GroupId → Reading → ℕ → Now
-finishes s again now o group r p = elim o.request [
-  | Txn transaction ↦ unless_full s now o p (sealed s now o group r p (outcome s.cluster.schema transaction (rows_at now group p)))
-  | BatchRequest own transactions ↦ unless_full s now o p (batch_sealed s now o group r p (batch_outcome s.cluster.schema own transactions (rows_at now group p)))
-  | ReadRequested request ↦ ends now o.id (read_answer s request p (rows_at now group p) (listed_at now group p))
-  | Find request ↦ ends now o.id (local_found s.cluster.schema request p (listed_at now group p))
-  | PumpEnter ↦ unless_full s now o p (enters s again now o group r p o.message)
-  | PumpHandle ↦ unless_full s now o p (handles s again now o group r p (oldest_unhandled (take p (log_of now.met group))))
-  | Refresh ↦ keeps now o
+abbrev pub finishes : Setting → Now → Operation → GroupId → Reading → ℕ → Next
+finishes s now o group r p = elim o.request [
+  | Txn transaction ↦ unless_full s now o p (Rests (sealed s now o group r p (outcome s.cluster.schema transaction (rows_at now group p))))
+  | BatchRequest own transactions ↦ unless_full s now o p (Rests (batch_sealed s now o group r p (batch_outcome s.cluster.schema own transactions (rows_at now group p))))
+  | ReadRequested request ↦ Rests (ends now o.id (read_answer s request p (rows_at now group p) (listed_at now group p)))
+  | Find request ↦ Rests (ends now o.id (local_found s.cluster.schema request p (listed_at now group p)))
+  | PumpEnter ↦ unless_full s now o p (enters s now o group r p o.message)
+  | PumpHandle ↦ unless_full s now o p (handles s now o group r p (oldest_unhandled (take p (log_of now.met group))))
+  | Refresh ↦ Rests (keeps now o)
 ]
 
 -- a read goes on once all positions through its own are decided, and else seeks the least that is not
 abbrev pub seeks_on : Operation → Now → GroupId → ReadMove → Now
 seeks_on o now group t = keeps (sends_more now t.sends) (in_phase o (Reads group t.reading))
 
-abbrev pub reads_on : Setting → (Now → Operation → Now) → Now → Operation → GroupId → Reading → Now
-reads_on s again now o group r = elim r.stage [
-  | Polling heard best sent ↦ keeps now o
+abbrev pub reads_on : Setting → Now → Operation → GroupId → Reading → Next
+reads_on s now o group r = elim r.stage [
+  | Polling heard best sent ↦ Rests (keeps now o)
   | Catching p search ↦
       if nat_le p (prefix_of now.met group)
-      then finishes s again (completes_read s now group r p) o group r p
-      else seeks_on o now group (seeks (reader_of s o.id group) r (prefix_of now.met group + 1) (clock_of now.met))
+      then finishes s (completes_read s now group r p) o group r p
+      else Rests (seeks_on o now group (seeks (reader_of s o.id group) r (prefix_of now.met group + 1) (clock_of now.met)))
 ]
 
-abbrev pub acts : Setting → (Now → Operation → Now) → Now → Operation → Now
-acts s again now o = elim o.phase [
-  | Reads group r ↦ reads_on s again now o group r
-  | Proposes group n asked proposal promised ↦ unless_decided now o n promised (decided now.met group n)
+abbrev pub acts : Setting → Now → Operation → Next
+acts s now o = elim o.phase [
+  | Reads group r ↦ reads_on s now o group r
+  | Proposes group n asked proposal promised ↦ Rests (unless_decided now o n promised (decided now.met group n))
 ]
 
--- a pump may pick again within a step, each time another group with entries that it reads locally, so at most as often as there are such
--- groups: the last case is never reached
-abbrev pub acts_within : ℕ → Setting → Now → Operation → Now
-acts_within zero s now o = keeps now o
-acts_within (suc most) s now o = acts s (acts_within most s) now o
+-- it acts until it rests. A pump may pick again within a step, each time another group with entries that it reads locally, so at most as
+-- often as there are such groups: the second case is never reached
+abbrev pub rests_within : ℕ → Setting → Next → Now
+rests_within most s (Rests now) = now
+rests_within zero s (ActsAgain now o) = keeps now o
+rests_within (suc most) s (ActsAgain now o) = rests_within most s (acts s now o)
 
 abbrev pub goes_on : Setting → Now → Operation → Now
-goes_on s now o = acts_within (length (groups_of now.met) + 2) s now o
+goes_on s now o = rests_within (length (groups_of now.met) + 2) s (ActsAgain now o)

@@ -37,7 +37,7 @@ use Rattle.mega_rules.specs.Locks.{asked_for, grant_note, lapses_at}
 use Rattle.mega_rules.specs.Coordinators.{acquires_at, grant_notes, tick_notes}
 use Rattle.mega_rules.specs.Replies.{reply_to}
 use Rattle.mega_rules.specs.Operations.{Node, Now, Operation, Promised, Proposes, Reads, Setting}
-use Rattle.mega_rules.specs.Acting.{applied_marks, begins_read, ends, goes_on, in_phase, keeps, listed_at, picks_to_enter, picks_to_handle, read_answer, reader_of, rows_at, sends_more, stored_with}
+use Rattle.mega_rules.specs.Acting.{Next, Rests, applied_marks, begins_read, ends, goes_on, in_phase, keeps, listed_at, picks_to_enter, picks_to_handle, read_answer, reader_of, rests_within, rows_at, sends_more, stored_with}
 use Rattle.mega_rules.specs.Finding.{global_found, local_found}
 
 -- what happens at a node
@@ -286,31 +286,34 @@ abbrev pub stored_listed : Now → GroupId → Listed
 stored_listed now group = list_written (stored_writes (log_of now.met group) (now.stored group)) []
 
 -- a read or a find by its mode
-abbrev pub read_begins : Setting → Now → Operation → ReadRequest → Mode → Now
-read_begins s now o request Current = begins_read s (goes_on s) now o request.group None []
-read_begins s now o request Snapshot = ends now o.id (read_answer s request (applied_position now request.group) (snapshot_rows now request.group) (snapshot_listed now request.group))
-read_begins s now o request Inconsistent = ends now o.id (read_answer s request (applied_position now request.group) (stored_rows now request.group) (stored_listed now request.group))
+abbrev pub read_begins : Setting → Now → Operation → ReadRequest → Mode → Next
+read_begins s now o request Current = begins_read s now o request.group None []
+read_begins s now o request Snapshot = Rests (ends now o.id (read_answer s request (applied_position now request.group) (snapshot_rows now request.group) (snapshot_listed now request.group)))
+read_begins s now o request Inconsistent = Rests (ends now o.id (read_answer s request (applied_position now request.group) (stored_rows now request.group) (stored_listed now request.group)))
 
-abbrev pub local_find_begins : Setting → Now → Operation → FindRequest → GroupId → Mode → Now
-local_find_begins s now o request group Current = begins_read s (goes_on s) now o group None []
-local_find_begins s now o request group Snapshot = ends now o.id (local_found s.cluster.schema request (applied_position now group) (snapshot_listed now group))
-local_find_begins s now o request group Inconsistent = ends now o.id (local_found s.cluster.schema request (applied_position now group) (stored_listed now group))
+abbrev pub local_find_begins : Setting → Now → Operation → FindRequest → GroupId → Mode → Next
+local_find_begins s now o request group Current = begins_read s now o group None []
+local_find_begins s now o request group Snapshot = Rests (ends now o.id (local_found s.cluster.schema request (applied_position now group) (snapshot_listed now group)))
+local_find_begins s now o request group Inconsistent = Rests (ends now o.id (local_found s.cluster.schema request (applied_position now group) (stored_listed now group)))
 
-abbrev pub find_begins : Setting → Now → Operation → FindRequest → Option GroupId → Now
-find_begins s now o request None = ends now o.id (global_found s.cluster.schema now.met request)
+abbrev pub find_begins : Setting → Now → Operation → FindRequest → Option GroupId → Next
+find_begins s now o request None = Rests (ends now o.id (global_found s.cluster.schema now.met request))
 find_begins s now o request (Some group) = local_find_begins s now o request group request.mode
 
 -- what an operation does in the step in which it begins
-abbrev pub begins : Setting → Now → Operation → Now
-begins s now o = elim o.request [
-  | Txn transaction ↦ begins_read s (goes_on s) now o transaction.group None []
-  | Batch group transactions ↦ begins_read s (goes_on s) now o group None []
+abbrev pub acts_first : Setting → Now → Operation → Next
+acts_first s now o = elim o.request [
+  | Txn transaction ↦ begins_read s now o transaction.group None []
+  | Batch group transactions ↦ begins_read s now o group None []
   | Read request ↦ read_begins s now o request request.mode
   | Find request ↦ find_begins s now o request request.group
-  | PumpEnter ↦ picks_to_enter s (goes_on s) now o []
-  | PumpHandle ↦ picks_to_handle s (goes_on s) now o []
-  | Refresh ↦ ends now o.id (Refreshed (applied_marks now))
+  | PumpEnter ↦ picks_to_enter s now o []
+  | PumpHandle ↦ picks_to_handle s now o []
+  | Refresh ↦ Rests (ends now o.id (Refreshed (applied_marks now)))
 ]
+
+abbrev pub begins : Setting → Now → Operation → Now
+begins s now o = rests_within (length (groups_of now.met) + 2) s (acts_first s now o)
 
 abbrev pub unless_refused : Setting → Now → Operation → Option Answer → Now
 unless_refused s now o None = begins s now o

@@ -2,6 +2,7 @@
 use Rattle.std.proofs.Common.{◌≡◌, inl, inr, ℕ, zero, suc, ◌+◌, ◌≤◌, ◌<◌, nat_le, Bool, true, false, cond, List, [], ◌∷◌, ◌++◌, take, length, Option, Some, None, Result, Ok, Err, refl, sym, ap, ◌∙◌, subst, arith}
 use Rattle.std.proofs.lemmas.Bool.Decides.{nat_tests}
 use Rattle.std.specs.List.{list_any}
+use Rattle.std.specs.Result.{is_ok}
 use Rattle.mega_base.specs.declared.names.GroupId.{GroupId}
 use Rattle.mega_base.specs.declared.names.OpId.{OpId}
 use Rattle.mega_base.specs.declared.names.Epoch.{Epoch}
@@ -41,7 +42,7 @@ use Rattle.mega_tape_laws.specs.of_rules.Coordinators.{refused_at, serves_at, va
 use Rattle.mega_tape_laws.specs.of_rules.Queues.{Posted, enter_entry, is_named, names_entered, next_to_enter, next_to_handle, oldest_unhandled}
 use Rattle.mega_index.specs.Rows.{Listed}
 use Rattle.mega_tape_laws.specs.of_rules.Operations.{Now, Operation, Phase, Promised, Proposes, Reads, Replies, Results, Setting}
-use Rattle.mega_tape_laws.specs.of_rules.Acting.{acts, acts_within, applied_logs, batch_sealed, begins_read, completes_read, ends, enters, finishes, goes_on, handles, handling, in_phase, is_taken, is_visited, keeps, leader_after, listed_at, named_leader, picks_group, picks_message, picks_to_enter, picks_to_handle, proposes, proposes_by, proposes_there, read_begun, reads_on, rows_at, sealed, seeks_on, sends_more, table_rows, unless_decided, unless_full, validated_by, validates, visiting}
+use Rattle.mega_tape_laws.specs.of_rules.Acting.{ActsAgain, Next, Rests, acts, applied_logs, batch_sealed, begins_read, completes_read, ends, enters, finishes, goes_on, handles, handling, in_phase, is_visited, keeps, leader_after, listed_at, named_leader, picks_group, picks_message, picks_to_enter, picks_to_handle, proposes, proposes_by, proposes_there, read_begun, reads_on, rests_within, rows_at, sealed, seeks_on, sends_more, table_rows, unless_decided, unless_full, validated_by, validates, visiting}
 use Rattle.mega_tape_laws.specs.Places.{In, Place, Proposes as ProposesMove, moves}
 use Rattle.mega_tape_laws.specs.Writes.{AreWritten, OwnEntry, Own, Usage, enters as enters_one, handles as handles_one, own as own_one, runs, runs_all, Knows}
 use Rattle.mega_run_laws.specs.Usages.{Brought}
@@ -55,7 +56,7 @@ use Rattle.mega_run_laws.proofs.Causing.{found_cause, given_none, read_cause, ve
 use Rattle.mega_outcome.specs.declared.answer.Answer.TheVariants.{AllTurned, Turned}
 use Rattle.mega_run_laws.proofs.Wrote.{WroteBy, local_wrote, polled_wrote, seeks_wrote}
 use Rattle.mega_run_laws.proofs.Written.{Unproposed}
-use Rattle.mega_tape_laws.specs.Lawful.{Leads, asks as asks_leader, lowest, named}
+use Rattle.mega_tape_laws.specs.Lawful.{Leads as LeadsAt, asks as asks_leader, lowest, named}
 use Rattle.mega_tape_laws.proofs.Lists.{some_is}
 use Rattle.mega_run_laws.specs.Justified.{here, sent}
 use Rattle.mega_run_laws.proofs.Prefixes.{prefix_decided, prefix_more}
@@ -75,9 +76,10 @@ ReadyAt users s f now o = Ready users s.cluster f now.met now.kept now.answers n
 abbrev pub TurnAt : Users → Setting → Frame → Now → OpId → Type 0
 TurnAt users s f now op = Turn users s.cluster f now.met now.kept now.answers now.sends op
 
--- what is done with an operation that acts again
-abbrev pub Again : Users → Setting → Frame → (Now → Operation → Now) → Type 0
-Again users s f again = (now : Now) (o : Operation) → ReadyAt users s f now o → DoneAt users s f o (again now o)
+-- what it comes to: it acted, or it is ready to act again, under the same id
+abbrev pub Leads : Users → Setting → Frame → Operation → Next → Type 0
+Leads users s f o (Rests now) = DoneAt users s f o now
+Leads users s f o (ActsAgain now other) = (other.id ≡ o.id) × ReadyAt users s f now other
 
 -- the operation has no round, above what is decided
 abbrev pub FreeAt : Frame → Now → OpId → Type 0
@@ -138,16 +140,17 @@ begun_wrote c s usage tape now o group asked same x = go (is_visited o group) (v
     go false true = local_wrote s.cluster usage tape now.met o.id asked (top_of now.met group) x
     go false false = polled_wrote s.cluster usage tape now.met o.id group (serves_at s.cluster now.met) asked (clock_of now.met) x
 
-pub begins_read_done : (users : Users) → (s : Setting) → (users.fits → Brought users.usage s.handlers) → (f : Frame) (again : Now → Operation → Now) (now : Now) (o : Operation) (group : GroupId) (message : Option Enter) (asked : List ℕ) → Again users s f again
-    → TurnAt users s f now o.id → FreeAt f now o.id → (users.fits → Asks users.usage (tape_of f now.sends) o message group) → DoneAt users s f o (begins_read s again now o group message asked)
-begins_read_done users s brought f again now o group message asked more h free asks =
-    more (sends_more now (read_begun s now o group asked).sends) (visiting o group message (read_begun s now o group asked))
-    (ready_sends users s.cluster f now.met now.kept now.answers now.sends (read_begun s now o group asked).sends (visiting o group message (read_begun s now o group asked)) h (begun_acts s f now o group asked free)
-    (λ fits n. (wrote fits).written n)
-    (λ fits n. record {
-      began = began_on users.usage (tape_of f now.sends) (sent n ms (tape_of f now.sends)) o.id o.request (stood_sent n ms (tape_of f now.sends)) (asks fits).began;
-      mine = record { none = (wrote fits).none n; plain = (wrote fits).plain; serves = serves_on (tape_of f now.sends) (sent n ms (tape_of f now.sends)) o.id o.request message group (stood_sent n ms (tape_of f now.sends)) (asks fits).serves };
-    }))
+pub begins_read_done : (users : Users) → (s : Setting) → (users.fits → Brought users.usage s.handlers) → (f : Frame) (now : Now) (o : Operation) (group : GroupId) (message : Option Enter) (asked : List ℕ)
+    → TurnAt users s f now o.id → FreeAt f now o.id → (users.fits → Asks users.usage (tape_of f now.sends) o message group) → Leads users s f o (begins_read s now o group message asked)
+begins_read_done users s brought f now o group message asked h free asks = (
+  refl,
+  ready_sends users s.cluster f now.met now.kept now.answers now.sends (read_begun s now o group asked).sends (visiting o group message (read_begun s now o group asked)) h (begun_acts s f now o group asked free)
+      (λ fits n. (wrote fits).written n)
+      (λ fits n. record {
+        began = began_on users.usage (tape_of f now.sends) (sent n ms (tape_of f now.sends)) o.id o.request (stood_sent n ms (tape_of f now.sends)) (asks fits).began;
+        mine = record { none = (wrote fits).none n; plain = (wrote fits).plain; serves = serves_on (tape_of f now.sends) (sent n ms (tape_of f now.sends)) o.id o.request message group (stood_sent n ms (tape_of f now.sends)) (asks fits).serves };
+      }),
+)
   where
     ms : List Message
     ms = (read_begun s now o group asked).sends
@@ -155,28 +158,28 @@ begins_read_done users s brought f again now o group message asked more h free a
     wrote : users.fits → WroteBy s.cluster users.usage (tape_of f now.sends) o.id (read_begun s now o group asked)
     wrote fits = begun_wrote s.cluster s users.usage (tape_of f now.sends) now o group asked refl (turn_context users s.cluster f now.met now.kept now.answers now.sends o.id h fits (asks fits).none)
 
-picks_message_done : (users : Users) → (s : Setting) → (users.fits → Brought users.usage s.handlers) → (f : Frame) (again : Now → Operation → Now) (now : Now) (o : Operation) (asked : List ℕ) (one : Option Posted) → Again users s f again
-    → TurnAt users s f now o.id → FreeAt f now o.id → (users.fits → (x : Posted) → one ≡ Some x → Asks users.usage (tape_of f now.sends) o (Some x.message) x.to) → (users.fits → Unproposed (tape_of f now.sends) o.id) → DoneAt users s f o (picks_message s again now o asked one)
-picks_message_done users s brought f again now o asked None more h free asks none = reading_ends users s f now o _ h none (λ fits. tt)
-picks_message_done users s brought f again now o asked (Some one) more h free asks none = begins_read_done users s brought f again now o one.to (Some one.message) asked more h free (λ fits. asks fits one refl)
+picks_message_done : (users : Users) → (s : Setting) → (users.fits → Brought users.usage s.handlers) → (f : Frame) (now : Now) (o : Operation) (asked : List ℕ) (one : Option Posted)
+    → TurnAt users s f now o.id → FreeAt f now o.id → (users.fits → (x : Posted) → one ≡ Some x → Asks users.usage (tape_of f now.sends) o (Some x.message) x.to) → (users.fits → Unproposed (tape_of f now.sends) o.id) → Leads users s f o (picks_message s now o asked one)
+picks_message_done users s brought f now o asked None h free asks none = reading_ends users s f now o _ h none (λ fits. tt)
+picks_message_done users s brought f now o asked (Some one) h free asks none = begins_read_done users s brought f now o one.to (Some one.message) asked h free (λ fits. asks fits one refl)
 
-picks_group_done : (users : Users) → (s : Setting) → (users.fits → Brought users.usage s.handlers) → (f : Frame) (again : Now → Operation → Now) (now : Now) (o : Operation) (asked : List ℕ) (one : Option GroupId) → Again users s f again
-    → TurnAt users s f now o.id → FreeAt f now o.id → (users.fits → (group : GroupId) → Asks users.usage (tape_of f now.sends) o None group) → (users.fits → Unproposed (tape_of f now.sends) o.id) → DoneAt users s f o (picks_group s again now o asked one)
-picks_group_done users s brought f again now o asked None more h free asks none = reading_ends users s f now o _ h none (λ fits. tt)
-picks_group_done users s brought f again now o asked (Some group) more h free asks none = begins_read_done users s brought f again now o group None asked more h free (λ fits. asks fits group)
+picks_group_done : (users : Users) → (s : Setting) → (users.fits → Brought users.usage s.handlers) → (f : Frame) (now : Now) (o : Operation) (asked : List ℕ) (one : Option GroupId)
+    → TurnAt users s f now o.id → FreeAt f now o.id → (users.fits → (group : GroupId) → Asks users.usage (tape_of f now.sends) o None group) → (users.fits → Unproposed (tape_of f now.sends) o.id) → Leads users s f o (picks_group s now o asked one)
+picks_group_done users s brought f now o asked None h free asks none = reading_ends users s f now o _ h none (λ fits. tt)
+picks_group_done users s brought f now o asked (Some group) h free asks none = begins_read_done users s brought f now o group None asked h free (λ fits. asks fits group)
 
-pub picks_to_enter_done : (users : Users) → (s : Setting) → (users.fits → Brought users.usage s.handlers) → (f : Frame) (again : Now → Operation → Now) (now : Now) (o : Operation) (asked : List ℕ) → Again users s f again
-    → TurnAt users s f now o.id → FreeAt f now o.id → (users.fits → Picks users.usage (tape_of f now.sends) o PumpEnter) → DoneAt users s f o (picks_to_enter s again now o asked)
-picks_to_enter_done users s brought f again now o asked more h free picks = picks_message_done users s brought f again now o asked (next_to_enter o.id (applied_logs now)) more h free
+pub picks_to_enter_done : (users : Users) → (s : Setting) → (users.fits → Brought users.usage s.handlers) → (f : Frame) (now : Now) (o : Operation) (asked : List ℕ)
+    → TurnAt users s f now o.id → FreeAt f now o.id → (users.fits → Picks users.usage (tape_of f now.sends) o PumpEnter) → Leads users s f o (picks_to_enter s now o asked)
+picks_to_enter_done users s brought f now o asked h free picks = picks_message_done users s brought f now o asked (next_to_enter o.id (applied_logs now)) h free
     (λ fits x is. record {
       began = (picks fits).began;
       none = (picks fits).none;
       serves = subst (λ r. Serves (tape_of f now.sends) o.id r (Some x.message) x.to) (sym (picks fits).is) (next_waits (tape_of f now.sends) now o.id (turn_known users s.cluster f now.met now.kept now.answers now.sends o.id h) x is);
     }) (λ fits. (picks fits).none)
 
-pub picks_to_handle_done : (users : Users) → (s : Setting) → (users.fits → Brought users.usage s.handlers) → (f : Frame) (again : Now → Operation → Now) (now : Now) (o : Operation) (asked : List ℕ) → Again users s f again
-    → TurnAt users s f now o.id → FreeAt f now o.id → (users.fits → Picks users.usage (tape_of f now.sends) o PumpHandle) → DoneAt users s f o (picks_to_handle s again now o asked)
-picks_to_handle_done users s brought f again now o asked more h free picks = picks_group_done users s brought f again now o asked (next_to_handle (applied_logs now)) more h free
+pub picks_to_handle_done : (users : Users) → (s : Setting) → (users.fits → Brought users.usage s.handlers) → (f : Frame) (now : Now) (o : Operation) (asked : List ℕ)
+    → TurnAt users s f now o.id → FreeAt f now o.id → (users.fits → Picks users.usage (tape_of f now.sends) o PumpHandle) → Leads users s f o (picks_to_handle s now o asked)
+picks_to_handle_done users s brought f now o asked h free picks = picks_group_done users s brought f now o asked (next_to_handle (applied_logs now)) h free
     (λ fits group. record { began = (picks fits).began; none = (picks fits).none; serves = subst (λ r. Serves (tape_of f now.sends) o.id r None group) (sym (picks fits).is) tt }) (λ fits. (picks fits).none)
 
 -- ---- proposing
@@ -185,11 +188,11 @@ named_is : (members : List ℕ) (entry : Content) (leader : ℕ) → named_leade
 named_is members entry leader h = some_is (entry.leader).0 leader h
 
 leads_there : (users : Users) → (s : Setting) → (users.fits → Brought users.usage s.handlers) → (f : Frame) (now : Now) (op : OpId) (group : GroupId) (p leader : ℕ) → TurnAt users s f now op → p ≤ prefix_of now.met group → leader_after s now group p ≡ Some leader
-    → Leads s.cluster (tape_of f now.sends) op.node.0 (at_place group (p + 1)) leader
+    → LeadsAt s.cluster (tape_of f now.sends) op.node.0 (at_place group (p + 1)) leader
 leads_there users s brought f now op group zero leader h le e = lowest refl e
 leads_there users s brought f now op group (suc p) leader h le e =
     let d = prefix_decided now.met group (suc p) (omega arith) le in
-    subst (λ node. Leads s.cluster (tape_of f now.sends) node (at_place group (suc p + 1)) leader) (sym h.node)
+    subst (λ node. LeadsAt s.cluster (tape_of f now.sends) node (at_place group (suc p + 1)) leader) (sym h.node)
     (named (record { 0 = suc p }) d.entry (omega arith) (omega arith) (stood_sent f.next now.sends f.base _ (h.known group (suc p) d.entry d.is))
     (named_is (voters s.cluster) d.entry leader (ap (named_leader (voters s.cluster)) (sym d.is) ∙ e)))
 
@@ -213,7 +216,7 @@ proposes_there_done users s brought f now o group p asked own promised leader h 
     turn : TurnAt users s f now o.id
     turn = (h.ready).turn
 
-    leads : Leads s.cluster (tape_of f now.sends) (o.id).node.0 (at_place group (p + 1)) leader
+    leads : LeadsAt s.cluster (tape_of f now.sends) (o.id).node.0 (at_place group (p + 1)) leader
     leads = leads_there users s brought f now o.id group p leader turn h.through e
 
     t : RoundMove
@@ -331,9 +334,9 @@ full_below users s f now o group p h = record { known = full_knows users s f now
     next : (l n : ℕ) → l ≡ n → n + 1 ≡ suc l
     next l n is = omega (arith, is)
 
-done_when : (users : Users) → (s : Setting) → (f : Frame) (o : Operation) (t : Bool) (one other : Now) → (t ≡ true → DoneAt users s f o one) → (t ≡ false → DoneAt users s f o other) → DoneAt users s f o (cond t one other)
-done_when users s f o true one other h k = h refl
-done_when users s f o false one other h k = k refl
+leads_when : (users : Users) → (s : Setting) → (f : Frame) (o : Operation) (t : Bool) (one other : Next) → (t ≡ true → Leads users s f o one) → (t ≡ false → Leads users s f o other) → Leads users s f o (cond t one other)
+leads_when users s f o true one other h k = h refl
+leads_when users s f o false one other h k = k refl
 
 sealed_done : (users : Users) → (s : Setting) → (users.fits → Brought users.usage s.handlers) → (f : Frame) (now : Now) (o : Operation) (group : GroupId) (r : Reading) (p : ℕ) (transaction : Transaction) → o.request ≡ Txn transaction → (result : Result Done TurnedBy) → outcome s.cluster.schema transaction (rows_at now group p) ≡ result → FullAt users s f now o group p → DoneAt users s f o (sealed s now o group r p result)
 sealed_done users s brought f now o group r p transaction is (Err turn) comes h = reading_ends users s f now o (Turned turn) (h.ready).turn h.none
@@ -345,7 +348,7 @@ sealed_done users s brought f now o group r p transaction is (Ok done) comes h =
     (record { below = take p (log_of now.met group); done = done; knows = full_below users s f now o group p h; comes = comes; shows = refl }))
 
 batch_done : (users : Users) → (s : Setting) → (users.fits → Brought users.usage s.handlers) → (f : Frame) (now : Now) (o : Operation) (group : GroupId) (r : Reading) (p : ℕ) (theirs : GroupId) (transactions : List Transaction) → o.request ≡ BatchRequest theirs transactions → (b : Batch) → batch_outcome s.cluster.schema theirs transactions (rows_at now group p) ≡ b → FullAt users s f now o group p → DoneAt users s f o (batch_sealed s now o group r p b)
-batch_done users s brought f now o group r p theirs transactions is b comes h = done_if users s brought f o (list_any is_taken b.results) (proposes s now o group r p (entry_of_batch o.id b) (Results b.results)) _
+batch_done users s brought f now o group r p theirs transactions is b comes h = done_if users s brought f o (list_any is_ok b.results) (proposes s now o group r p (entry_of_batch o.id b) (Results b.results)) _
     (proposes_done users s brought f now o group r p (entry_of_batch o.id b) (Results b.results) h
     (λ fits. let same = subst (λ q. Serves (tape_of f now.sends) o.id q o.message group) is (h.serves fits) in
     runs_all transactions (full_asked users s f now o group p h fits ∙ ap Some is ∙ ap (λ g. Some (BatchRequest g transactions)) same)
@@ -361,14 +364,14 @@ batch_done users s brought f now o group r p theirs transactions is b comes h = 
       turns = ap (λ (x : Batch). x.results) comes;
     }))
 
-unless_full_done : (users : Users) → (s : Setting) → (users.fits → Brought users.usage s.handlers) → (f : Frame) (now : Now) (o : Operation) (p : ℕ) (next : Now) → TurnAt users s f now o.id → (users.fits → Unproposed (tape_of f now.sends) o.id) → DoneAt users s f o next → DoneAt users s f o (unless_full s now o p next)
-unless_full_done users s brought f now o p next h none k = done_if users s brought f o (nat_le (s.cluster.limit).0 p) _ next (reading_ends users s f now o _ h none (λ fits. tt)) k
+unless_full_done : (users : Users) → (s : Setting) → (users.fits → Brought users.usage s.handlers) → (f : Frame) (now : Now) (o : Operation) (p : ℕ) (next : Next) → TurnAt users s f now o.id → (users.fits → Unproposed (tape_of f now.sends) o.id) → Leads users s f o next → Leads users s f o (unless_full s now o p next)
+unless_full_done users s brought f now o p next h none k = leads_when users s f o (nat_le (s.cluster.limit).0 p) _ next (λ full. reading_ends users s f now o _ h none (λ fits. tt)) (λ room. k)
 
-enters_done : (users : Users) → (s : Setting) → (users.fits → Brought users.usage s.handlers) → (f : Frame) (again : Now → Operation → Now) (now : Now) (o : Operation) (group : GroupId) (r : Reading) (p : ℕ) (message : Option Enter) → o.request ≡ PumpEnter → o.message ≡ message → Again users s f again → FullAt users s f now o group p
-    → DoneAt users s f o (enters s again now o group r p message)
-enters_done users s brought f again now o group r p None is says more h = picks_to_enter_done users s brought f again now o (asked_by r) more (h.ready).turn h.free (λ fits. record { began = ((h.ready).owned fits).began; none = h.none fits; is = is })
-enters_done users s brought f again now o group r p (Some message) is says more h = done_when users s f o (is_named message.name (names_entered (take p (log_of now.met group)))) (picks_to_enter s again now o (asked_by r)) (proposes s now o group r p (enter_entry o.id message) (Replies []))
-    (λ there. picks_to_enter_done users s brought f again now o (asked_by r) more (h.ready).turn h.free (λ fits. record { began = ((h.ready).owned fits).began; none = h.none fits; is = is }))
+enters_done : (users : Users) → (s : Setting) → (users.fits → Brought users.usage s.handlers) → (f : Frame) (now : Now) (o : Operation) (group : GroupId) (r : Reading) (p : ℕ) (message : Option Enter) → o.request ≡ PumpEnter → o.message ≡ message → FullAt users s f now o group p
+    → Leads users s f o (enters s now o group r p message)
+enters_done users s brought f now o group r p None is says h = picks_to_enter_done users s brought f now o (asked_by r) (h.ready).turn h.free (λ fits. record { began = ((h.ready).owned fits).began; none = h.none fits; is = is })
+enters_done users s brought f now o group r p (Some message) is says h = leads_when users s f o (is_named message.name (names_entered (take p (log_of now.met group)))) (picks_to_enter s now o (asked_by r)) (Rests (proposes s now o group r p (enter_entry o.id message) (Replies [])))
+    (λ there. picks_to_enter_done users s brought f now o (asked_by r) (h.ready).turn h.free (λ fits. record { began = ((h.ready).owned fits).began; none = h.none fits; is = is }))
     (λ fresh. proposes_done users s brought f now o group r p (enter_entry o.id message) (Replies []) h
     (λ fits. let w : Waits (tape_of f now.sends) o.id group message = coe 0 1 (i. Serves (tape_of f now.sends) o.id (is i) (says i) group) (h.serves fits) in
     enters_one message w.entries w.one (full_asked users s f now o group p h fits ∙ ap Some is) w.known w.posted w.to w.says fresh refl) refl
@@ -382,28 +385,28 @@ either_id false x y z h k = k
 handling_id : (s : Setting) (op : OpId) (group : GroupId) (message : Enter) (rows : Listed) → (handling s op group message rows).id ≡ Some op
 handling_id s op group message rows = either_id _ _ _ (Some op) refl refl
 
-handles_done : (users : Users) → (s : Setting) → (users.fits → Brought users.usage s.handlers) → (f : Frame) (again : Now → Operation → Now) (now : Now) (o : Operation) (group : GroupId) (r : Reading) (p : ℕ) (message : Option Enter) → o.request ≡ PumpHandle → oldest_unhandled (take p (log_of now.met group)) ≡ message → Again users s f again → FullAt users s f now o group p
-    → DoneAt users s f o (handles s again now o group r p message)
-handles_done users s brought f again now o group r p None is oldest more h = picks_to_handle_done users s brought f again now o (asked_by r) more (h.ready).turn h.free (λ fits. record { began = ((h.ready).owned fits).began; none = h.none fits; is = is })
-handles_done users s brought f again now o group r p (Some message) is oldest more h = done_if users s brought f o (has s.handlers message.queue)
-    (proposes s now o group r p (handling s o.id group message (table_rows s.cluster.schema group (listed_at now group p))) (Replies [])) _
-    (proposes_done users s brought f now o group r p (handling s o.id group message (table_rows s.cluster.schema group (listed_at now group p))) (Replies []) h
+handles_done : (users : Users) → (s : Setting) → (users.fits → Brought users.usage s.handlers) → (f : Frame) (now : Now) (o : Operation) (group : GroupId) (r : Reading) (p : ℕ) (message : Option Enter) → o.request ≡ PumpHandle → oldest_unhandled (take p (log_of now.met group)) ≡ message → FullAt users s f now o group p
+    → Leads users s f o (handles s now o group r p message)
+handles_done users s brought f now o group r p None is oldest h = picks_to_handle_done users s brought f now o (asked_by r) (h.ready).turn h.free (λ fits. record { began = ((h.ready).owned fits).began; none = h.none fits; is = is })
+handles_done users s brought f now o group r p (Some message) is oldest h = leads_when users s f o (has s.handlers message.queue)
+    (Rests (proposes s now o group r p (handling s o.id group message (table_rows s.cluster.schema group (listed_at now group p))) (Replies []))) _
+    (λ there. proposes_done users s brought f now o group r p (handling s o.id group message (table_rows s.cluster.schema group (listed_at now group p))) (Replies []) h
     (λ fits. handles_one message (brought fits).moment (full_asked users s f now o group p h fits ∙ ap Some is) oldest
     (λ i. handled_by s.cluster.schema (sym (brought fits).is i) group o.id message (take p (log_of now.met group))))
     (handling_id s o.id group message (table_rows s.cluster.schema group (listed_at now group p)))
-    (λ fits. subst (λ r. Keeps s.cluster.schema (tape_of f now.sends) o.id group (record { 0 = p + 1 }) r (Replies [])) (sym is) tt)) (reading_ends users s f now o _ (h.ready).turn h.none (λ fits. tt))
+    (λ fits. subst (λ r. Keeps s.cluster.schema (tape_of f now.sends) o.id group (record { 0 = p + 1 }) r (Replies [])) (sym is) tt)) (λ none. reading_ends users s f now o _ (h.ready).turn h.none (λ fits. tt))
 
-finishes_done : (users : Users) → (s : Setting) → (users.fits → Brought users.usage s.handlers) → (f : Frame) (again : Now → Operation → Now) (now : Now) (id : OpId) (request : Request) (began : ℕ) (visited : List GroupId) (message : Option Enter) (phase : Phase)
-    (group : GroupId) (r : Reading) (p : ℕ) → Again users s f again → FullAt users s f now (record { id = id; request = request; began = began; visited = visited; message = message; phase = phase }) group p
-    → DoneAt users s f (record { id = id; request = request; began = began; visited = visited; message = message; phase = phase })
-    (finishes s again now (record { id = id; request = request; began = began; visited = visited; message = message; phase = phase }) group r p)
-finishes_done users s brought f again now id (Txn transaction) began visited message phase group r p more h =
+finishes_done : (users : Users) → (s : Setting) → (users.fits → Brought users.usage s.handlers) → (f : Frame) (now : Now) (id : OpId) (request : Request) (began : ℕ) (visited : List GroupId) (message : Option Enter) (phase : Phase)
+    (group : GroupId) (r : Reading) (p : ℕ) → FullAt users s f now (record { id = id; request = request; began = began; visited = visited; message = message; phase = phase }) group p
+    → Leads users s f (record { id = id; request = request; began = began; visited = visited; message = message; phase = phase })
+    (finishes s now (record { id = id; request = request; began = began; visited = visited; message = message; phase = phase }) group r p)
+finishes_done users s brought f now id (Txn transaction) began visited message phase group r p h =
     unless_full_done users s brought f now (record { id = id; request = Txn transaction; began = began; visited = visited; message = message; phase = phase }) p _ (h.ready).turn h.none
     (sealed_done users s brought f now (record { id = id; request = Txn transaction; began = began; visited = visited; message = message; phase = phase }) group r p transaction refl (outcome s.cluster.schema transaction (rows_at now group p)) refl h)
-finishes_done users s brought f again now id (BatchRequest own transactions) began visited message phase group r p more h =
+finishes_done users s brought f now id (BatchRequest own transactions) began visited message phase group r p h =
     unless_full_done users s brought f now (record { id = id; request = BatchRequest own transactions; began = began; visited = visited; message = message; phase = phase }) p _ (h.ready).turn h.none
     (batch_done users s brought f now (record { id = id; request = BatchRequest own transactions; began = began; visited = visited; message = message; phase = phase }) group r p own transactions refl (batch_outcome s.cluster.schema own transactions (rows_at now group p)) refl h)
-finishes_done users s brought f again now id (ReadRequested request) began visited message phase group r p more h = reading_ends users s f now (record { id = id; request = ReadRequested request; began = began; visited = visited; message = message; phase = phase }) _ (h.ready).turn h.none
+finishes_done users s brought f now id (ReadRequested request) began visited message phase group r p h = reading_ends users s f now (record { id = id; request = ReadRequested request; began = began; visited = visited; message = message; phase = phase }) _ (h.ready).turn h.none
     (λ fits. read_cause s users.usage (tape_of f now.sends) id request p (rows_at now group p) (listed_at now group p) (full_asked users s f now _ group p h fits) (λ is. record {
       below = take p (log_of now.met group);
       known = subst (λ g. Knows (tape_of f now.sends) id.node.0 g (take p (log_of now.met group))) (sym (h.serves fits)) (full_knows users s f now _ group p h);
@@ -411,15 +414,15 @@ finishes_done users s brought f again now id (ReadRequested request) began visit
       rows_are = refl;
       listed_are = refl;
     }))
-finishes_done users s brought f again now id (Find request) began visited message phase group r p more h = reading_ends users s f now (record { id = id; request = Find request; began = began; visited = visited; message = message; phase = phase }) _ (h.ready).turn h.none
+finishes_done users s brought f now id (Find request) began visited message phase group r p h = reading_ends users s f now (record { id = id; request = Find request; began = began; visited = visited; message = message; phase = phase }) _ (h.ready).turn h.none
     (λ fits. found_cause s.cluster.schema users.usage (tape_of f now.sends) id request (group_marks request.group p) (group_bytes request.group) (listed_at now group p) (numbered (s.cluster.schema).indexes request.index) (full_asked users s f now _ group p h fits))
-finishes_done users s brought f again now id PumpEnter began visited message phase group r p more h =
+finishes_done users s brought f now id PumpEnter began visited message phase group r p h =
     unless_full_done users s brought f now (record { id = id; request = PumpEnter; began = began; visited = visited; message = message; phase = phase }) p _ (h.ready).turn h.none
-    (enters_done users s brought f again now (record { id = id; request = PumpEnter; began = began; visited = visited; message = message; phase = phase }) group r p message refl refl more h)
-finishes_done users s brought f again now id PumpHandle began visited message phase group r p more h =
+    (enters_done users s brought f now (record { id = id; request = PumpEnter; began = began; visited = visited; message = message; phase = phase }) group r p message refl refl h)
+finishes_done users s brought f now id PumpHandle began visited message phase group r p h =
     unless_full_done users s brought f now (record { id = id; request = PumpHandle; began = began; visited = visited; message = message; phase = phase }) p _ (h.ready).turn h.none
-    (handles_done users s brought f again now (record { id = id; request = PumpHandle; began = began; visited = visited; message = message; phase = phase }) group r p (oldest_unhandled (take p (log_of now.met group))) refl refl more h)
-finishes_done users s brought f again now id Refresh began visited message phase group r p more h = ready_keeps users s.cluster f now.met now.kept now.answers now.sends _ h.ready
+    (handles_done users s brought f now (record { id = id; request = PumpHandle; began = began; visited = visited; message = message; phase = phase }) group r p (oldest_unhandled (take p (log_of now.met group))) refl refl h)
+finishes_done users s brought f now id Refresh began visited message phase group r p h = ready_keeps users s.cluster f now.met now.kept now.answers now.sends _ h.ready
 
 -- ---- reading on
 
@@ -431,13 +434,13 @@ closed tape met c op group through (Some (Fetching position denials at)) le b id
 closed tape met c op group through (Some (Filling position proposal)) le b idle = idle_none tape met op (Some (at_place group position)) idle
     (λ q e. subst (λ (x : Place). x.position.0 ≤ prefix_of met x.group) (place_is (at_place group position) q e) (let less = (b.0).0 in omega (arith, less, le)))
 
-reads_on_done : (users : Users) → (s : Setting) → (users.fits → Brought users.usage s.handlers) → (f : Frame) (again : Now → Operation → Now) (now : Now) (id : OpId) (request : Request) (began : ℕ) (visited : List GroupId) (message : Option Enter)
-    (group : GroupId) (noted : Option Epoch) (asked : List ℕ) (stage : Stage) → Again users s f again
+reads_on_done : (users : Users) → (s : Setting) → (users.fits → Brought users.usage s.handlers) → (f : Frame) (now : Now) (id : OpId) (request : Request) (began : ℕ) (visited : List GroupId) (message : Option Enter)
+    (group : GroupId) (noted : Option Epoch) (asked : List ℕ) (stage : Stage)
     → ReadyAt users s f now (record { id = id; request = request; began = began; visited = visited; message = message; phase = Reads group (record { noted = noted; asked = asked; stage = stage }) })
-    → DoneAt users s f (record { id = id; request = request; began = began; visited = visited; message = message; phase = Reads group (record { noted = noted; asked = asked; stage = stage }) })
-    (reads_on s again now (record { id = id; request = request; began = began; visited = visited; message = message; phase = Reads group (record { noted = noted; asked = asked; stage = stage }) }) group (record { noted = noted; asked = asked; stage = stage }))
-reads_on_done users s brought f again now id request began visited message group noted asked (Polling heard best at) more h = ready_keeps users s.cluster f now.met now.kept now.answers now.sends _ h
-reads_on_done users s brought f again now id request began visited message group noted asked (Catching p search) more h = go (nat_le p (prefix_of now.met group)) refl
+    → Leads users s f (record { id = id; request = request; began = began; visited = visited; message = message; phase = Reads group (record { noted = noted; asked = asked; stage = stage }) })
+    (reads_on s now (record { id = id; request = request; began = began; visited = visited; message = message; phase = Reads group (record { noted = noted; asked = asked; stage = stage }) }) group (record { noted = noted; asked = asked; stage = stage }))
+reads_on_done users s brought f now id request began visited message group noted asked (Polling heard best at) h = ready_keeps users s.cluster f now.met now.kept now.answers now.sends _ h
+reads_on_done users s brought f now id request began visited message group noted asked (Catching p search) h = go (nat_le p (prefix_of now.met group)) refl
   where
     r : Reading
     r = record { noted = noted; asked = asked; stage = Catching p search }
@@ -451,21 +454,21 @@ reads_on_done users s brought f again now id request began visited message group
     above_is : (a b : ℕ) → nat_le a b ≡ false → b + 1 ≤ a
     above_is a b k = grind (arith, nat_tests)
 
-    go : (t : Bool) → nat_le p (prefix_of now.met group) ≡ t → DoneAt users s f o (cond t (finishes s again (completes_read s now group r p) o group r p)
-        (seeks_on o now group (seeks (who s.cluster id group) r (prefix_of now.met group + 1) (clock_of now.met))))
-    go true e = finishes_done users s brought f again (completes_read s now group r p) id request began visited message (Reads group r) group r p more
+    go : (t : Bool) → nat_le p (prefix_of now.met group) ≡ t → Leads users s f o (cond t (finishes s (completes_read s now group r p) o group r p)
+        (Rests (seeks_on o now group (seeks (who s.cluster id group) r (prefix_of now.met group + 1) (clock_of now.met)))))
+    go true e = finishes_done users s brought f (completes_read s now group r p) id request began visited message (Reads group r) group r p
         (completes_full users s brought f now o group r p (record { ready = h; free = closed (tape_of f now.sends) now.met s.cluster id group p search (le_is p (prefix_of now.met group) e) h.backed h.idle; through = le_is p (prefix_of now.met group) e; none = λ fits. ((h.owned fits).mine).none; serves = λ fits. ((h.owned fits).mine).serves }))
     go false e = ready_keeps users s.cluster f now.met now.kept _ _ _ (reads_ready users s brought f now o group (seeks (who s.cluster id group) r (prefix_of now.met group + 1) (clock_of now.met)) h.turn
         (seeks_acts s.cluster (tape_of f now.sends) now.met id group noted asked p (clock_of now.met) search (above_is p (prefix_of now.met group) e) h.backed h.idle)
         (λ fits. seeks_wrote s.cluster users.usage (tape_of f now.sends) now.met id group noted asked p (clock_of now.met) search (turn_context users s.cluster f now.met now.kept now.answers now.sends id h.turn fits ((h.owned fits).mine).none) (above_is p (prefix_of now.met group) e) ((h.owned fits).mine).plain)
         (λ fits. record { began = (h.owned fits).began; none = ((h.owned fits).mine).none; serves = ((h.owned fits).mine).serves }))
 
-acts_done : (users : Users) → (s : Setting) → (users.fits → Brought users.usage s.handlers) → (f : Frame) (again : Now → Operation → Now) (now : Now) (id : OpId) (request : Request) (began : ℕ) (visited : List GroupId) (message : Option Enter) (phase : Phase) → Again users s f again
+acts_done : (users : Users) → (s : Setting) → (users.fits → Brought users.usage s.handlers) → (f : Frame) (now : Now) (id : OpId) (request : Request) (began : ℕ) (visited : List GroupId) (message : Option Enter) (phase : Phase)
     → ReadyAt users s f now (record { id = id; request = request; began = began; visited = visited; message = message; phase = phase })
-    → DoneAt users s f (record { id = id; request = request; began = began; visited = visited; message = message; phase = phase })
-    (acts s again now (record { id = id; request = request; began = began; visited = visited; message = message; phase = phase }))
-acts_done users s brought f again now id request began visited message (Reads group r) more h = reads_on_done users s brought f again now id request began visited message group r.noted r.asked r.stage more h
-acts_done users s brought f again now id request began visited message (Proposes group n asked proposal promised) more h = go (decided now.met group n) refl
+    → Leads users s f (record { id = id; request = request; began = began; visited = visited; message = message; phase = phase })
+    (acts s now (record { id = id; request = request; began = began; visited = visited; message = message; phase = phase }))
+acts_done users s brought f now id request began visited message (Reads group r) h = reads_on_done users s brought f now id request began visited message group r.noted r.asked r.stage h
+acts_done users s brought f now id request began visited message (Proposes group n asked proposal promised) h = go (decided now.met group n) refl
   where
     o : Operation
     o = record { id = id; request = request; began = began; visited = visited; message = message; phase = Proposes group n asked proposal promised }
@@ -477,9 +480,15 @@ acts_done users s brought f again now id request began visited message (Proposes
         (began_asked s.cluster.schema users.usage (tape_of f now.sends) id request ((h.turn).written fits) (h.turn).named (h.owned fits).began)
         (turn_known users s.cluster f now.met now.kept now.answers now.sends id h.turn group n entry e) (h.owned fits).mine)
 
-acts_within_done : (users : Users) → (s : Setting) → (users.fits → Brought users.usage s.handlers) → (f : Frame) (most : ℕ) → Again users s f (acts_within most s)
-acts_within_done users s brought f zero now o h = ready_keeps users s.cluster f now.met now.kept now.answers now.sends o h
-acts_within_done users s brought f (suc most) now o h = acts_done users s brought f (acts_within most s) now o.id o.request o.began o.visited o.message o.phase (acts_within_done users s brought f most) h
+-- until it rests
+same_done : (users : Users) → (s : Setting) (f : Frame) (o other : Operation) (now : Now) → other.id ≡ o.id → DoneAt users s f other now → DoneAt users s f o now
+same_done users s f o other now same h = subst (λ (id : OpId). Fine users s.cluster f (id.number + 1) now.met now.kept now.answers now.sends) same h
 
-pub goes_on_done : (users : Users) → (s : Setting) → (users.fits → Brought users.usage s.handlers) → (f : Frame) → Again users s f (goes_on s)
-goes_on_done users s brought f now o h = acts_within_done users s brought f (length (groups_of now.met) + 2) now o h
+pub rests_done : (users : Users) → (s : Setting) → (users.fits → Brought users.usage s.handlers) → (f : Frame) (most : ℕ) (o : Operation) (next : Next) → Leads users s f o next → DoneAt users s f o (rests_within most s next)
+rests_done users s brought f most o (Rests now) h = h
+rests_done users s brought f zero o (ActsAgain now other) h = same_done users s f o other (keeps now other) h.0 (ready_keeps users s.cluster f now.met now.kept now.answers now.sends other h.1)
+rests_done users s brought f (suc most) o (ActsAgain now other) h = same_done users s f o other (rests_within most s (acts s now other)) h.0
+    (rests_done users s brought f most other (acts s now other) (acts_done users s brought f now other.id other.request other.began other.visited other.message other.phase h.1))
+
+pub goes_on_done : (users : Users) → (s : Setting) → (users.fits → Brought users.usage s.handlers) → (f : Frame) (now : Now) (o : Operation) → ReadyAt users s f now o → DoneAt users s f o (goes_on s now o)
+goes_on_done users s brought f now o h = rests_done users s brought f (length (groups_of now.met) + 2) o (ActsAgain now o) (refl, h)

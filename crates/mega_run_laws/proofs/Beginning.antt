@@ -1,5 +1,5 @@
 -- All operations of a step act, one after another, and each does only what is allowed.
-use Rattle.std.proofs.Common.{◌≡◌, ℕ, ◌+◌, ◌≤◌, max, Bool, true, false, cond, List, [], ◌∷◌, map, fold, Option, Some, None, refl, sym, subst, arith, ◌<◌, ◌++◌, inr, flat_map, ap, ◌∙◌}
+use Rattle.std.proofs.Common.{◌≡◌, ℕ, ◌+◌, ◌≤◌, max, Bool, true, false, cond, List, [], ◌∷◌, map, fold, Option, Some, None, refl, sym, subst, arith, ◌<◌, ◌++◌, inr, flat_map, ap, ◌∙◌, length}
 use Rattle.mega_base.specs.declared.names.GroupId.{GroupId}
 use Rattle.mega_base.specs.declared.names.OpId.{OpId}
 use Rattle.mega_entry.specs.declared.content.Enter.{Enter}
@@ -21,9 +21,10 @@ use Rattle.mega_ballot.specs.Order.{zero_ballot}
 use Rattle.mega_cluster.specs.declared.cluster.Cluster.{Cluster}
 use Rattle.mega_coordinator.specs.declared.answers.NotValid.{NotValid}
 use Rattle.mega_tape_laws.specs.of_rules.Met.{Answers, Met, Validates}
+use Rattle.mega_tape_laws.specs.of_rules.Logs.{groups_of}
 use Rattle.mega_tape_laws.specs.of_rules.Operations.{Now, Operation, Phase, Proposes, Reads, Setting}
-use Rattle.mega_tape_laws.specs.of_rules.Acting.{ends, goes_on, sends_more, validated_by}
-use Rattle.mega_tape_laws.specs.of_rules.Steps.{Heard, acts_in_turn, all_act, begins, does_due, find_begins, hears_message, is_out, last_answer, local_find_begins, read_begins, ticked, unless_refused, applied_position, is_current, snapshot_listed, stored_listed}
+use Rattle.mega_tape_laws.specs.of_rules.Acting.{ends, sends_more, validated_by}
+use Rattle.mega_tape_laws.specs.of_rules.Steps.{Heard, acts_first, acts_in_turn, all_act, applied_position, does_due, find_begins, hears_message, is_current, is_out, last_answer, local_find_begins, read_begins, snapshot_listed, stored_listed, ticked, unless_refused}
 use Rattle.mega_tape_laws.specs.Places.{In, Place, Proposes as ProposesMove, Took, moves}
 use Rattle.mega_tape_laws.specs.Writes.{AreWritten, Usage, again}
 use Rattle.mega_run_laws.specs.Usages.{Brought}
@@ -47,7 +48,7 @@ use Rattle.mega_run_laws.proofs.Reading.{falls_due_acts, hears_acts, who}
 use Rattle.mega_run_laws.proofs.Turns.{AnsweredBelow, Fine, Frame, Held, IsApart, IsOpen, IsRising, answered_more, could_more, could_not, each_on, each_push, each_zip, fine_turn, held_on, other_number, ready_sends, same_tape, tape_of, turn_ends}
 use Rattle.mega_run_laws.proofs.Prefixes.{prefix_more}
 use Rattle.mega_run_laws.proofs.Noting.{Lasts, goes_on_it, ticked_it}
-use Rattle.mega_run_laws.proofs.Acting.{Asks, DoneAt, reading_ends, FreeAt, ReadyAt, TurnAt, turn_context, begins_read_done, goes_on_done, picks_to_enter_done, picks_to_handle_done}
+use Rattle.mega_run_laws.proofs.Acting.{Asks, FreeAt, Leads, ReadyAt, TurnAt, begins_read_done, goes_on_done, picks_to_enter_done, picks_to_handle_done, reading_ends, rests_done, turn_context}
 
 -- ---- what one operation hears, and what is due
 
@@ -260,34 +261,34 @@ begins_asked : (users : Users) → (s : Setting) (f : Frame) (now : Now) (o : Op
     → asked_for (users.usage).meaning (tape_of f now.sends) o.id ≡ Some o.request
 begins_asked users s f now o group h asks fits = began_asked s.cluster.schema users.usage (tape_of f now.sends) o.id o.request (h.written fits) h.named asks.began
 
-read_begins_done : (users : Users) → (s : Setting) → (users.fits → Brought users.usage s.handlers) → (f : Frame) (now : Now) (o : Operation) (request : ReadRequest) (mode : Mode) → TurnAt users s f now o.id → FreeAt f now o.id → (users.fits → Asks users.usage (tape_of f now.sends) o None request.group) → o.request ≡ Read request → request.mode ≡ mode → DoneAt users s f o (read_begins s now o request mode)
-read_begins_done users s brought f now o request Current h free asks is same = begins_read_done users s brought f (goes_on s) now o request.group None [] (goes_on_done users s brought f) h free asks
+read_begins_done : (users : Users) → (s : Setting) → (users.fits → Brought users.usage s.handlers) → (f : Frame) (now : Now) (o : Operation) (request : ReadRequest) (mode : Mode) → TurnAt users s f now o.id → FreeAt f now o.id → (users.fits → Asks users.usage (tape_of f now.sends) o None request.group) → o.request ≡ Read request → request.mode ≡ mode → Leads users s f o (read_begins s now o request mode)
+read_begins_done users s brought f now o request Current h free asks is same = begins_read_done users s brought f now o request.group None [] h free asks
 read_begins_done users s brought f now o request Snapshot h free asks is same = reading_ends users s f now o _ h (λ fits. (asks fits).none)
     (λ fits. read_cause s users.usage (tape_of f now.sends) o.id request _ _ _ (begins_asked users s f now o request.group h (asks fits) fits ∙ ap Some is) (λ cur. absurd (let clashing = sym (ap is_current same) ∙ cur in cc)))
 read_begins_done users s brought f now o request Inconsistent h free asks is same = reading_ends users s f now o _ h (λ fits. (asks fits).none)
     (λ fits. read_cause s users.usage (tape_of f now.sends) o.id request _ _ _ (begins_asked users s f now o request.group h (asks fits) fits ∙ ap Some is) (λ cur. absurd (let clashing = sym (ap is_current same) ∙ cur in cc)))
 
-local_find_done : (users : Users) → (s : Setting) → (users.fits → Brought users.usage s.handlers) → (f : Frame) (now : Now) (o : Operation) (request : FindRequest) (group : GroupId) (mode : Mode) → TurnAt users s f now o.id → FreeAt f now o.id → (users.fits → Asks users.usage (tape_of f now.sends) o None group) → o.request ≡ Find request → DoneAt users s f o (local_find_begins s now o request group mode)
-local_find_done users s brought f now o request group Current h free asks is = begins_read_done users s brought f (goes_on s) now o group None [] (goes_on_done users s brought f) h free asks
+local_find_done : (users : Users) → (s : Setting) → (users.fits → Brought users.usage s.handlers) → (f : Frame) (now : Now) (o : Operation) (request : FindRequest) (group : GroupId) (mode : Mode) → TurnAt users s f now o.id → FreeAt f now o.id → (users.fits → Asks users.usage (tape_of f now.sends) o None group) → o.request ≡ Find request → Leads users s f o (local_find_begins s now o request group mode)
+local_find_done users s brought f now o request group Current h free asks is = begins_read_done users s brought f now o group None [] h free asks
 local_find_done users s brought f now o request group Snapshot h free asks is = reading_ends users s f now o _ h (λ fits. (asks fits).none)
     (λ fits. found_cause s.cluster.schema users.usage (tape_of f now.sends) o.id request (group_marks request.group (applied_position now group)) (group_bytes request.group) (snapshot_listed now group) (numbered (s.cluster.schema).indexes request.index) (begins_asked users s f now o group h (asks fits) fits ∙ ap Some is))
 local_find_done users s brought f now o request group Inconsistent h free asks is = reading_ends users s f now o _ h (λ fits. (asks fits).none)
     (λ fits. found_cause s.cluster.schema users.usage (tape_of f now.sends) o.id request (group_marks request.group (applied_position now group)) (group_bytes request.group) (stored_listed now group) (numbered (s.cluster.schema).indexes request.index) (begins_asked users s f now o group h (asks fits) fits ∙ ap Some is))
 
-find_begins_done : (users : Users) → (s : Setting) → (users.fits → Brought users.usage s.handlers) → (f : Frame) (now : Now) (o : Operation) (request : FindRequest) (group : Option GroupId) → TurnAt users s f now o.id → FreeAt f now o.id → (users.fits → (group : GroupId) → Asks users.usage (tape_of f now.sends) o None group) → o.request ≡ Find request → DoneAt users s f o (find_begins s now o request group)
+find_begins_done : (users : Users) → (s : Setting) → (users.fits → Brought users.usage s.handlers) → (f : Frame) (now : Now) (o : Operation) (request : FindRequest) (group : Option GroupId) → TurnAt users s f now o.id → FreeAt f now o.id → (users.fits → (group : GroupId) → Asks users.usage (tape_of f now.sends) o None group) → o.request ≡ Find request → Leads users s f o (find_begins s now o request group)
 find_begins_done users s brought f now o request None h free asks is = reading_ends users s f now o _ h (λ fits. (asks fits (record { key = [] })).none)
     (λ fits. found_cause s.cluster.schema users.usage (tape_of f now.sends) o.id request (refreshed_marks now.met) [] (flat_map (rows_through now.met) (refreshed_marks now.met)) (numbered (s.cluster.schema).indexes request.index) (begins_asked users s f now o (record { key = [] }) h (asks fits (record { key = [] })) fits ∙ ap Some is))
 find_begins_done users s brought f now o request (Some group) h free asks is = local_find_done users s brought f now o request group request.mode h free (λ fits. asks fits group) is
 
-begins_done : (users : Users) → (s : Setting) → (users.fits → Brought users.usage s.handlers) → (f : Frame) (now : Now) (id : OpId) (request : Request) (began : ℕ) (visited : List GroupId) (posted : Option Enter) (phase : Phase)
-    → TurnAt users s f now id → FreeAt f now id → (users.fits → Starting users.usage (tape_of f now.sends) id request) → DoneAt users s f (record { id = id; request = request; began = began; visited = visited; message = posted; phase = phase }) (begins s now (record { id = id; request = request; began = began; visited = visited; message = posted; phase = phase }))
-begins_done users s brought f now id (Txn transaction) began visited posted phase h free st = begins_read_done users s brought f (goes_on s) now (record { id = id; request = Txn transaction; began = began; visited = visited; message = posted; phase = phase }) transaction.group None [] (goes_on_done users s brought f) h free (λ fits. record { began = (st fits).began; none = (st fits).none; serves = refl })
-begins_done users s brought f now id (BatchRequest group transactions) began visited posted phase h free st = begins_read_done users s brought f (goes_on s) now (record { id = id; request = BatchRequest group transactions; began = began; visited = visited; message = posted; phase = phase }) group None [] (goes_on_done users s brought f) h free (λ fits. record { began = (st fits).began; none = (st fits).none; serves = refl })
-begins_done users s brought f now id (Read request) began visited posted phase h free st = read_begins_done users s brought f now (record { id = id; request = Read request; began = began; visited = visited; message = posted; phase = phase }) request request.mode h free (λ fits. record { began = (st fits).began; none = (st fits).none; serves = refl }) refl refl
-begins_done users s brought f now id (Find request) began visited posted phase h free st = find_begins_done users s brought f now (record { id = id; request = Find request; began = began; visited = visited; message = posted; phase = phase }) request request.group h free (λ fits group. record { began = (st fits).began; none = (st fits).none; serves = tt }) refl
-begins_done users s brought f now id PumpEnter began visited posted phase h free st = picks_to_enter_done users s brought f (goes_on s) now (record { id = id; request = PumpEnter; began = began; visited = visited; message = posted; phase = phase }) [] (goes_on_done users s brought f) h free (λ fits. record { began = (st fits).began; none = (st fits).none; is = refl })
-begins_done users s brought f now id PumpHandle began visited posted phase h free st = picks_to_handle_done users s brought f (goes_on s) now (record { id = id; request = PumpHandle; began = began; visited = visited; message = posted; phase = phase }) [] (goes_on_done users s brought f) h free (λ fits. record { began = (st fits).began; none = (st fits).none; is = refl })
-begins_done users s brought f now id Refresh began visited posted phase h free st = reading_ends users s f now (record { id = id; request = Refresh; began = began; visited = visited; message = posted; phase = phase }) _ h (λ fits. (st fits).none) (λ fits. tt)
+first_done : (users : Users) → (s : Setting) → (users.fits → Brought users.usage s.handlers) → (f : Frame) (now : Now) (id : OpId) (request : Request) (began : ℕ) (visited : List GroupId) (posted : Option Enter) (phase : Phase)
+    → TurnAt users s f now id → FreeAt f now id → (users.fits → Starting users.usage (tape_of f now.sends) id request) → Leads users s f (record { id = id; request = request; began = began; visited = visited; message = posted; phase = phase }) (acts_first s now (record { id = id; request = request; began = began; visited = visited; message = posted; phase = phase }))
+first_done users s brought f now id (Txn transaction) began visited posted phase h free st = begins_read_done users s brought f now (record { id = id; request = Txn transaction; began = began; visited = visited; message = posted; phase = phase }) transaction.group None [] h free (λ fits. record { began = (st fits).began; none = (st fits).none; serves = refl })
+first_done users s brought f now id (BatchRequest group transactions) began visited posted phase h free st = begins_read_done users s brought f now (record { id = id; request = BatchRequest group transactions; began = began; visited = visited; message = posted; phase = phase }) group None [] h free (λ fits. record { began = (st fits).began; none = (st fits).none; serves = refl })
+first_done users s brought f now id (Read request) began visited posted phase h free st = read_begins_done users s brought f now (record { id = id; request = Read request; began = began; visited = visited; message = posted; phase = phase }) request request.mode h free (λ fits. record { began = (st fits).began; none = (st fits).none; serves = refl }) refl refl
+first_done users s brought f now id (Find request) began visited posted phase h free st = find_begins_done users s brought f now (record { id = id; request = Find request; began = began; visited = visited; message = posted; phase = phase }) request request.group h free (λ fits group. record { began = (st fits).began; none = (st fits).none; serves = tt }) refl
+first_done users s brought f now id PumpEnter began visited posted phase h free st = picks_to_enter_done users s brought f now (record { id = id; request = PumpEnter; began = began; visited = visited; message = posted; phase = phase }) [] h free (λ fits. record { began = (st fits).began; none = (st fits).none; is = refl })
+first_done users s brought f now id PumpHandle began visited posted phase h free st = picks_to_handle_done users s brought f now (record { id = id; request = PumpHandle; began = began; visited = visited; message = posted; phase = phase }) [] h free (λ fits. record { began = (st fits).began; none = (st fits).none; is = refl })
+first_done users s brought f now id Refresh began visited posted phase h free st = reading_ends users s f now (record { id = id; request = Refresh; began = began; visited = visited; message = posted; phase = phase }) _ h (λ fits. (st fits).none) (λ fits. tt)
 
 refused_fine : (users : Users) → (c : Cluster) (f : Frame) (k l : ℕ) (met : List Met) (kept : List Operation) (answers : List Met) (sends : List Message) (op : OpId) (answer : Answer) → k ≤ l → op.node.0 ≡ f.me → op.start ≡ f.start → op.number < l → Fine users c f k met kept answers sends
     → ((o : Operation) → Held users c (tape_of f sends) f.me f.start k met o → (o.id).number < op.number) → (users.fits → Given c.schema users.usage (tape_of f sends) op answer) → Fine users c f l met kept (answers ++ Answers op answer ∷ []) sends
@@ -317,4 +318,4 @@ begun_fine users s brought f k now o (Some answer) fine node start h le st less 
   most = omega arith;
   fine = refused_fine users s.cluster f k (max k ((o.id).number + 1)) now.met now.kept now.answers now.sends o.id answer (omega arith) node start (omega arith) fine less (λ fits. given fits answer refl);
 }
-begun_fine users s brought f k now o None fine node start h le st less given = record { k = (o.id).number + 1; most = omega arith; fine = begins_done users s brought f now o.id o.request o.began o.visited o.message o.phase (h refl).0 (h refl).1 (λ fits. st fits refl) }
+begun_fine users s brought f k now o None fine node start h le st less given = record { k = (o.id).number + 1; most = omega arith; fine = rests_done users s brought f (length (groups_of now.met) + 2) o (acts_first s now o) (first_done users s brought f now o.id o.request o.began o.visited o.message o.phase (h refl).0 (h refl).1 (λ fits. st fits refl)) }

@@ -1,3 +1,4 @@
+pub mod BothFine
 pub mod Counts
 pub mod Objects
 pub mod Pairs

@@ -3,7 +3,7 @@ ghost use Rattle.std.specs.Prelude.{◌≡◌, ◌≤◌, ◌++◌, ◌∷◌, [
 ghost use Rattle.mega_handler.specs.Named.{Meanings};
 ghost use Rattle.mega_transcript.specs.declared.item.Item.TheVariants.{Begin as BeginItem};
 ghost use Rattle.mega_rules.specs.Steps.{Begin};
-ghost use Rattle.mega_promises.specs.Runs.{is_empty, names_nothing};
+ghost use Rattle.mega_promises.specs.Runs.{names_nothing};
 ghost use Rattle.mega_promises.specs.Served.{Asks, Line, Noted, Served, refused_by, wished};
 ghost use Rattle.mega_serve.specs.declared.waiting.Waiting.{Waiting as Waits};
 ghost use Rattle.mega_page.specs.Pages.{IsPage};
@@ -15,43 +15,15 @@ use crate::replying;
 use crate::steps::{Event, Steps};
 use crate::turning::step;
 use crate::waiting::{Waiting, await_answer};
-use mega_base::{Copied, GroupId, NoMemory, OpId, Text};
+use mega_base::{Copied, NoMemory, OpId, Text};
 use mega_io::Sink;
 use mega_link::Link;
-use mega_outcome::Request;
+use mega_outcome::names_nothing;
 use mega_page::{Page, ServeFault};
 use mega_schedule::{Ask, LineFault, asked};
 use mega_schema::Schema;
 use mega_transcript::Item;
 use std::alloc::Global;
-
-/// Whether a group is named by no key.
-fn is_empty(group: &GroupId) -> bool
-    ensures { result ≡ is_empty group.now.key }
-{
-    matches!(group.key.as_slice(), [])
-}
-
-/// Whether a request names no group or index of the schema.
-fn names_nothing(request: &Request) -> bool
-    ensures { result ≡ names_nothing request.now }
-{
-    match request {
-        Request::Txn(txn) => is_empty(&txn.group),
-        Request::Batch(group, _) => is_empty(group),
-        Request::Read(read) => is_empty(&read.group),
-        Request::Find(find) => {
-            if find.index == 0 {
-                return true;
-            }
-            match &find.group {
-                Some(group) => is_empty(group),
-                None => false,
-            }
-        }
-        Request::PumpEnter | Request::PumpHandle | Request::Refresh => false,
-    }
-}
 
 /// The line of an operation that begins.
 fn begin_item(op: OpId, text: &Text, alloc: Global) -> Result<Item, NoMemory>

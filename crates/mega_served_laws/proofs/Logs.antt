@@ -3,8 +3,9 @@ use Rattle.std.proofs.Common.{◌≡◌, ℕ, zero, suc, ◌+◌, List, ◌∷�
 use Rattle.std.specs.Prelude.{is_some}
 use Rattle.mega_base.specs.declared.names.GroupId.{GroupId}
 use Rattle.mega_entry.specs.declared.content.Content.{Content}
-use Rattle.mega_wal.specs.History.{climb, decided_of, newest_of as kept_newest}
-use Rattle.mega_wal.proofs.Steps.{climb_same}
+use Rattle.mega_base.specs.Climbing.{climb}
+use Rattle.mega_wal.specs.History.{decided_of, newest_of as kept_newest}
+use Rattle.mega_base.proofs.Climbs.{climb_same}
 use Rattle.mega_rules.specs.Met.{Met}
 use Rattle.mega_rules.specs.Logs.{decided, decided_from, log_of, newest_of, prefix_of, then_more}
 use Rattle.mega_voter.specs.Journal.{journal_of}

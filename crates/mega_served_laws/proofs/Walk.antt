@@ -1,6 +1,7 @@
 -- What operations do within a step is the same wherever what was met tells the node the same.
 use Rattle.std.proofs.Common.{◌≡◌, ℕ, zero, suc, ◌+◌, nat_le, Bool, true, false, cond, List, [], ◌∷◌, ◌++◌, take, length, fold, map, flat_map, filter_map, Option, Some, None, Result, Ok, Err, refl, ap, subst}
 use Rattle.std.specs.List.{list_any}
+use Rattle.std.specs.Result.{is_ok}
 use Rattle.mega_base.specs.declared.names.Epoch.{Epoch}
 use Rattle.mega_base.specs.declared.names.GroupId.{GroupId}
 use Rattle.mega_base.specs.declared.names.OpId.{OpId}
@@ -42,8 +43,8 @@ use Rattle.mega_rules.specs.Members.{voters}
 use Rattle.mega_rules.specs.Coordinators.{refused_at}
 use Rattle.mega_rules.specs.Queues.{Posted, enter_entry, is_named, names_entered, next_to_enter, next_to_handle, oldest_unhandled}
 use Rattle.mega_rules.specs.Operations.{Now, Operation, Phase, Promised, Proposes, Reads, Replies, Results, Setting}
-use Rattle.mega_rules.specs.Acting.{acts, acts_within, applied_logs, applied_marks, batch_sealed, begins_read, completes_read, ends, enters, finishes, goes_on, handles, handles_message, handling, has_nothing, in_phase, is_taken, is_visited, keeps, leader_after, listed_at, mark_of, named_leader, picks_group, picks_message, picks_to_enter, picks_to_handle, proposes, proposes_by, proposes_there, read_answer, read_begun, reader_of, reads_group, reads_on, rows_at, sealed, seeks_on, sends_more, stored_with, table_rows, unless_decided, unless_full, validated_by, validates, verdict, visiting}
-use Rattle.mega_rules.specs.Steps.{Heard, acts_in_turn, all_act, applied_position, begins, does_due, find_begins, is_out, last_answer, local_find_begins, read_begins, snapshot_listed, snapshot_rows, stored_listed, stored_rows, ticked, unless_refused}
+use Rattle.mega_rules.specs.Acting.{ActsAgain, Next, Rests, acts, applied_logs, applied_marks, batch_sealed, begins_read, completes_read, ends, enters, finishes, goes_on, handles, handling, has_nothing, in_phase, is_visited, keeps, leader_after, listed_at, mark_of, named_leader, picks_group, picks_message, picks_to_enter, picks_to_handle, proposes, proposes_by, proposes_there, read_answer, read_begun, reader_of, reads_on, rests_within, rows_at, sealed, seeks_on, sends_more, stored_with, table_rows, unless_decided, unless_full, validated_by, validates, verdict, visiting}
+use Rattle.mega_rules.specs.Steps.{Heard, acts_first, acts_in_turn, all_act, applied_position, begins, does_due, find_begins, is_out, last_answer, local_find_begins, read_begins, snapshot_listed, snapshot_rows, stored_listed, stored_rows, ticked, unless_refused}
 use Rattle.mega_served_laws.proofs.Alike.{Alike, Scope, alike_more}
 use Rattle.mega_served_laws.proofs.Logs.{log_alike, prefix_alike}
 
@@ -60,12 +61,20 @@ module _ (w : Scope) (s : Setting) where
   abbrev R : Now → Now → Type 0
   R a b = NowAlike w s.cluster s.me a b
 
-  abbrev Serves : (Now → Operation → Now) → Type 0
-  Serves again = (a b : Now) (o : Operation) → R a b → R (again a o) (again b o)
+  -- what an operation comes to, by two histories: both times it rests, or both times the same operation acts again
+  abbrev N : Next → Next → Type 0
+  N (Rests a) (Rests b) = R a b
+  N (Rests a) (ActsAgain b p) = ⊥
+  N (ActsAgain a o) (Rests b) = ⊥
+  N (ActsAgain a o) (ActsAgain b p) = R a b × (o ≡ p)
 
   either : (t : Bool) (a b x y : Now) → R a b → R x y → R (cond t a x) (cond t b y)
   either true a b x y h k = h
   either false a b x y h k = k
+
+  either_next : (t : Bool) (a b x y : Next) → N a b → N x y → N (cond t a x) (cond t b y)
+  either_next true a b x y h k = h
+  either_next false a b x y h k = k
 
   -- ---- what is read off what was met
   clock_same : (a b : Now) → R a b → clock_of a.met ≡ clock_of b.met
@@ -186,55 +195,54 @@ module _ (w : Scope) (s : Setting) where
 
   batch_sealed_alike : (a b : Now) (o : Operation) (group : GroupId) (r : Reading) (p : ℕ) (one : Batch) → R a b → R (batch_sealed s a o group r p one) (batch_sealed s b o group r p one)
   batch_sealed_alike a b o group r p one h =
-      either (list_any is_taken one.results) _ _ _ _ (proposes_alike a b o group r p (entry_of_batch o.id one) (Results one.results) h) (ends_alike a b o.id _ _ refl h)
+      either (list_any is_ok one.results) _ _ _ _ (proposes_alike a b o group r p (entry_of_batch o.id one) (Results one.results) h) (ends_alike a b o.id _ _ refl h)
 
-  unless_full_alike : (a b : Now) (o : Operation) (p : ℕ) (x y : Now) → R a b → R x y → R (unless_full s a o p x) (unless_full s b o p y)
-  unless_full_alike a b o p x y h k = either (nat_le (s.cluster.limit).0 p) _ _ x y (ends_alike a b o.id _ _ refl h) k
+  unless_full_alike : (a b : Now) (o : Operation) (p : ℕ) (x y : Next) → R a b → N x y → N (unless_full s a o p x) (unless_full s b o p y)
+  unless_full_alike a b o p x y h k = either_next (nat_le (s.cluster.limit).0 p) _ _ x y (ends_alike a b o.id _ _ refl h) k
 
   -- ---- a read begins
-  begins_read_alike : (again : Now → Operation → Now) → Serves again → (a b : Now) (o : Operation) (group : GroupId) (message : Option Enter) (asked : List ℕ) → R a b
-      → R (begins_read s again a o group message asked) (begins_read s again b o group message asked)
-  begins_read_alike again more a b o group message asked h =
-      subst (λ t. R (reads_group s again a o group message (read_begun s a o group asked)) (reads_group s again b o group message t)) (begun_same a b h o group asked)
-      (more (sends_more a (read_begun s a o group asked).sends) (sends_more b (read_begun s a o group asked).sends) (visiting o group message (read_begun s a o group asked))
-      (sends_alike a b (read_begun s a o group asked).sends (read_begun s a o group asked).sends refl h))
+  begins_read_alike : (a b : Now) (o : Operation) (group : GroupId) (message : Option Enter) (asked : List ℕ) → R a b
+      → N (begins_read s a o group message asked) (begins_read s b o group message asked)
+  begins_read_alike a b o group message asked h =
+      subst (λ t. N (begins_read s a o group message asked) (ActsAgain (sends_more b t.sends) (visiting o group message t))) (begun_same a b h o group asked)
+      (sends_alike a b (read_begun s a o group asked).sends (read_begun s a o group asked).sends refl h, refl)
 
-  nothing_alike : (a b : Now) (o : Operation) → R a b → R (has_nothing a o) (has_nothing b o)
+  nothing_alike : (a b : Now) (o : Operation) → R a b → N (has_nothing a o) (has_nothing b o)
   nothing_alike a b o h = ends_alike a b o.id (NothingToDo (applied_marks a)) (NothingToDo (applied_marks b)) (ap NothingToDo (marks_same a b h)) h
 
-  picks_message_alike : (again : Now → Operation → Now) → Serves again → (a b : Now) (o : Operation) (asked : List ℕ) (one : Option Posted) → R a b
-      → R (picks_message s again a o asked one) (picks_message s again b o asked one)
-  picks_message_alike again more a b o asked None h = nothing_alike a b o h
-  picks_message_alike again more a b o asked (Some one) h = begins_read_alike again more a b o one.to (Some one.message) asked h
+  picks_message_alike : (a b : Now) (o : Operation) (asked : List ℕ) (one : Option Posted) → R a b
+      → N (picks_message s a o asked one) (picks_message s b o asked one)
+  picks_message_alike a b o asked None h = nothing_alike a b o h
+  picks_message_alike a b o asked (Some one) h = begins_read_alike a b o one.to (Some one.message) asked h
 
-  picks_group_alike : (again : Now → Operation → Now) → Serves again → (a b : Now) (o : Operation) (asked : List ℕ) (one : Option GroupId) → R a b
-      → R (picks_group s again a o asked one) (picks_group s again b o asked one)
-  picks_group_alike again more a b o asked None h = nothing_alike a b o h
-  picks_group_alike again more a b o asked (Some group) h = begins_read_alike again more a b o group None asked h
+  picks_group_alike : (a b : Now) (o : Operation) (asked : List ℕ) (one : Option GroupId) → R a b
+      → N (picks_group s a o asked one) (picks_group s b o asked one)
+  picks_group_alike a b o asked None h = nothing_alike a b o h
+  picks_group_alike a b o asked (Some group) h = begins_read_alike a b o group None asked h
 
-  to_enter_alike : (again : Now → Operation → Now) → Serves again → (a b : Now) (o : Operation) (asked : List ℕ) → R a b → R (picks_to_enter s again a o asked) (picks_to_enter s again b o asked)
-  to_enter_alike again more a b o asked h =
-      subst (λ logs. R (picks_message s again a o asked (next_to_enter o.id (applied_logs a))) (picks_message s again b o asked (next_to_enter o.id logs))) (logs_same a b h)
-      (picks_message_alike again more a b o asked (next_to_enter o.id (applied_logs a)) h)
+  to_enter_alike : (a b : Now) (o : Operation) (asked : List ℕ) → R a b → N (picks_to_enter s a o asked) (picks_to_enter s b o asked)
+  to_enter_alike a b o asked h =
+      subst (λ logs. N (picks_message s a o asked (next_to_enter o.id (applied_logs a))) (picks_message s b o asked (next_to_enter o.id logs))) (logs_same a b h)
+      (picks_message_alike a b o asked (next_to_enter o.id (applied_logs a)) h)
 
-  to_handle_alike : (again : Now → Operation → Now) → Serves again → (a b : Now) (o : Operation) (asked : List ℕ) → R a b → R (picks_to_handle s again a o asked) (picks_to_handle s again b o asked)
-  to_handle_alike again more a b o asked h =
-      subst (λ logs. R (picks_group s again a o asked (next_to_handle (applied_logs a))) (picks_group s again b o asked (next_to_handle logs))) (logs_same a b h)
-      (picks_group_alike again more a b o asked (next_to_handle (applied_logs a)) h)
+  to_handle_alike : (a b : Now) (o : Operation) (asked : List ℕ) → R a b → N (picks_to_handle s a o asked) (picks_to_handle s b o asked)
+  to_handle_alike a b o asked h =
+      subst (λ logs. N (picks_group s a o asked (next_to_handle (applied_logs a))) (picks_group s b o asked (next_to_handle logs))) (logs_same a b h)
+      (picks_group_alike a b o asked (next_to_handle (applied_logs a)) h)
 
-  enters_alike : (again : Now → Operation → Now) → Serves again → (a b : Now) (o : Operation) (group : GroupId) (r : Reading) (p : ℕ) (message : Option Enter) → R a b
-      → R (enters s again a o group r p message) (enters s again b o group r p message)
-  enters_alike again more a b o group r p None h = to_enter_alike again more a b o (asked_by r) h
-  enters_alike again more a b o group r p (Some message) h =
-      subst (λ log. R (by a (log_of a.met group)) (by b log)) (log_same a b h group)
-      (either (is_named message.name (names_entered (take p (log_of a.met group)))) _ _ _ _
-      (to_enter_alike again more a b o (asked_by r) h) (proposes_alike a b o group r p (enter_entry o.id message) (Replies []) h))
+  enters_alike : (a b : Now) (o : Operation) (group : GroupId) (r : Reading) (p : ℕ) (message : Option Enter) → R a b
+      → N (enters s a o group r p message) (enters s b o group r p message)
+  enters_alike a b o group r p None h = to_enter_alike a b o (asked_by r) h
+  enters_alike a b o group r p (Some message) h =
+      subst (λ log. N (by a (log_of a.met group)) (by b log)) (log_same a b h group)
+      (either_next (is_named message.name (names_entered (take p (log_of a.met group)))) _ _ _ _
+      (to_enter_alike a b o (asked_by r) h) (proposes_alike a b o group r p (enter_entry o.id message) (Replies []) h))
     where
-      by : Now → List Content → Now
-      by now log = cond (is_named message.name (names_entered (take p log))) (picks_to_enter s again now o (asked_by r)) (proposes s now o group r p (enter_entry o.id message) (Replies []))
+      by : Now → List Content → Next
+      by now log = cond (is_named message.name (names_entered (take p log))) (picks_to_enter s now o (asked_by r)) (Rests (proposes s now o group r p (enter_entry o.id message) (Replies [])))
 
-  handles_message_alike : (a b : Now) (o : Operation) (group : GroupId) (r : Reading) (p : ℕ) (message : Enter) → R a b → R (handles_message s a o group r p message) (handles_message s b o group r p message)
-  handles_message_alike a b o group r p message h = either (has s.handlers message.queue) _ _ _ _
+  handles_message_alike : (a b : Now) (o : Operation) (group : GroupId) (r : Reading) (p : ℕ) (message : Enter) → R a b → N (handles s a o group r p (Some message)) (handles s b o group r p (Some message))
+  handles_message_alike a b o group r p message h = either_next (has s.handlers message.queue) _ _ _ _
       (subst (λ listed. R (by a (listed_at a group p)) (by b listed)) (listed_same a b h group p)
       (proposes_alike a b o group r p (handling s o.id group message (table_rows s.cluster.schema group (listed_at a group p))) (Replies []) h))
       (ends_alike a b o.id _ _ refl h)
@@ -242,18 +250,18 @@ module _ (w : Scope) (s : Setting) where
       by : Now → Listed → Now
       by now listed = proposes s now o group r p (handling s o.id group message (table_rows s.cluster.schema group listed)) (Replies [])
 
-  handles_alike : (again : Now → Operation → Now) → Serves again → (a b : Now) (o : Operation) (group : GroupId) (r : Reading) (p : ℕ) (message : Option Enter) → R a b
-      → R (handles s again a o group r p message) (handles s again b o group r p message)
-  handles_alike again more a b o group r p None h = to_handle_alike again more a b o (asked_by r) h
-  handles_alike again more a b o group r p (Some message) h = handles_message_alike a b o group r p message h
+  handles_alike : (a b : Now) (o : Operation) (group : GroupId) (r : Reading) (p : ℕ) (message : Option Enter) → R a b
+      → N (handles s a o group r p message) (handles s b o group r p message)
+  handles_alike a b o group r p None h = to_handle_alike a b o (asked_by r) h
+  handles_alike a b o group r p (Some message) h = handles_message_alike a b o group r p message h
 
   module _ (id : OpId) (began : ℕ) (visited : List GroupId) (message : Option Enter) where
     abbrev one : Request → Phase → Operation
     one request phase = record { id = id; request = request; began = began; visited = visited; message = message; phase = phase }
 
-    finishes_by : (again : Now → Operation → Now) → Serves again → (a b : Now) (request : Request) (phase : Phase) (group : GroupId) (r : Reading) (p : ℕ) → R a b
-        → R (finishes s again a (one request phase) group r p) (finishes s again b (one request phase) group r p)
-    finishes_by again more a b (Txn transaction) phase group r p h = unless_full_alike a b o p _ _ h
+    finishes_by : (a b : Now) (request : Request) (phase : Phase) (group : GroupId) (r : Reading) (p : ℕ) → R a b
+        → N (finishes s a (one request phase) group r p) (finishes s b (one request phase) group r p)
+    finishes_by a b (Txn transaction) phase group r p h = unless_full_alike a b o p _ _ h
         (subst (λ rows. R (by a (rows_at a group p)) (by b rows)) (rows_same a b h group p) (sealed_alike a b o group r p (outcome s.cluster.schema transaction (rows_at a group p)) h))
       where
         o : Operation
@@ -261,7 +269,7 @@ module _ (w : Scope) (s : Setting) where
 
         by : Now → Rows → Now
         by now rows = sealed s now o group r p (outcome s.cluster.schema transaction rows)
-    finishes_by again more a b (BatchRequest own transactions) phase group r p h = unless_full_alike a b o p _ _ h
+    finishes_by a b (BatchRequest own transactions) phase group r p h = unless_full_alike a b o p _ _ h
         (subst (λ rows. R (by a (rows_at a group p)) (by b rows)) (rows_same a b h group p) (batch_sealed_alike a b o group r p (batch_outcome s.cluster.schema own transactions (rows_at a group p)) h))
       where
         o : Operation
@@ -269,63 +277,74 @@ module _ (w : Scope) (s : Setting) where
 
         by : Now → Rows → Now
         by now rows = batch_sealed s now o group r p (batch_outcome s.cluster.schema own transactions rows)
-    finishes_by again more a b (ReadRequested request) phase group r p h =
+    finishes_by a b (ReadRequested request) phase group r p h =
         ends_alike a b id _ _ (λ i. read_answer s request p (rows_same a b h group p i) (listed_same a b h group p i)) h
-    finishes_by again more a b (Find request) phase group r p h = ends_alike a b id _ _ (ap (local_found s.cluster.schema request p) (listed_same a b h group p)) h
-    finishes_by again more a b PumpEnter phase group r p h = unless_full_alike a b (one PumpEnter phase) p _ _ h (enters_alike again more a b (one PumpEnter phase) group r p message h)
-    finishes_by again more a b PumpHandle phase group r p h = unless_full_alike a b o p _ _ h
-        (subst (λ log. R (by a (log_of a.met group)) (by b log)) (log_same a b h group) (handles_alike again more a b o group r p (oldest_unhandled (take p (log_of a.met group))) h))
+    finishes_by a b (Find request) phase group r p h = ends_alike a b id _ _ (ap (local_found s.cluster.schema request p) (listed_same a b h group p)) h
+    finishes_by a b PumpEnter phase group r p h = unless_full_alike a b (one PumpEnter phase) p _ _ h (enters_alike a b (one PumpEnter phase) group r p message h)
+    finishes_by a b PumpHandle phase group r p h = unless_full_alike a b o p _ _ h
+        (subst (λ log. N (by a (log_of a.met group)) (by b log)) (log_same a b h group) (handles_alike a b o group r p (oldest_unhandled (take p (log_of a.met group))) h))
       where
         o : Operation
         o = one PumpHandle phase
 
-        by : Now → List Content → Now
-        by now log = handles s again now o group r p (oldest_unhandled (take p log))
-    finishes_by again more a b Refresh phase group r p h = keeps_alike a b (one Refresh phase) (one Refresh phase) refl h
+        by : Now → List Content → Next
+        by now log = handles s now o group r p (oldest_unhandled (take p log))
+    finishes_by a b Refresh phase group r p h = keeps_alike a b (one Refresh phase) (one Refresh phase) refl h
 
-  finishes_alike : (again : Now → Operation → Now) → Serves again → (a b : Now) (o : Operation) (group : GroupId) (r : Reading) (p : ℕ) → R a b → R (finishes s again a o group r p) (finishes s again b o group r p)
-  finishes_alike again more a b o group r p h = finishes_by o.id o.began o.visited o.message again more a b o.request o.phase group r p h
+  finishes_alike : (a b : Now) (o : Operation) (group : GroupId) (r : Reading) (p : ℕ) → R a b → N (finishes s a o group r p) (finishes s b o group r p)
+  finishes_alike a b o group r p h = finishes_by o.id o.began o.visited o.message a b o.request o.phase group r p h
 
   -- ---- a read goes on
   seeks_alike : (a b : Now) (o : Operation) (group : GroupId) (x y : ReadMove) → x ≡ y → R a b → R (seeks_on o a group x) (seeks_on o b group y)
   seeks_alike a b o group x y e h = keeps_alike (sends_more a x.sends) (sends_more b y.sends) _ _ (λ i. in_phase o (Reads group (e i).reading)) (sends_alike a b x.sends y.sends (λ i. (e i).sends) h)
 
-  reads_on_by : (again : Now → Operation → Now) → Serves again → (a b : Now) (o : Operation) (group : GroupId) (noted : Option Epoch) (asked : List ℕ) (stage : Stage) → R a b
-      → R (reads_on s again a o group (record { noted = noted; asked = asked; stage = stage })) (reads_on s again b o group (record { noted = noted; asked = asked; stage = stage }))
-  reads_on_by again more a b o group noted asked (Polling heard best at) h = keeps_alike a b o o refl h
-  reads_on_by again more a b o group noted asked (Catching p search) h =
-      subst (λ prefix. R (by a (prefix_of a.met group)) (by b prefix)) (prefix_same a b h group)
-      (either (nat_le p (prefix_of a.met group)) _ _ _ _
-      (finishes_alike again more (completes_read s a group r p) (completes_read s b group r p) o group r p (completes_alike a b group r p h))
+  reads_on_by : (a b : Now) (o : Operation) (group : GroupId) (noted : Option Epoch) (asked : List ℕ) (stage : Stage) → R a b
+      → N (reads_on s a o group (record { noted = noted; asked = asked; stage = stage })) (reads_on s b o group (record { noted = noted; asked = asked; stage = stage }))
+  reads_on_by a b o group noted asked (Polling heard best at) h = keeps_alike a b o o refl h
+  reads_on_by a b o group noted asked (Catching p search) h =
+      subst (λ prefix. N (by a (prefix_of a.met group)) (by b prefix)) (prefix_same a b h group)
+      (either_next (nat_le p (prefix_of a.met group)) _ _ _ _
+      (finishes_alike (completes_read s a group r p) (completes_read s b group r p) o group r p (completes_alike a b group r p h))
       (seeks_alike a b o group _ _ (ap (seeks (reader_of s o.id group) r (prefix_of a.met group + 1)) (clock_same a b h)) h))
     where
       r : Reading
       r = record { noted = noted; asked = asked; stage = Catching p search }
 
-      by : Now → ℕ → Now
-      by now prefix = cond (nat_le p prefix) (finishes s again (completes_read s now group r p) o group r p) (seeks_on o now group (seeks (reader_of s o.id group) r (prefix + 1) (clock_of now.met)))
+      by : Now → ℕ → Next
+      by now prefix = cond (nat_le p prefix) (finishes s (completes_read s now group r p) o group r p) (Rests (seeks_on o now group (seeks (reader_of s o.id group) r (prefix + 1) (clock_of now.met))))
 
-  reads_on_alike : (again : Now → Operation → Now) → Serves again → (a b : Now) (o : Operation) (group : GroupId) (r : Reading) → R a b → R (reads_on s again a o group r) (reads_on s again b o group r)
-  reads_on_alike again more a b o group r h = reads_on_by again more a b o group r.noted r.asked r.stage h
+  reads_on_alike : (a b : Now) (o : Operation) (group : GroupId) (r : Reading) → R a b → N (reads_on s a o group r) (reads_on s b o group r)
+  reads_on_alike a b o group r h = reads_on_by a b o group r.noted r.asked r.stage h
 
   -- ---- operations act
-  acts_by : (again : Now → Operation → Now) → Serves again → (a b : Now) (id : OpId) (request : Request) (began : ℕ) (visited : List GroupId) (message : Option Enter) (phase : Phase) → R a b
-      → R (acts s again a (record { id = id; request = request; began = began; visited = visited; message = message; phase = phase }))
-      (acts s again b (record { id = id; request = request; began = began; visited = visited; message = message; phase = phase }))
-  acts_by again more a b id request began visited message (Reads group r) h =
-      reads_on_alike again more a b (record { id = id; request = request; began = began; visited = visited; message = message; phase = Reads group r }) group r h
-  acts_by again more a b id request began visited message (Proposes group n asked proposal promised) h =
+  acts_by : (a b : Now) (id : OpId) (request : Request) (began : ℕ) (visited : List GroupId) (message : Option Enter) (phase : Phase) → R a b
+      → N (acts s a (record { id = id; request = request; began = began; visited = visited; message = message; phase = phase }))
+      (acts s b (record { id = id; request = request; began = began; visited = visited; message = message; phase = phase }))
+  acts_by a b id request began visited message (Reads group r) h =
+      reads_on_alike a b (record { id = id; request = request; began = began; visited = visited; message = message; phase = Reads group r }) group r h
+  acts_by a b id request began visited message (Proposes group n asked proposal promised) h =
       decides_alike a b (record { id = id; request = request; began = began; visited = visited; message = message; phase = Proposes group n asked proposal promised }) group n promised h
 
-  acts_alike : (again : Now → Operation → Now) → Serves again → Serves (acts s again)
-  acts_alike again more a b o h = acts_by again more a b o.id o.request o.began o.visited o.message o.phase h
+  acts_alike : (a b : Now) (o : Operation) → R a b → N (acts s a o) (acts s b o)
+  acts_alike a b o h = acts_by a b o.id o.request o.began o.visited o.message o.phase h
 
-  within_alike : (most : ℕ) → Serves (acts_within most s)
-  within_alike zero a b o h = keeps_alike a b o o refl h
-  within_alike (suc most) a b o h = acts_alike (acts_within most s) (within_alike most) a b o h
+  -- until it rests
+  rests_alike : (most : ℕ) (x y : Next) → N x y → R (rests_within most s x) (rests_within most s y)
+  rests_alike most (Rests a) (Rests b) h = h
+  rests_alike most (Rests a) (ActsAgain b p) h = absurd h
+  rests_alike most (ActsAgain a o) (Rests b) h = absurd h
+  rests_alike zero (ActsAgain a o) (ActsAgain b p) h = keeps_alike a b o p h.1 h.0
+  rests_alike (suc most) (ActsAgain a o) (ActsAgain b p) h =
+      subst (λ (q : Operation). R (rests_within most s (acts s a o)) (rests_within most s (acts s b q))) h.1 (rests_alike most (acts s a o) (acts s b o) (acts_alike a b o h.0))
 
-  pub goes_on_alike : Serves (goes_on s)
-  goes_on_alike a b o h = subst (λ groups. R (acts_within (length (groups_of a.met) + 2) s a o) (acts_within (length groups + 2) s b o)) ((h.met).kept).groups (within_alike (length (groups_of a.met) + 2) a b o h)
+  most_same : (a b : Now) → R a b → length (groups_of a.met) + 2 ≡ length (groups_of b.met) + 2
+  most_same a b h = ap (λ groups. length groups + 2) ((h.met).kept).groups
+
+  rested_alike : (a b : Now) (x y : Next) → R a b → N x y → R (rests_within (length (groups_of a.met) + 2) s x) (rests_within (length (groups_of b.met) + 2) s y)
+  rested_alike a b x y h k = subst (λ most. R (rests_within (length (groups_of a.met) + 2) s x) (rests_within most s y)) (most_same a b h) (rests_alike (length (groups_of a.met) + 2) x y k)
+
+  pub goes_on_alike : (a b : Now) (o : Operation) → R a b → R (goes_on s a o) (goes_on s b o)
+  goes_on_alike a b o h = rested_alike a b (ActsAgain a o) (ActsAgain b o) h (h, refl)
 
   in_turn_alike : (a b : Now) (t : Heard) → R a b → R (acts_in_turn s a t) (acts_in_turn s b t)
   in_turn_alike a b t h = goes_on_alike (sends_more a t.sends) (sends_more b t.sends) t.operation (sends_alike a b t.sends t.sends refl h)
@@ -361,34 +380,34 @@ module _ (w : Scope) (s : Setting) where
   global_same a b h request = λ i. find_by s.cluster.schema request ((h.met).marks i) []
       (flat_map (λ (mark : Mark). list_after (take (mark.position).0 (log_same a b h mark.group i)) []) ((h.met).marks i)) (numbered s.cluster.schema.indexes request.index)
 
-  read_begins_alike : (a b : Now) (o : Operation) (request : ReadRequest) (mode : Mode) → R a b → R (read_begins s a o request mode) (read_begins s b o request mode)
-  read_begins_alike a b o request Current h = begins_read_alike (goes_on s) goes_on_alike a b o request.group None [] h
+  read_begins_alike : (a b : Now) (o : Operation) (request : ReadRequest) (mode : Mode) → R a b → N (read_begins s a o request mode) (read_begins s b o request mode)
+  read_begins_alike a b o request Current h = begins_read_alike a b o request.group None [] h
   read_begins_alike a b o request Snapshot h = ends_alike a b o.id _ _
       (λ i. read_answer s request (applied_same a b h request.group i) (snapshot_same a b h request.group i) (snapshot_listed_same a b h request.group i)) h
   read_begins_alike a b o request Inconsistent h = ends_alike a b o.id _ _
       (λ i. read_answer s request (applied_same a b h request.group i) (stored_same a b h request.group i) (stored_listed_same a b h request.group i)) h
 
-  local_find_alike : (a b : Now) (o : Operation) (request : FindRequest) (group : GroupId) (mode : Mode) → R a b → R (local_find_begins s a o request group mode) (local_find_begins s b o request group mode)
-  local_find_alike a b o request group Current h = begins_read_alike (goes_on s) goes_on_alike a b o group None [] h
+  local_find_alike : (a b : Now) (o : Operation) (request : FindRequest) (group : GroupId) (mode : Mode) → R a b → N (local_find_begins s a o request group mode) (local_find_begins s b o request group mode)
+  local_find_alike a b o request group Current h = begins_read_alike a b o group None [] h
   local_find_alike a b o request group Snapshot h = ends_alike a b o.id _ _ (λ i. local_found s.cluster.schema request (applied_same a b h group i) (snapshot_listed_same a b h group i)) h
   local_find_alike a b o request group Inconsistent h = ends_alike a b o.id _ _ (λ i. local_found s.cluster.schema request (applied_same a b h group i) (stored_listed_same a b h group i)) h
 
-  find_begins_alike : (a b : Now) (o : Operation) (request : FindRequest) (group : Option GroupId) → R a b → R (find_begins s a o request group) (find_begins s b o request group)
+  find_begins_alike : (a b : Now) (o : Operation) (request : FindRequest) (group : Option GroupId) → R a b → N (find_begins s a o request group) (find_begins s b o request group)
   find_begins_alike a b o request None h = ends_alike a b o.id _ _ (global_same a b h request) h
   find_begins_alike a b o request (Some group) h = local_find_alike a b o request group request.mode h
 
   module _ (id : OpId) (began : ℕ) (visited : List GroupId) (message : Option Enter) (phase : Phase) where
-    begins_by : (a b : Now) (request : Request) → R a b → R (begins s a (one id began visited message request phase)) (begins s b (one id began visited message request phase))
-    begins_by a b (Txn transaction) h = begins_read_alike (goes_on s) goes_on_alike a b (one id began visited message (Txn transaction) phase) transaction.group None [] h
-    begins_by a b (BatchRequest group transactions) h = begins_read_alike (goes_on s) goes_on_alike a b (one id began visited message (BatchRequest group transactions) phase) group None [] h
-    begins_by a b (ReadRequested request) h = read_begins_alike a b (one id began visited message (ReadRequested request) phase) request request.mode h
-    begins_by a b (Find request) h = find_begins_alike a b (one id began visited message (Find request) phase) request request.group h
-    begins_by a b PumpEnter h = to_enter_alike (goes_on s) goes_on_alike a b (one id began visited message PumpEnter phase) [] h
-    begins_by a b PumpHandle h = to_handle_alike (goes_on s) goes_on_alike a b (one id began visited message PumpHandle phase) [] h
-    begins_by a b Refresh h = ends_alike a b id _ _ (ap Refreshed (marks_same a b h)) h
+    first_by : (a b : Now) (request : Request) → R a b → N (acts_first s a (one id began visited message request phase)) (acts_first s b (one id began visited message request phase))
+    first_by a b (Txn transaction) h = begins_read_alike a b (one id began visited message (Txn transaction) phase) transaction.group None [] h
+    first_by a b (BatchRequest group transactions) h = begins_read_alike a b (one id began visited message (BatchRequest group transactions) phase) group None [] h
+    first_by a b (ReadRequested request) h = read_begins_alike a b (one id began visited message (ReadRequested request) phase) request request.mode h
+    first_by a b (Find request) h = find_begins_alike a b (one id began visited message (Find request) phase) request request.group h
+    first_by a b PumpEnter h = to_enter_alike a b (one id began visited message PumpEnter phase) [] h
+    first_by a b PumpHandle h = to_handle_alike a b (one id began visited message PumpHandle phase) [] h
+    first_by a b Refresh h = ends_alike a b id _ _ (ap Refreshed (marks_same a b h)) h
 
   begins_alike : (a b : Now) (o : Operation) → R a b → R (begins s a o) (begins s b o)
-  begins_alike a b o h = begins_by o.id o.began o.visited o.message o.phase a b o.request h
+  begins_alike a b o h = rested_alike a b (acts_first s a o) (acts_first s b o) h (first_by o.id o.began o.visited o.message o.phase a b o.request h)
 
   pub begun_alike : (a b : Now) (o : Operation) (refusal : Option Answer) → R a b → R (unless_refused s a o refusal) (unless_refused s b o refusal)
   begun_alike a b o None h = begins_alike a b o h

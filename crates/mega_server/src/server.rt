@@ -12,7 +12,7 @@ ghost use Rattle.mega_durable.specs.of_core.of_step_parts.Notes.{met_of};
 ghost use Rattle.mega_promises.specs.Runs.{appends};
 ghost use Rattle.mega_durable.specs.Compacting.{AtEachUp, IsToCompact};
 ghost use Rattle.mega_durable.specs.Cut.{LogProceeds, failed_by, log_failed_by};
-ghost use Rattle.mega_durable.specs.Spilling.{rows_in};
+ghost use Rattle.mega_durable.specs.Spilling.{AreSpilled, marks_of, rows_in};
 ghost use Rattle.mega_durable.specs.Standing.{IsUp, records_in};
 ghost use Rattle.mega_durable.specs.Stepped.{AtEach};
 ghost use Rattle.mega_serve.specs.Causes.{HaveGone, IsDueTo};
@@ -46,6 +46,7 @@ fn readied<R: Records, V: Versions>(alloc: Global, up: &mut Up<R, V>) -> Result<
     ensures state { V.is_told ≡ true → V.cleaned (rows_in up.old.node) ≡ [] → OnOk result (AtEachUp R.Records V.version up.old.node (λ h node. IsUp R.Records V.version h up.new.node node)) }
     ensures counted { OnOk result (IsToCompact R.Records up.old.node.replica.voter.logs → R.count_of (records_in up.new.node) ≡ 1) }
     ensures room { OnOk result (V.is_full (rows_in up.new.node) ≡ false) }
+    ensures spilled { V.is_full (rows_in up.old.node) ≡ true → OnOk result (AtEachUp R.Records V.version up.old.node (λ h node. AreSpilled V.Versions (marks_of node.met node.stored) (rows_in up.old.node) (rows_in up.new.node))) }
     ensures cause { IfErr result (λ fault. IsDueTo (fault_of fault) (devices_of R.Records V.Versions up.old.node) (devices_of R.Records V.Versions up.new.node)) }
     ensures later { HaveGone (devices_of R.Records V.Versions up.old.node) (devices_of R.Records V.Versions up.new.node) }
     ensures members { up.new.node.replica.members ≡ up.old.node.replica.members }
@@ -90,13 +91,16 @@ impl<R: Records, V: Versions, H: QueueHandlers> Server<R, V, H> {
 
     /// The node makes the step of an event, behind one record in place of all of its log where they are due for it, and a spill of
     /// its rows where they are full.
-    fn steps(&mut self, alloc: Global, event: Event) -> Result<Step, UpFault>
+    pub fn steps(&mut self, alloc: Global, event: Event) -> Result<Step, UpFault>
         ensures notes { V.is_told ≡ true → V.cleaned (rows_in self.old.up.node) ≡ [] → IfOk result (λ made. AtEach R.Records V.version (H.meant self.old.handlers) self.old.up.node (event_of event) (λ h s node. map met_of made.notes ≡ (step s node (event_of event)).notes)) }
         ensures sends { V.is_told ≡ true → V.cleaned (rows_in self.old.up.node) ≡ [] → IfOk result (λ made. AtEach R.Records V.version (H.meant self.old.handlers) self.old.up.node (event_of event) (λ h s node. made.sends ≡ (step s node (event_of event)).sends)) }
         ensures state { V.is_told ≡ true → V.cleaned (rows_in self.old.up.node) ≡ [] → OnOk result (AtEach R.Records V.version (H.meant self.old.handlers) self.old.up.node (event_of event) (λ h s node. IsUp R.Records V.version h self.new.up.node (step s node (event_of event)).node)) }
 
         // Records that were due are then at most two: one of all before the step, and that of the step.
         ensures few { V.is_told ≡ true → V.cleaned (rows_in self.old.up.node) ≡ [] → OnOk result (IsToCompact R.Records self.old.up.node.replica.voter.logs → AtEach R.Records V.version (H.meant self.old.handlers) self.old.up.node (event_of event) (λ h s node. R.count_of (records_in self.new.up.node) ≤ 2)) }
+
+        // Rows that were full then have the marks of that moment, and so does all that a crash leaves of them.
+        ensures marks { V.is_full (rows_in self.old.up.node) ≡ true → OnOk result (AtEachUp R.Records V.version self.old.up.node (λ h node. AreSpilled V.Versions (marks_of node.met node.stored) (rows_in self.old.up.node) (rows_in self.new.up.node))) }
 
         ensures handlers { H.meant self.new.handlers ≡ H.meant self.old.handlers }
         ensures cause { IfErr result (λ fault. IsDueTo (fault_of fault) (devices_of R.Records V.Versions self.old.up.node) (devices_of R.Records V.Versions self.new.up.node)) }

@@ -6,6 +6,7 @@ pub mod Touching
 pub mod Replying
 pub mod News
 pub mod Fetching
+pub mod Listening
 pub use Rattle.mega_step_choices.specs.Behind
 pub use Rattle.mega_step_choices.specs.Hearing
 pub use Rattle.mega_step_choices.specs.Staging

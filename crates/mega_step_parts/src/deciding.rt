@@ -9,11 +9,11 @@ ghost use Rattle.mega_step_parts.specs.Notes.{met_of};
 ghost use Rattle.mega_step_parts.specs.Placed.{IsPlaced};
 ghost use Rattle.mega_step_choices.specs.Staging.{Stages};
 
+use crate::listening::Listeners;
 use crate::note::Note;
 use mega_base::{Copied, GroupId, Items, NoMemory, Position};
 use mega_disk::Records;
 use mega_entry::Entry;
-use mega_step_work::mega_operations::{Heard, first_settled};
 use mega_step_work::mega_voter::Voter;
 use mega_wire::Body;
 use std::alloc::Global;
@@ -82,10 +82,10 @@ pub(crate) fn tells_decision(body: &Body) -> bool
 }
 
 /// What the first of these operations settled that settled anything.
-fn settled(alloc: Global, heard: &[Heard]) -> Result<Option<Chosen>, NoMemory>
+fn settled(alloc: Global, heard: &Listeners) -> Result<Option<Chosen>, NoMemory>
     ensures { IfOk result (λ d. d ≡ first_settled heard.now) }
 {
-    match first_settled(heard) {
+    match heard.first_settled() {
         Some(found) => {
             let made = choice(alloc, found.group, found.position, found.entry)?;
             Ok(Some(made))
@@ -95,7 +95,7 @@ fn settled(alloc: Global, heard: &[Heard]) -> Result<Option<Chosen>, NoMemory>
 }
 
 /// The decision that a message tells, or else what the first of these operations settled by it.
-pub fn decision(alloc: Global, body: &Body, heard: &[Heard]) -> Result<Option<Chosen>, NoMemory>
+pub fn decision(alloc: Global, body: &Body, heard: &Listeners) -> Result<Option<Chosen>, NoMemory>
     ensures { IfOk result (λ d. d ≡ or_settled (told_decision body.now) (first_settled heard.now)) }
 {
     match told_decision(alloc, body)? {

@@ -1,5 +1,5 @@
 //! The groups of which a step may apply more.
-ghost use Rattle.std.specs.Prelude.{◌≡◌, ◌++◌, ◌∷◌, ◌&&◌, ℕ, [], List, Option, Some, None, IfOk, OnOk, filter, fold};
+ghost use Rattle.std.specs.Prelude.{◌≡◌, ◌++◌, ◌∷◌, ◌||◌, ℕ, [], List, Option, Some, None, IfOk, OnOk, filter, fold};
 ghost use Rattle.std.specs.List.{list_any};
 ghost use Rattle.mega_base.specs.declared.names.GroupId.{GroupId as Group};
 ghost use Rattle.mega_node_laws.specs.About.{group_in};
@@ -10,9 +10,11 @@ ghost use Rattle.mega_rules.specs.Steps.{decision_note, first_settled, onto, tol
 ghost use Rattle.mega_replica.specs.Following.{progress_at};
 ghost use Rattle.mega_step_work.specs.of_voter.Telling.{Tells};
 ghost use Rattle.mega_step_choices.specs.Behind.{Keeps, is_behind};
+ghost use Rattle.mega_step_parts.specs.Listening.{unheard};
 ghost use Rattle.mega_step_parts.specs.Touching.{asked_groups, begun_groups, named, reaches, roams, told_groups, touched, waits, with_reach};
 
 use crate::deciding::tells_decision;
+use crate::listening::Listeners;
 use mega_base::{Copied, GroupId, Items, NoMemory};
 use mega_disk::{Records, Versions};
 use mega_outcome::Request;
@@ -20,7 +22,7 @@ use mega_propose::is_same_group;
 use mega_replica::StoredRows;
 use mega_step_choices::is_behind;
 use mega_step_work::is_pump;
-use mega_step_work::mega_operations::{Heard, Operation, Phase, first_settled};
+use mega_step_work::mega_operations::{Heard, Operation, Phase};
 use mega_step_work::mega_voter::Voter;
 use mega_wire::Body;
 use std::alloc::Global;
@@ -115,19 +117,34 @@ fn reaches(operation: &Operation) -> bool
 fn with_reach(
     alloc: Global,
     groups: Items<GroupId>,
-    heard: &Heard,
+    operation: &Operation,
 ) -> Result<Items<GroupId>, NoMemory>
-    ensures { IfOk result (λ made. made ≡ with_reach groups heard.now) }
+    ensures { IfOk result (λ made. made ≡ with_reach groups (unheard operation.now)) }
 {
-    if !reaches(&heard.operation) {
+    if !reaches(operation) {
         return Ok(groups);
     }
-    let group = group_of(alloc, &heard.operation)?;
+    let group = group_of(alloc, operation)?;
     with_group(alloc, groups, group)
 }
 
-/// These groups, and those in which operations read through a position.
-fn with_reaches(
+/// These groups, and those in which operations read through a position that hear nothing.
+fn with_unmoved_reaches(
+    alloc: Global,
+    groups: Items<GroupId>,
+    operations: &[Operation],
+) -> Result<Items<GroupId>, NoMemory>
+    ensures { IfOk result (λ made. made ≡ fold (λ some o. with_reach some (unheard o)) groups operations.now) }
+{
+    let mut made = groups;
+    for operation in operations {
+        made = with_reach(alloc, made, operation)?;
+    }
+    Ok(made)
+}
+
+/// These groups, and those in which operations read through a position that may have heard something.
+fn with_heard_reaches(
     alloc: Global,
     groups: Items<GroupId>,
     heard: &[Heard],
@@ -136,9 +153,22 @@ fn with_reaches(
 {
     let mut made = groups;
     for one in heard {
-        made = with_reach(alloc, made, one)?;
+        made = with_reach(alloc, made, &one.operation)?;
     }
     Ok(made)
+}
+
+/// These groups, and those in which operations read through a position.
+#[tactic(auto, using(crate::proofs::Parted::reached_of_both))]
+fn with_reaches(
+    alloc: Global,
+    groups: Items<GroupId>,
+    heard: &Listeners,
+) -> Result<Items<GroupId>, NoMemory>
+    ensures { IfOk result (λ made. made ≡ fold with_reach groups heard.now) }
+{
+    let first = with_unmoved_reaches(alloc, groups, heard.unmoved.as_slice())?;
+    with_heard_reaches(alloc, first, heard.heard.as_slice())
 }
 
 /// This group alone.
@@ -189,11 +219,11 @@ fn with_told(alloc: Global, groups: Items<GroupId>, body: &Body) -> Result<Items
 fn with_settled(
     alloc: Global,
     groups: Items<GroupId>,
-    heard: &[Heard],
+    heard: &Listeners,
 ) -> Result<Items<GroupId>, NoMemory>
     ensures { IfOk result (λ made. (met : List Met) → groups ≡ groups_of met → made ≡ groups_of (onto (decision_note (first_settled heard.now)) met)) }
 {
-    match first_settled(heard) {
+    match heard.first_settled() {
         Some(found) => {
             let group = found.group.copy(alloc)?;
             with_group(alloc, groups, group)
@@ -207,7 +237,7 @@ fn with_decision(
     alloc: Global,
     groups: Items<GroupId>,
     body: &Body,
-    heard: &[Heard],
+    heard: &Listeners,
 ) -> Result<Items<GroupId>, NoMemory>
     ensures { IfOk result (λ made. (met : List Met) → groups ≡ groups_of met → made ≡ groups_of (onto (decision_note (or_settled (told_decision body.now) (first_settled heard.now))) met)) }
 {
@@ -218,17 +248,40 @@ fn with_decision(
 }
 
 /// Whether an operation may read any group as it acts: a pump that reads through a position.
-fn roams(heard: &Heard) -> bool
-    ensures { result ≡ roams heard.now }
+fn roams(operation: &Operation) -> bool
+    ensures { result ≡ roams (unheard operation.now) }
 {
-    reaches(&heard.operation) && is_pump(&heard.operation.request)
+    reaches(operation) && is_pump(&operation.request)
+}
+
+/// Whether such a pump is among operations that hear nothing.
+fn is_any_unmoved_roaming(operations: &[Operation]) -> bool
+    ensures { result ≡ list_any (λ o. roams (unheard o)) operations.now }
+{
+    operations.iter().any(|operation| roams(operation))
+}
+
+/// Whether such a pump is among operations that may have heard something.
+fn is_any_heard_roaming(heard: &[Heard]) -> bool
+    ensures { result ≡ list_any roams heard.now }
+{
+    heard.iter().any(|one| roams(&one.operation))
+}
+
+/// Whether one of the two holds.
+fn either(one: bool, other: bool) -> bool
+    ensures { result ≡ (one || other) }
+{
+    one || other
 }
 
 /// Whether such a pump is among the operations.
-fn is_any_roaming(heard: &[Heard]) -> bool
+#[tactic(auto, using(crate::proofs::Parted::any_of_both))]
+fn is_any_roaming(heard: &Listeners) -> bool
     ensures { result ≡ list_any roams heard.now }
 {
-    heard.iter().any(|one| roams(one))
+    let unmoved = is_any_unmoved_roaming(heard.unmoved.as_slice());
+    either(unmoved, is_any_heard_roaming(heard.heard.as_slice()))
 }
 
 /// The group of the decision that a message brings, or all groups and that one.
@@ -236,7 +289,7 @@ fn told_groups<R: Records>(
     alloc: Global,
     voter: &Voter<R>,
     body: &Body,
-    heard: &[Heard],
+    heard: &Listeners,
     all: bool,
 ) -> Result<Items<GroupId>, NoMemory>
     ensures { IfOk result (λ groups. (met : List Met) → Tells voter.now.logs.kept met → groups ≡ told_groups all met (or_settled (told_decision body.now) (first_settled heard.now))) }
@@ -254,7 +307,7 @@ pub fn touched<R: Records>(
     alloc: Global,
     voter: &Voter<R>,
     body: &Body,
-    heard: &[Heard],
+    heard: &Listeners,
 ) -> Result<Items<GroupId>, NoMemory>
     ensures { IfOk result (λ groups. (met : List Met) → Tells voter.now.logs.kept met → groups ≡ touched met body.now heard.now) }
 {

@@ -1,6 +1,7 @@
 //! An operation proposes its own entry, beginning with the leader of the position.
 ghost use Rattle.std.specs.Prelude.{◌≡◌, ◌+◌, ◌<◌, ◌^◌, IfOk, Some};
 ghost use Rattle.std.specs.List.{list_any};
+ghost use Rattle.std.specs.Result.{is_ok};
 ghost use Rattle.std.specs.Option.{option_copied};
 ghost use Rattle.mega_handler.specs.Named.{Meanings};
 ghost use Rattle.mega_operations.specs.Phases.{promised_of};
@@ -10,7 +11,7 @@ ghost use Rattle.mega_outcome.specs.Outcome.{entry_of_done};
 ghost use Rattle.mega_propose.specs.Rounds.{asks};
 ghost use Rattle.mega_read.specs.Catching.{asked_by, site};
 ghost use Rattle.mega_rules.specs.Operations.{Now, Proposes, Replies};
-ghost use Rattle.mega_rules.specs.Acting.{batch_sealed, is_taken, leader_after, proposes, proposes_by, reader_of, sealed, sends_more, unless_decided};
+ghost use Rattle.mega_rules.specs.Acting.{batch_sealed, leader_after, proposes, proposes_by, reader_of, sealed, sends_more, unless_decided};
 ghost use Rattle.mega_voter.specs.Telling.{Tells};
 ghost use Rattle.mega_step_work.specs.Actions.{does, said};
 ghost use Rattle.mega_step_work.specs.Reaching.{operation_of};
@@ -301,7 +302,7 @@ impl CompleteRead {
 
 /// Whether a transaction of a batch is taken.
 fn is_any_taken(results: &[Result<Items<Option<Shown>>, Turn>]) -> bool
-    ensures { result ≡ list_any is_taken results.now }
+    ensures { result ≡ list_any is_ok results.now }
 {
     results.iter().any(|one| one.is_ok())
 }

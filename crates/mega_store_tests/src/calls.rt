@@ -6,10 +6,10 @@ ghost use Rattle.mega_ballot.specs.Ballots.{IsBallot};
 ghost use Rattle.mega_entry.specs.Entries.{entry_text, IsEntry};
 
 use crate::crashes::entry;
-use crate::draws::Draws;
 use mega_ballot::Ballot;
 use mega_base::{Bytes, Epoch, GroupId, NoMemory, NodeId, OpId, Position};
 use mega_entry::{Entry, EntryFault};
+use mega_gen::DrawnNumbers;
 use std::alloc::Global;
 
 /// What a call asks of the logs.
@@ -38,7 +38,7 @@ pub struct Call {
 
 impl Call {
     /// A call of an era: with the eras more places open, and ballots and epochs rise. Half of the ballots are zero.
-    pub fn drawn(draws: &mut Draws, era: u8) -> Call
+    pub fn drawn(draws: &mut DrawnNumbers, era: u8) -> Call
         requires { era < 64 }
     {
         let raised = draws.draw(2) == 0;
@@ -56,7 +56,7 @@ impl Call {
 }
 
 /// A drawn kind.
-fn drawn_kind(draws: &mut Draws) -> Kind {
+fn drawn_kind(draws: &mut DrawnNumbers) -> Kind {
     match draws.draw(16) {
         0..=3 => Kind::Promise,
         4..=7 => Kind::Accept,

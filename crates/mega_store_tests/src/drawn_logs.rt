@@ -5,12 +5,12 @@ ghost use Rattle.mega_wal.specs.Compaction.{IsOfFormat};
 ghost use Rattle.mega_wal.specs.Items.{IsItem};
 
 use crate::calls::{Call, Kind, ballot, entry_of, epoch, group, node, number_of, position};
-use crate::draws::Draws;
 use crate::plain::{CallResult, Plain, Seen};
 use mega_ballot::Ballot;
 use mega_base::{Epoch, GroupId, NodeId, Position};
 use mega_disk::MemRecords;
 use mega_entry::Entry;
+use mega_gen::DrawnNumbers;
 use mega_wal::{LogFault, Logs, Promised, Voted};
 use std::alloc::Global;
 use std::process::Abort;
@@ -250,7 +250,7 @@ fn run(rt: &impl Abort, alloc: Global, seed: u64, flushes: u32) -> Result<(), Fa
     requires { flushes ≤ 4096 }
 {
     let before = 4096 - flushes;
-    let mut draws = Draws::new(seed);
+    let mut draws = DrawnNumbers::new(seed);
     let mut logs = worn(alloc, before)?;
     let mut plain = Plain {
         before,

@@ -1,7 +1,7 @@
 //! Drawn calls of versioned rows beside a list that keeps everything.
-use crate::draws::Draws;
 use mega_base::{Bytes, Cell, Items, Position, Row, Value};
 use mega_disk::Versions;
+use mega_gen::DrawnNumbers;
 use mega_rows::VersionedRows;
 use std::alloc::Global;
 use std::process::Abort;
@@ -103,7 +103,7 @@ fn scanned_in(list: &[ListedVersion], from: u8, to: u8, at: u64) -> i64 {
 fn call(
     rt: &impl Abort,
     alloc: Global,
-    draws: &mut Draws,
+    draws: &mut DrawnNumbers,
     rows: &mut VersionedRows,
     list: &mut Vec<ListedVersion>,
     cleaned: &mut u64,
@@ -157,7 +157,7 @@ fn call(
 fn ten_thousand_calls_beside_a_list_that_keeps_everything(rt: HostRuntime) {
     let alloc = rt.alloc();
     for seed in 1..=10u64 {
-        let mut draws = Draws::new(seed);
+        let mut draws = DrawnNumbers::new(seed);
         let mut rows = VersionedRows::new(alloc);
         let mut list = Vec::new(alloc);
         let mut cleaned = 0;

@@ -12,8 +12,6 @@ mod drawn_logs;
 #[cfg(test)]
 mod drawn_rows;
 #[cfg(test)]
-mod draws;
-#[cfg(test)]
 mod journal;
 #[cfg(test)]
 mod plain;

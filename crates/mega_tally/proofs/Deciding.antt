@@ -13,12 +13,13 @@ use Rattle.mega_entry.specs.declared.content.Content.{Content}
 use Rattle.mega_syntax.specs.Names.{same}
 use Rattle.mega_transcript.specs.declared.item.Item.{Item}
 use Rattle.mega_transcript.specs.declared.item.Item.TheVariants.{Decide}
-use Rattle.mega_transcript.specs.Counts.{climb, greatest_of, group_cmp, is_decided, prefix_of}
+use Rattle.mega_base.specs.Climbing.{climb}
+use Rattle.mega_transcript.specs.Counts.{greatest_of, group_cmp, is_decided, prefix_of}
 use Rattle.mega_tally.specs.declared.reach.Reach.{Reach}
 use Rattle.mega_tally.specs.declared.reach.Bounds.{Bounds}
 use Rattle.mega_tally.specs.Reaching.{Reaches, ReachesOrNone, Widens, bounds_with, with_position}
 use Rattle.mega_tally.specs.Following.{Decides, Follows, Log, Logs, log_cmp}
-use Rattle.mega_tally.proofs.Climbing.{climb_same, climb_skip}
+use Rattle.mega_base.proofs.Climbs.{climb_same, climb_skip}
 
 -- ---- one log
 

@@ -1,3 +1,2 @@
-pub mod Climbing
 pub mod Deciding
 pub mod Adding

@@ -5,7 +5,8 @@ use Rattle.std.specs.declared.cmp.Ordering.{Ordering}
 use Rattle.std.specs.BTreeMap.{BTreeMap, get}
 use Rattle.mega_base.specs.declared.names.GroupId.{GroupId}
 use Rattle.mega_transcript.specs.declared.item.Item.{Item}
-use Rattle.mega_transcript.specs.Counts.{climb, greatest_of, group_cmp, is_decided}
+use Rattle.mega_base.specs.Climbing.{climb}
+use Rattle.mega_transcript.specs.Counts.{greatest_of, group_cmp, is_decided}
 use Rattle.mega_tally.specs.declared.reach.Reach.{Reach}
 use Rattle.mega_tally.specs.Reaching.{ReachesOrNone, with_position}
 

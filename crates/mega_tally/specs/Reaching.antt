@@ -2,7 +2,7 @@
 use Rattle.std.specs.Prelude.{◌≡◌, ℕ, ◌-◌, ◌==◌, ◌||◌, max, Bool, false, Option, Some, None}
 use Rattle.std.specs.Ordering.{nat_cmp}
 use Rattle.std.specs.BTreeSet.{BTreeSet, contains}
-use Rattle.mega_transcript.specs.Counts.{climb}
+use Rattle.mega_base.specs.Climbing.{climb}
 use Rattle.mega_tally.specs.declared.reach.Bounds.{Bounds}
 use Rattle.mega_tally.specs.declared.reach.Reach.{Reach}
 

@@ -2,7 +2,7 @@
 ghost use Rattle.std.specs.Prelude.{◌≡◌, ◌+◌, ◌<◌, ◌^◌, ◌||◌, ℕ, Bool, max, OnOk, IfOk, false};
 ghost use Rattle.std.specs.Ordering.{is_eq, nat_cmp};
 ghost use Rattle.std.specs.BTreeSet.{contains};
-ghost use Rattle.mega_transcript.specs.Counts.{climb};
+ghost use Rattle.mega_base.specs.Climbing.{climb};
 ghost use Rattle.mega_tally.specs.Reaching.{Reaches, bounds_with, with_position};
 
 use mega_base::NoMemory;
@@ -46,7 +46,7 @@ fn is_decided(positions: &BTreeSet<u64>, position: u64) -> bool
 }
 
 /// How far all positions are decided: from one that is reached, in at most so many steps.
-#[tactic(auto, using(crate::proofs::Climbing::climb_on, crate::proofs::Climbing::climb_stop, crate::proofs::Climbing::climb_end))]
+#[tactic(auto, using(mega_base::proofs::Climbs::climb_on, mega_base::proofs::Climbs::climb_stop, mega_base::proofs::Climbs::climb_end))]
 fn climbed(positions: &BTreeSet<u64>, from: u64, steps: u64) -> u64
     requires { from + steps < 2 ^ 64 }
     ensures { result ≡ climb (contains nat_cmp positions.now) steps from }

@@ -1,11 +1,8 @@
 -- Compact JSON with no float is read back.
-use Rattle.std.proofs.Common.{◌≡◌, ℕ, zero, suc, ◌^◌, ◌<◌, ◌≤◌, ◌==◌, ◌&&◌, not, pos, negsuc, Bool, true, false, List, [], ◌∷◌, ◌++◌, refl, sym, ap, ◌∙◌, Some, None, arith, append-nil, decimal, IsUtf8, inl, inr, Less, Greater, nat_cmp}
+use Rattle.std.proofs.Common.{◌≡◌, ℕ, zero, suc, ◌^◌, ◌<◌, ◌≤◌, ◌==◌, ◌&&◌, not, pos, negsuc, Bool, true, false, List, [], ◌∷◌, ◌++◌, refl, sym, ap, ◌∙◌, Some, None, arith, append-nil, decimal, IsUtf8, inl, inr}
 use Rattle.std.specs.Prelude.{if◌then◌else◌, option_map, option_and_then}
-use Rattle.std.specs.Ordering.{ordering_reverse}
-use Rattle.std.specs.Cmp.Lexicographic.{slice_cmp}
 use Rattle.std.proofs.lemmas.Bool.{and_parts, cases_eq, cases_lt}
 use Rattle.std.proofs.lemmas.Bool.Decides.{nat_tests}
-use Rattle.std.proofs.lemmas.Cmp.{nat_list_cmp_total}
 use Rattle.std.proofs.lemmas.Fmt.{IsAscii-decimal, IsAscii-signed}
 use Rattle.std.proofs.lemmas.List.Folds.{list_all-append}
 use Rattle.std.proofs.lemmas.Str.{IsUtf8-append, IsUtf8-nil, IsUtf8-from_ascii, is_utf8-from_IsUtf8}
@@ -23,6 +20,8 @@ use Rattle.serde_json.specs.Read.{of_json, of_items, of_members, read, max_depth
 use Rattle.serde_json.specs.Written.{number_text, outline, items_outline, members_outline, comma_if, compact_text, items_text, members_text}
 use Rattle.serde_json.proofs.Numbers.{number_of-decimal, number_of-negative}
 use Rattle.serde_json.proofs.Texts.{print-outline}
+use Rattle.mega_json_laws.proofs.Joining.{AreBelowFirst, below_first, join, join_nil, join_one, none_below, put_last}
+use Rattle.mega_json_laws.specs.Whole.{IsBelow}
 use Rattle.mega_transcript.specs.Requests.{json_of}
 use Rattle.mega_transcript.proofs.Forms.{lacks, decimal-lacks}
 
@@ -33,11 +32,6 @@ IsSoundNumber (unsigned n) = n < 2 ^ 64
 IsSoundNumber (negative (pos n)) = ⊥
 IsSoundNumber (negative (negsuc n)) = n < 2 ^ 63
 IsSoundNumber (float x) = ⊥
-
--- the name is below the first
-abbrev pub IsBelow : List ℕ → Members → Type 0
-IsBelow k no_members = Unit {0}
-IsBelow k (member l d ms) = slice_cmp nat_cmp k l ≡ Less
 
 abbrev mutual
   pub IsSound : ℕ → Data → Type 0
@@ -104,47 +98,6 @@ mutual
   members_shallow n no_members s = omega arith
   members_shallow n (member k d ms) s = omega (arith, shallow n d s.1.0, members_shallow n ms s.1.1.1)
 
--- ---- members that go in one after another, in order
-
-abbrev join : Members → Members → Members
-join no_members ms = ms
-join (member k d found) ms = member k d (join found ms)
-
-join-nil : (found : Members) → found ≡ join found no_members
-join-nil no_members = refl
-join-nil (member k d found) = ap (member k d) (join-nil found)
-
-join-one : (found : Members) (k : List ℕ) (d : Data) (ms : Members) → join (join found (member k d no_members)) ms ≡ join found (member k d ms)
-join-one no_members k d ms = refl
-join-one (member l e found) k d ms = ap (member l e) (join-one found k d ms)
-
--- each name is below this one
-abbrev AreBelow : Members → List ℕ → Type 0
-AreBelow no_members k = Unit {0}
-AreBelow (member l e found) k = (slice_cmp nat_cmp l k ≡ Less) × AreBelow found k
-
-abbrev AreBelowFirst : Members → Members → Type 0
-AreBelowFirst found no_members = Unit {0}
-AreBelowFirst found (member k d ms) = AreBelow found k
-
-put_last : (k : List ℕ) (d : Data) (found : Members) → AreBelow found k → put k d found ≡ join found (member k d no_members)
-put_last k d no_members h = refl
-put_last k d (member l e found) h =
-    let above : slice_cmp nat_cmp k l ≡ Greater = nat_list_cmp_total.antisymm k l ∙ ap ordering_reverse h.0 in
-    rw above (ap (member l e) (put_last k d found h.1))
-
-below_next : (found : Members) (k : List ℕ) (d : Data) (l : List ℕ) → AreBelow found k → slice_cmp nat_cmp k l ≡ Less → AreBelow (join found (member k d no_members)) l
-below_next no_members k d l h less = (less, tt)
-below_next (member m e found) k d l h less = (nat_list_cmp_total.trans m k l h.0 less, below_next found k d l h.1 less)
-
-below_first : (found : Members) (k : List ℕ) (d : Data) (ms : Members) → AreBelow found k → IsBelow k ms → AreBelowFirst (join found (member k d no_members)) ms
-below_first found k d no_members h below = tt
-below_first found k d (member l e ms) h below = below_next found k d l h below
-
-none_below : (ms : Members) → AreBelowFirst no_members ms
-none_below no_members = tt
-none_below (member k d ms) = tt
-
 number_again : (x : Num) → IsSoundNumber x → of_json (json.number (number_text x)) ≡ Some (number x)
 number_again (unsigned n) s = ap (option_map number) (number_of-decimal n s)
 number_again (negative (pos n)) s = absurd s
@@ -168,12 +121,12 @@ mutual
       ap (option_and_then (λ e. option_map (item e) (of_items (items_outline ds)))) (again n d s.0) ∙ ap (option_map (item d)) (items_again n ds s.1)
 
   members_again : (n : ℕ) (ms found : Members) → AreSoundMembers n ms → AreBelowFirst found ms → of_members (members_outline ms) found ≡ Some (join found ms)
-  members_again n no_members found s below = ap Some (join-nil found)
+  members_again n no_members found s below = ap Some (join_nil found)
   members_again n (member k d ms) found s below =
       ap (option_and_then (λ e. of_members (members_outline ms) (put k e found))) (again n d s.1.0)
       ∙ ap (of_members (members_outline ms)) (put_last k d found below)
       ∙ members_again n ms (join found (member k d no_members)) s.1.1.1 (below_first found k d ms below s.1.1.0)
-      ∙ ap Some (join-one found k d ms)
+      ∙ ap Some (join_one found k d ms)
 
 read_again : (d : Data) → IsSound max_depth d → read (compact_text d) ≡ Some d
 read_again d s =

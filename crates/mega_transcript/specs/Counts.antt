@@ -4,6 +4,7 @@ use Rattle.std.specs.List.{list_any}
 use Rattle.std.specs.Ordering.{is_eq}
 use Rattle.std.specs.Map.{lookup}
 use Rattle.std.specs.BTreeMap.{insert_entry}
+use Rattle.mega_base.specs.Climbing.{climb}
 use Rattle.mega_base.specs.declared.names.GroupId.{GroupId}
 pub use Rattle.mega_base.specs.NameOrder.{group_cmp}
 use Rattle.mega_syntax.specs.Names.{same}
@@ -48,11 +49,6 @@ greatest_of [] group node = 0
 greatest_of (Decide at_node in_group at entry ∷ before) group node =
     if same in_group.key group.key && at_node.0 == node then max (greatest_of before group node) at.0 else greatest_of before group node
 greatest_of (_ ∷ before) group node = greatest_of before group node
-
--- from a number on, at most so many steps, as far as the next number passes
-abbrev pub climb : (ℕ → Bool) → ℕ → ℕ → ℕ
-climb test zero from = from
-climb test (suc steps) from = if test (suc from) then climb test steps (suc from) else from
 
 -- the greatest position of a group through which all are decided at a node, from 1 on; 0 for none
 abbrev pub prefix_of : List Item → GroupId → ℕ → ℕ

@@ -38,7 +38,8 @@ use Rattle.mega_transcript.specs.Named.{property_number}
 use Rattle.mega_transcript.specs.PlainTurns.{IsPlainTurn}
 use Rattle.mega_transcript.specs.PlainRows.{IsHeld, IsPlainCell, ArePlainCells, ArePlainIn, IsPlainShown, ArePlainRows, HaveKinds, IsPlainKey, IsPlainFound, ArePlainFinds, IsHeldMark, AreHeldMarks, IsPlainResult, ArePlainResults}
 use Rattle.mega_transcript.proofs.Forms.{lacks, decimal-lacks, is_solid, hex-solid}
-use Rattle.mega_transcript.proofs.Compact.{IsSound, AreSoundItems, AreSoundMembers, IsBelow, both}
+use Rattle.mega_json_laws.specs.Whole.{IsBelow}
+use Rattle.mega_transcript.proofs.Compact.{IsSound, AreSoundItems, AreSoundMembers, both}
 
 -- ---- hex is ASCII
 

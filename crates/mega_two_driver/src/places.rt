@@ -1,78 +1,20 @@
 //! The writes of a transaction, where each is a put or a deletion that fits the group.
-ghost use Rattle.std.specs.Prelude.{◌≡◌, option_map, IfOk, Some};
+ghost use Rattle.std.specs.Prelude.{◌≡◌, IfOk};
 ghost use Rattle.std.specs.Result.{result_ok};
-ghost use Rattle.mega_base.specs.declared.names.GroupId.{GroupId as GroupIdSeen};
-ghost use Rattle.mega_index.specs.Fits.{numbered, group_of, key_of, fits_in};
-ghost use Rattle.mega_outcome.specs.Places.{key_in, placed};
+ghost use Rattle.mega_index.specs.Fits.{numbered, fits_in};
+ghost use Rattle.mega_outcome.specs.Places.{key_in};
 ghost use Rattle.mega_outcome.specs.Steps.{changed_key, put_key};
 ghost use Rattle.mega_two_driver.specs.Fits.{fits_its_table, new_row, write_of, write_under, writes_of};
 
-use mega_base::{Bytes, Copied, GroupId, Items, NoMemory, Row, Value};
+use mega_base::{Bytes, Copied, Items, NoMemory, Row, Value};
 use mega_entry::Write;
-use mega_index::{group_of, key_of, key_values, row_fits, table_at};
-use mega_keys::KeyFault;
-use mega_outcome::Change;
-use mega_schema::{Schema, Table};
+use mega_index::{key_values, row_fits, table_at};
+use mega_outcome::{Change, key_in};
+use mega_schema::Schema;
 use std::alloc::Global;
 
-/// The key of these values, where they spell one.
-fn spelled(
-    alloc: Global,
-    schema: &Schema,
-    number: u8,
-    table: &Table,
-    key: &[Value],
-) -> Result<Option<Bytes>, NoMemory>
-    requires { numbered schema.now.tables number ≡ Some table.now }
-    ensures { IfOk result (λ found. found ≡ result_ok (key_of schema.now number table.now key.now)) }
-{
-    match key_of(alloc, schema, number, table, key) {
-        Ok(key) => Ok(Some(key)),
-        Err(KeyFault::NoMemory) => Err(NoMemory),
-        Err(_) => Ok(None),
-    }
-}
-
-/// The group of these key values, where they spell one.
-fn own_group(
-    alloc: Global,
-    schema: &Schema,
-    number: u8,
-    table: &Table,
-    key: &[Value],
-) -> Result<Option<GroupId>, NoMemory>
-    requires { numbered schema.now.tables number ≡ Some table.now }
-    ensures { IfOk result (λ group. option_map (λ (g : GroupIdSeen). g.key) group ≡ result_ok (group_of schema.now number table.now key.now)) }
-{
-    match group_of(alloc, schema, number, table, key) {
-        Ok(group) => Ok(Some(group)),
-        Err(KeyFault::NoMemory) => Err(NoMemory),
-        Err(_) => Ok(None),
-    }
-}
-
-fn key_in_table(
-    alloc: Global,
-    schema: &Schema,
-    group: &[u8],
-    number: u8,
-    table: &Table,
-    key: &[Value],
-) -> Result<Option<Bytes>, NoMemory>
-    requires { numbered schema.now.tables number ≡ Some table.now }
-    ensures { IfOk result (λ found. found ≡ result_ok (placed 0 group.now (group_of schema.now number table.now key.now) (key_of schema.now number table.now key.now))) }
-{
-    match own_group(alloc, schema, number, table, key)? {
-        Some(own) if own.key.as_slice().cmp(group).is_eq() => {
-            spelled(alloc, schema, number, table, key)
-        }
-        Some(_) => Ok(None),
-        None => Ok(None),
-    }
-}
-
 /// The key of the row of a table with these key values, where it is one of the group.
-fn key_in(
+fn key_of_group(
     alloc: Global,
     schema: &Schema,
     group: &[u8],
@@ -81,9 +23,9 @@ fn key_in(
 ) -> Result<Option<Bytes>, NoMemory>
     ensures { IfOk result (λ found. found ≡ result_ok (key_in schema.now group.now 0 number key.now)) }
 {
-    match table_at(schema, number) {
-        Some(table) => key_in_table(alloc, schema, group, number, table, key),
-        None => Ok(None),
+    match key_in(alloc, schema, group, 0, number, key)? {
+        Ok(key) => Ok(Some(key)),
+        Err(_) => Ok(None),
     }
 }
 
@@ -99,7 +41,7 @@ fn put_key(
     match table_at(schema, number) {
         Some(table) => {
             let key = key_values(alloc, table.primary.as_slice(), row)?;
-            key_in(alloc, schema, group, number, key.as_slice())
+            key_of_group(alloc, schema, group, number, key.as_slice())
         }
         None => Ok(None),
     }
@@ -117,7 +59,7 @@ fn changed_key(
     match change {
         Change::Put(number, row) => put_key(alloc, schema, group, *number, row),
         Change::Delete(row) | Change::Add(row, _, _) => {
-            key_in(alloc, schema, group, row.table, row.key.as_slice())
+            key_of_group(alloc, schema, group, row.table, row.key.as_slice())
         }
     }
 }

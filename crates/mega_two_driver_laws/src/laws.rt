@@ -1,4 +1,4 @@
-//! The laws, as contracts of functions that do nothing.
+//! Laws of a change that is driven, as contracts of functions that do nothing.
 
 ghost use Rattle.std.specs.Prelude.{◌≡◌, ℕ, List, true, length, nat_lt};
 ghost use Rattle.mega_two_laws.specs.Parts.{Part};

@@ -12,35 +12,13 @@ use Rattle.mega_schedule.specs.Fields.{at_most, required, each, word_among, floa
 use Rattle.mega_schedule.specs.Values.{text_in}
 use Rattle.mega_schedule.specs.Rows.{each_in}
 use Rattle.mega_schedule.specs.Events.{object_of}
+use Rattle.mega_schedule.proofs.BothFine.{both_fine}
 use Rattle.mega_two_driver.specs.declared.plan.Plan.{Plan}
 use Rattle.mega_two_driver.specs.Lines.{is_name, name_check, part_check, line_check}
 use Rattle.mega_two_driver.specs.Texts.{plan_with}
 use Rattle.mega_two_driver.specs.Tables.{has_plans}
 use Rattle.mega_two_driver.specs.Fits.{own_of}
 use Rattle.mega_two_driver.specs.Begins.{most_line, name_in, parts_in, are_parts, parts_fit, all_fit, if_fits, plan_of_parts, plan_of_fine, plan_of_object, plan_of}
-
-pub record AreFine (one two : Verdict) : Type 0 where
-  pub first : one ≡ Fine
-  pub second : two ≡ Fine
-
-pub both_fine : (one two : Verdict) → one ⊓ two ≡ Fine → AreFine one two
-both_fine Fine two e = record { first = refl; second = e }
-both_fine Missing two e = absurd (cc)
-both_fine Extra Missing e = absurd (cc)
-both_fine Extra Extra e = absurd (cc)
-both_fine Extra WrongKind e = absurd (cc)
-both_fine Extra OutOfRange e = absurd (cc)
-both_fine Extra Fine e = absurd (cc)
-both_fine WrongKind Missing e = absurd (cc)
-both_fine WrongKind Extra e = absurd (cc)
-both_fine WrongKind WrongKind e = absurd (cc)
-both_fine WrongKind OutOfRange e = absurd (cc)
-both_fine WrongKind Fine e = absurd (cc)
-both_fine OutOfRange Missing e = absurd (cc)
-both_fine OutOfRange Extra e = absurd (cc)
-both_fine OutOfRange WrongKind e = absurd (cc)
-both_fine OutOfRange OutOfRange e = absurd (cc)
-both_fine OutOfRange Fine e = absurd (cc)
 
 pub record IsBegun (s : Schema) (line : List ℕ) (plan : Plan) : Type 0 where
   pub d : Data

@@ -22,7 +22,7 @@ use Rattle.mega_two_driver.specs.Texts.{field_text, deleted_text, deleted_texts}
 use Rattle.mega_two_outcome_laws.specs.Changes.{deleted}
 use Rattle.mega_two_outcome_laws.proofs.Trees.{items_text, AreGood}
 use Rattle.mega_two_outcome_laws.proofs.Letters.{is_text, plain_utf8}
-use Rattle.mega_two_outcome_laws.proofs.Begun.{both_fine}
+use Rattle.mega_schedule.proofs.BothFine.{both_fine}
 use Rattle.mega_two_outcome_laws.proofs.Held.{IsHeld, AreHeld, held_good, held_again, held_get, held_first, held_behind, value_said}
 use Rattle.mega_two_outcome_laws.proofs.Joined.{worst_item, worst_behind, worst_next}
 

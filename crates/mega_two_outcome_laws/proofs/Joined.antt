@@ -12,7 +12,7 @@ use Rattle.mega_schedule.specs.Fields.{worst}
 use Rattle.mega_schedule.specs.Rows.{each_in}
 use Rattle.mega_two_driver.specs.Texts.{value_text, after_commas, before_commas}
 use Rattle.mega_two_outcome_laws.proofs.Trees.{text_of, items_text, AreGood}
-use Rattle.mega_two_outcome_laws.proofs.Begun.{both_fine}
+use Rattle.mega_schedule.proofs.BothFine.{both_fine}
 use Rattle.mega_two_outcome_laws.proofs.Held.{AreHeld, held_good, held_again, held_first, held_behind, value_said}
 
 abbrev pub joined : json.Items → json.Items → json.Items

@@ -1,9 +1,6 @@
 -- Values that were read are spelled as good trees, and read back.
-use Rattle.std.proofs.Common.{◌≡◌, ℕ, zero, suc, ◌≤◌, pos, negsuc, false, List, refl, ap, ◌∙◌, Some, arith, Less, Greater, nat_cmp}
+use Rattle.std.proofs.Common.{◌≡◌, ℕ, zero, suc, ◌≤◌, pos, negsuc, false, refl, ap, ◌∙◌, Some, arith}
 use Rattle.std.specs.Prelude.{option_map, option_and_then}
-use Rattle.std.specs.Ordering.{ordering_reverse}
-use Rattle.std.specs.Cmp.Lexicographic.{slice_cmp}
-use Rattle.std.proofs.lemmas.Cmp.{nat_list_cmp_total}
 use Rattle.std.proofs.lemmas.Fmt.{IsAscii-decimal, IsAscii-signed}
 use Rattle.std.proofs.lemmas.Str.{IsUtf8-from_ascii}
 use Rattle.std.proofs.lemmas.Bool.{or_parts}
@@ -14,7 +11,8 @@ use Rattle.serde_json.specs.Find.{is_float}
 use Rattle.serde_json.specs.Read.{of_json, of_items, of_members}
 use Rattle.serde_json.specs.Written.{number_text, outline, items_outline, members_outline, has_float, items_have_float, members_have_float}
 use Rattle.serde_json.proofs.Numbers.{number_of-decimal, number_of-negative}
-use Rattle.mega_json_laws.specs.Whole.{AreWholeItems, AreWholeMembers, IsBelow, IsWhole, IsWholeNumber}
+use Rattle.mega_json_laws.proofs.Joining.{AreBelowFirst, below_first, join, join_nil, join_one, none_below, put_last}
+use Rattle.mega_json_laws.specs.Whole.{AreWholeItems, AreWholeMembers, IsWhole, IsWholeNumber}
 use Rattle.mega_two_outcome_laws.proofs.Trees.{IsGood, AreGood, HasGood}
 
 number_good : (x : Num) (n : ℕ) → IsWholeNumber x → is_float x ≡ false → IsGood n (json.number (number_text x))
@@ -45,46 +43,6 @@ mutual
   members_good n (member k d ms) whole deep plain =
       let p = or_parts (has_float d) (members_have_float ms) plain in
       (whole.0, (good n d whole.1.0 (omega (arith, deep)) p.0, members_good n ms whole.1.1.1 (omega (arith, deep)) p.1))
-
--- ---- members that go in one after another, in order
-
-abbrev join : Members → Members → Members
-join no_members ms = ms
-join (member k d found) ms = member k d (join found ms)
-
-join_nil : (found : Members) → found ≡ join found no_members
-join_nil no_members = refl
-join_nil (member k d found) = ap (member k d) (join_nil found)
-
-join_one : (found : Members) (k : List ℕ) (d : Data) (ms : Members) → join (join found (member k d no_members)) ms ≡ join found (member k d ms)
-join_one no_members k d ms = refl
-join_one (member l e found) k d ms = ap (member l e) (join_one found k d ms)
-
-abbrev AreBelow : Members → List ℕ → Type 0
-AreBelow no_members k = Unit {0}
-AreBelow (member l e found) k = (slice_cmp nat_cmp l k ≡ Less) × AreBelow found k
-
-abbrev AreBelowFirst : Members → Members → Type 0
-AreBelowFirst found no_members = Unit {0}
-AreBelowFirst found (member k d ms) = AreBelow found k
-
-put_last : (k : List ℕ) (d : Data) (found : Members) → AreBelow found k → put k d found ≡ join found (member k d no_members)
-put_last k d no_members h = refl
-put_last k d (member l e found) h =
-    let above : slice_cmp nat_cmp k l ≡ Greater = nat_list_cmp_total.antisymm k l ∙ ap ordering_reverse h.0 in
-    rw above (ap (member l e) (put_last k d found h.1))
-
-below_next : (found : Members) (k : List ℕ) (d : Data) (l : List ℕ) → AreBelow found k → slice_cmp nat_cmp k l ≡ Less → AreBelow (join found (member k d no_members)) l
-below_next no_members k d l h less = (less, tt)
-below_next (member m e found) k d l h less = (nat_list_cmp_total.trans m k l h.0 less, below_next found k d l h.1 less)
-
-below_first : (found : Members) (k : List ℕ) (d : Data) (ms : Members) → AreBelow found k → IsBelow k ms → AreBelowFirst (join found (member k d no_members)) ms
-below_first found k d no_members h below = tt
-below_first found k d (member l e ms) h below = below_next found k d l h below
-
-none_below : (ms : Members) → AreBelowFirst no_members ms
-none_below no_members = tt
-none_below (member k d ms) = tt
 
 number_again : (x : Num) → IsWholeNumber x → is_float x ≡ false → of_json (json.number (number_text x)) ≡ Some (number x)
 number_again (unsigned n) s plain = ap (option_map number) (number_of-decimal n s)

@@ -25,7 +25,7 @@ use Rattle.mega_two_driver.specs.Texts.{part_requests, parts_requests}
 use Rattle.mega_two_driver.specs.Fits.{own_of, part_fits}
 use Rattle.mega_two_driver.specs.Begins.{parts_in, parts_fit}
 use Rattle.mega_two_outcome_laws.specs.Changes.{part_of}
-use Rattle.mega_two_outcome_laws.proofs.Begun.{both_fine}
+use Rattle.mega_schedule.proofs.BothFine.{both_fine}
 use Rattle.mega_two_outcome_laws.proofs.Held.{IsHeld, AreHeld, held_get, held_items, held_first, held_behind}
 use Rattle.mega_two_outcome_laws.proofs.Joined.{worst_item, worst_behind}
 

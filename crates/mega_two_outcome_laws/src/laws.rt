@@ -1,4 +1,4 @@
-//! The laws, as contracts of functions that do nothing.
+//! Laws that join changes of several groups to a store, as contracts of functions that do nothing.
 
 ghost use Rattle.std.specs.Prelude.{◌≡◌, ◌∷◌, [], ℕ, Bool, List, Ok, Some, false, true, length, option_map, slice_get};
 ghost use Rattle.hex.specs.Hex.{IsBytes};

@@ -5,25 +5,18 @@ use Rattle.std.proofs.lemmas.Bool.Decides.{nat_tests}
 use Rattle.mega_base.specs.declared.names.GroupId.{GroupId}
 use Rattle.mega_entry.specs.declared.content.Content.{Content}
 use Rattle.mega_wal.specs.Same.{same_group}
-use Rattle.mega_wal.specs.History.{climb, decided_of, newest_of as kept_newest, prefix_of as kept_prefix}
-use Rattle.mega_wal.proofs.Steps.{climb_same}
+use Rattle.mega_base.specs.Climbing.{climb}
+use Rattle.mega_wal.specs.History.{decided_of, newest_of as kept_newest, prefix_of as kept_prefix}
+use Rattle.mega_base.proofs.Climbs.{climb_same, climb_up}
 use Rattle.mega_rules.specs.Met.{Met, Decides}
 use Rattle.mega_rules.specs.Logs.{decided, decided_from, first_of, log_of, newest_of, prefix_of, then_more}
 use Rattle.mega_voter.specs.Journal.{journal_of}
 use Rattle.mega_voter.proofs.Folds.{decided_is, newest_is}
 
 -- ---- how far a number climbs
-low : (f : ℕ → Bool) (steps from : ℕ) → from ≤ climb f steps from
-low f zero from = omega arith
-low f (suc steps) from = step (f (suc from)) (low f steps (suc from))
-  where
-    step : (t : Bool) → suc from ≤ climb f steps (suc from) → from ≤ cond t (climb f steps (suc from)) from
-    step true h = omega arith
-    step false h = omega arith
-
 -- no further than so many steps lead
 climb_enough : (f : ℕ → Bool) (few many from : ℕ) → few ≤ many → climb f many from ≤ from + few → climb f few from ≡ climb f many from
-climb_enough f zero many from le most = let least = low f many from in omega arith
+climb_enough f zero many from le most = let least = climb_up f many from in omega arith
 climb_enough f (suc few) zero from le most = absurd (omega arith)
 climb_enough f (suc few) (suc many) from le most = go (f (suc from)) most (climb_enough f few many (suc from) (omega arith))
   where

@@ -1,4 +1,4 @@
-//! What follows from the definitions, as contracts of functions that do nothing.
+//! What follows of what the logs of a voter tell, as contracts of functions that do nothing.
 
 ghost use Rattle.std.specs.Prelude.{◌≡◌, ◌↔◌, ◌+◌, ◌<◌, ◌≤◌, ◌-◌, ◌∷◌, [], ℕ, None, true, List, All, slice_get};
 ghost use Rattle.std.specs.List.{list_all};

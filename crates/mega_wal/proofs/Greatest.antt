@@ -10,10 +10,12 @@ use Rattle.mega_wal.specs.declared.item.JournalItem.{JournalItem}
 use Rattle.mega_wal.specs.declared.item.JournalItem.TheVariants.{Start, Promise, Accept, Decide, Grant, Lapse, Starts}
 use Rattle.mega_acceptor.specs.of_entry.Same.{same_group}
 use Rattle.mega_wal.specs.Acceptor.{Act, Promised, Voted, Vote, best, greater_vote, is_ballot_below}
-use Rattle.mega_wal.specs.History.{acts_of, climb, decided_of, first_of, is_place, newest_of, prefix_of, top_of}
+use Rattle.mega_base.specs.Climbing.{climb}
+use Rattle.mega_wal.specs.History.{acts_of, decided_of, first_of, is_place, newest_of, prefix_of, top_of}
 use Rattle.mega_wal.specs.Kept.{marks_of, slot_of}
 use Rattle.mega_acceptor.specs.declared.slot.Slot.{Slot}
-use Rattle.mega_wal.proofs.Steps.{climb_same, some_first}
+use Rattle.mega_base.proofs.Climbs.{climb_same}
+use Rattle.mega_wal.proofs.Steps.{some_first}
 
 abbrev Marking : Type 0
 Marking = Option (GroupId × Position)

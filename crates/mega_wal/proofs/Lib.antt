@@ -1,6 +1,5 @@
 pub use Rattle.mega_acceptor.proofs.of_entry.Sames
 pub mod Orders
-pub mod Climbs
 pub mod Steps
 pub mod Placed
 pub mod Loading

@@ -12,34 +12,12 @@ use Rattle.mega_acceptor.specs.declared.slot.Slot.{Slot}
 use Rattle.mega_wal.specs.declared.groups.Marks.{Marks}
 use Rattle.mega_acceptor.specs.of_entry.Same.{same_group}
 use Rattle.mega_wal.specs.Acceptor.{Act, Promised, Voted, best, shown}
-use Rattle.mega_wal.specs.History.{acts_of, climb, decided_of, first_of, is_place, newest_of, prefix_of, top_of}
+use Rattle.mega_base.proofs.Climbs.{climb_same, climb_skip}
+use Rattle.mega_base.specs.Climbing.{climb}
+use Rattle.mega_wal.specs.History.{acts_of, decided_of, first_of, is_place, newest_of, prefix_of, top_of}
 use Rattle.mega_wal.specs.Kept.{Groups, Holds, Puts, Same, accepted_marks, accepted_slot, decided_marks, decided_slot, is_decided_with, marks_at, marks_of, promised_slot, slot_at, slot_of}
 use Rattle.mega_acceptor.proofs.of_entry.Sames.{same_group_equal, same_group_self}
 use Rattle.mega_wal.proofs.Orders.{is_group_is}
-
--- ---- how far a number climbs
-pub climb_same : (f g : ℕ → Bool) → ((n : ℕ) → f n ≡ g n) → (steps from : ℕ) → climb f steps from ≡ climb g steps from
-climb_same f g same zero from = refl
-climb_same f g same (suc steps) from = ap (λ test. cond test (climb f steps (suc from)) from) (same (suc from)) ∙ ap (λ n. cond (g (suc from)) n from) (climb_same f g same steps (suc from))
-
-low : (f : ℕ → Bool) (steps from : ℕ) → from ≤ climb f steps from
-low f zero from = omega arith
-low f (suc steps) from = step (f (suc from)) (low f steps (suc from))
-  where
-    step : (test : Bool) → suc from ≤ climb f steps (suc from) → from ≤ cond test (climb f steps (suc from)) from
-    step true h = omega arith
-    step false h = omega arith
-
--- what it passed passes a wider test too
-pub climb_skip : (f g : ℕ → Bool) → ((n : ℕ) → f n ≡ true → g n ≡ true) → (steps all from : ℕ) → steps ≤ all → climb g all from ≡ climb g (all - (climb f steps from - from)) (climb f steps from)
-climb_skip f g wider zero all from le = ap (λ n. climb g n from) (let e : all ≡ all - (from - from) = omega arith in e)
-climb_skip f g wider (suc steps) zero from le = absurd (omega arith)
-climb_skip f g wider (suc steps) (suc all) from le = go (f (suc from)) refl (climb_skip f g wider steps all (suc from) (omega arith))
-  where
-    go : (test : Bool) → f (suc from) ≡ test → climb g all (suc from) ≡ climb g (all - (climb f steps (suc from) - suc from)) (climb f steps (suc from))
-        → cond (g (suc from)) (climb g all (suc from)) from ≡ climb g (suc all - (cond test (climb f steps (suc from)) from - from)) (cond test (climb f steps (suc from)) from)
-    go true t ih = ap (λ b. cond b (climb g all (suc from)) from) (wider (suc from) t) ∙ (ih ∙ ap (λ n. climb g n (climb f steps (suc from))) (let l = low f steps (suc from) in let e : all - (climb f steps (suc from) - suc from) ≡ suc all - (climb f steps (suc from) - from) = omega arith in e))
-    go false t ih = ap (λ n. climb g n from) (let e : suc all ≡ suc all - (from - from) = omega arith in e)
 
 -- ---- places
 pub place_is : (group other : GroupId) (position : Position) (n : ℕ) → is_place group position other n ≡ true → (group ≡ other) × (position.0 ≡ n)

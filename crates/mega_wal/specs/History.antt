@@ -7,6 +7,7 @@ use Rattle.std.specs.Ordering.{nat_cmp}
 use Rattle.std.specs.declared.cmp.Ordering.{Ordering}
 use Rattle.std.specs.Cmp.Lexicographic.{slice_cmp}
 use Rattle.mega_base.specs.declared.names.Epoch.{Epoch}
+use Rattle.mega_base.specs.Climbing.{climb}
 use Rattle.mega_base.specs.declared.names.GroupId.{GroupId}
 use Rattle.mega_base.specs.declared.names.Position.{Position}
 pub use Rattle.mega_base.specs.NameOrder.{is_epoch_below, is_same_epoch}
@@ -57,11 +58,6 @@ abbrev pub newest_of : List JournalItem → GroupId → ℕ
 newest_of [] group = 0
 newest_of (Decide other position entry ∷ before) group = if same_group other group then max (newest_of before group) position.0 else newest_of before group
 newest_of (_ ∷ before) group = newest_of before group
-
--- from a number on, at most so many steps, as far as the next number passes
-abbrev pub climb : (ℕ → Bool) → ℕ → ℕ → ℕ
-climb test zero from = from
-climb test (suc steps) from = if test (suc from) then climb test steps (suc from) else from
 
 -- the greatest position of a group through which all are decided from 1 on, 0 for none
 abbrev pub prefix_of : List JournalItem → GroupId → ℕ

@@ -11,7 +11,8 @@ use Rattle.mega_wal.specs.declared.groups.Marks.{Marks}
 use Rattle.mega_wal.specs.declared.groups.Log.{Log}
 use Rattle.mega_wal.specs.declared.kept.Kept.{Kept}
 use Rattle.mega_wal.specs.Acceptor.{best, shown}
-use Rattle.mega_wal.specs.History.{acts_of, climb, decided_of, granted_of, group_cmp, newest_of, prefix_of, starts_of, top_of}
+use Rattle.mega_base.specs.Climbing.{climb}
+use Rattle.mega_wal.specs.History.{acts_of, decided_of, granted_of, group_cmp, newest_of, prefix_of, starts_of, top_of}
 
 abbrev pub is_group : GroupId → GroupId → Bool
 is_group g h = is_eq (group_cmp g h)

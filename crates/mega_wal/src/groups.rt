@@ -5,7 +5,8 @@ ghost use Rattle.std.specs.BTreeMap.{get};
 ghost use Rattle.std.specs.List.Sorted.{IsStrictlySortedBy};
 ghost use Rattle.std.specs.Map.{keys_of};
 ghost use Rattle.mega_wal.specs.Acceptor.{answer_beside};
-ghost use Rattle.mega_wal.specs.History.{climb, group_cmp};
+ghost use Rattle.mega_base.specs.Climbing.{climb};
+ghost use Rattle.mega_wal.specs.History.{group_cmp};
 ghost use Rattle.mega_wal.specs.Kept.{Puts, Same, accepted_marks, decided_groups, decided_marks, empty_slot, is_decided_with, marks_at, slot_at};
 
 use crate::answers::Voted;
@@ -153,7 +154,7 @@ fn is_decided_with(groups: &Groups, group: &GroupId, at: u64, position: u64) -> 
 }
 
 /// How far all positions are decided, where `at` is too: from one that is reached, in at most so many steps.
-#[tactic(auto, using(crate::proofs::Climbs::climb_on, crate::proofs::Climbs::climb_stop, crate::proofs::Climbs::climb_end))]
+#[tactic(auto, using(mega_base::proofs::Climbs::climb_on, mega_base::proofs::Climbs::climb_stop, mega_base::proofs::Climbs::climb_end))]
 fn reached(groups: &Groups, group: &GroupId, at: u64, from: u64, steps: u64) -> u64
     requires { from + steps < 2 ^ 64 }
     ensures { result ≡ climb (is_decided_with groups.now group.now at) steps from }

@@ -1,5 +1,5 @@
 //! What the logs of a voter keep in memory: starts, groups and grants.
-ghost use Rattle.std.specs.Prelude.{◌≡◌, ◌∷◌, [], ℕ, List, OnOk, OnErr, None, ◌+◌, ◌==◌, if◌then◌else◌};
+ghost use Rattle.std.specs.Prelude.{◌≡◌, ◌∷◌, [], ℕ, List, IfOk, OnOk, OnErr, None, ◌+◌, ◌==◌, if◌then◌else◌};
 ghost use Rattle.std.specs.Ordering.{nat_cmp};
 ghost use Rattle.std.specs.BTreeMap.{get};
 ghost use Rattle.mega_wal.specs.History.{after_grant, after_lapse, is_epoch_below, is_same_epoch, starts_at_most};
@@ -8,7 +8,7 @@ ghost use Rattle.mega_wal.specs.Kept.{Holds, Represents};
 use crate::groups::{self, Groups};
 use crate::item::JournalItem;
 use mega_acceptor::mega_ballot::Ballot;
-use mega_acceptor::mega_entry::Entry;
+use mega_acceptor::mega_entry::{Entry, is_same_entry};
 use mega_base::{Copied, Epoch, GroupId, NoMemory, Position};
 use std::alloc::Global;
 use std::collections::BTreeMap;
@@ -159,6 +159,21 @@ fn note_accept(
     )
 }
 
+/// An entry that is decided, held once with a vote for the same one.
+fn held_once(alloc: Global, vote: &Option<(Ballot, Entry)>, entry: Entry) -> Result<Entry, NoMemory>
+    ensures { IfOk result (λ held. held ≡ entry) }
+{
+    match vote {
+        Some((_, accepted)) => {
+            if is_same_entry(accepted, &entry) {
+                return accepted.copy(alloc);
+            }
+            Ok(entry)
+        }
+        None => Ok(entry),
+    }
+}
+
 /// Notes a decision.
 #[tactic(auto, using(crate::proofs::Steps::decide_holds, crate::proofs::Steps::same_holds))]
 fn note_decide(
@@ -173,6 +188,7 @@ fn note_decide(
 {
     let slot = groups::slot(alloc, groups, group, position.0)?;
     let marks = groups::decided_marks(groups, group, position.0);
+    let entry = held_once(alloc, &slot.accepted, entry)?;
     groups::put(alloc, groups, group, position.0, slot.decided(entry), marks)
 }
 

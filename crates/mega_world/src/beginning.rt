@@ -6,47 +6,19 @@ ghost use Rattle.mega_places.specs.of_handler.Named.{Meanings};
 ghost use Rattle.mega_places.specs.of_promises.of_schedule.declared.world_event.WorldEvent.TheVariants as event;
 ghost use Rattle.mega_places.specs.of_promises.of_transcript.declared.item.Item.{Item as OnTape};
 ghost use Rattle.mega_places.specs.of_promises.of_transcript.Lines.{HasLine};
-ghost use Rattle.mega_places.specs.of_promises.Runs.{Standing, after_event, by_fuse, is_empty, names_nothing, refusal};
+ghost use Rattle.mega_places.specs.of_promises.Runs.{Standing, after_event, by_fuse, refusal};
 ghost use Rattle.mega_places.specs.declared.fault.WorldFault.TheVariants.{Limit, Refused};
 ghost use Rattle.mega_world.specs.Formed.{IsSound};
 ghost use Rattle.mega_places.specs.Members.{AreMembers, is_up_at};
 ghost use Rattle.mega_world.specs.AtRun.{StandsWith, IsDue, MayCome};
 
 use crate::world::World;
-use mega_base::{GroupId, NodeId, Text};
+use mega_base::{NodeId, Text};
 use mega_places::mega_meanings::QueueHandlers;
-use mega_places::mega_outcome::Request;
+use mega_places::mega_outcome::{Request, names_nothing};
 use mega_places::mega_transcript::{Item, Tape};
 use mega_places::{Place, WorldFault, begin_at, is_node, is_up};
 use std::alloc::Global;
-
-/// Whether a group has an empty key.
-fn is_empty(group: &GroupId) -> bool
-    ensures { result ≡ is_empty group.now.key }
-{
-    matches!(group.key.as_slice(), [])
-}
-
-/// Whether a request names no group, or no index.
-fn names_nothing(request: &Request) -> bool
-    ensures { result ≡ names_nothing request.now }
-{
-    match request {
-        Request::Txn(txn) => is_empty(&txn.group),
-        Request::Batch(group, _) => is_empty(group),
-        Request::Read(read) => is_empty(&read.group),
-        Request::Find(find) => {
-            if find.index == 0 {
-                return true;
-            }
-            match &find.group {
-                Some(group) => is_empty(group),
-                None => false,
-            }
-        }
-        Request::PumpEnter | Request::PumpHandle | Request::Refresh => false,
-    }
-}
 
 /// Why an operation does not begin: 6, there is no such node; 1, it is down; 7, its request names no group or no index.
 fn refusal(places: &[Place], node: NodeId, request: &Request) -> Option<u8>

@@ -8,18 +8,18 @@ pub returns-in-Ok-clause-used : goal.returns-in-Ok-clause-used
 returns-in-Ok-clause-used g c =
     let of = c.in-Ok.ensures in
     let result : Result Done Turn = Ok c.in-Ok.done in
-    used_run g.V.Versions result c.args.rows.now c.run.new.rows of.later of.bad_stays of.may_burn of.by_fuse of.cause of.bad of.never_full of.burns
+    used_run g.V.Versions result c.args.rows.now c.run.new.rows of.cleaned of.marks of.any_moment of.within of.later of.bad_stays of.may_burn of.by_fuse of.cause of.bad of.never_full of.burns
 
 pub returns-in-Some-clause-used : goal.returns-in-Some-clause-used
 returns-in-Some-clause-used g c =
     let of = c.in-Err.ensures in
     let result : Result Done Turn = Err c.in-Err.turn in
     used_fault g.V.Versions c.in-Err.turn c.in-Some.fault c.args.rows.now c.run.new.rows c.in-Some.ensures.exact
-    (used_run g.V.Versions result c.args.rows.now c.run.new.rows of.later of.bad_stays of.may_burn of.by_fuse of.cause of.bad of.never_full of.burns)
+    (used_run g.V.Versions result c.args.rows.now c.run.new.rows of.cleaned of.marks of.any_moment of.within of.later of.bad_stays of.may_burn of.by_fuse of.cause of.bad of.never_full of.burns)
 
 pub returns-in-None-clause-used : goal.returns-in-None-clause-used
 returns-in-None-clause-used g c =
     let of = c.in-Err.ensures in
     let result : Result Done Turn = Err c.in-Err.turn in
     used_turned g.V.Versions c.in-Err.turn c.args.rows.now c.run.new.rows c.in-None.ensures.exact
-    (used_run g.V.Versions result c.args.rows.now c.run.new.rows of.later of.bad_stays of.may_burn of.by_fuse of.cause of.bad of.never_full of.burns)
+    (used_run g.V.Versions result c.args.rows.now c.run.new.rows of.cleaned of.marks of.any_moment of.within of.later of.bad_stays of.may_burn of.by_fuse of.cause of.bad of.never_full of.burns)

@@ -13,7 +13,7 @@ use Rattle.mega_answers.proofs.Refused.{used_looks}
 use Rattle.mega_answers.proofs.pumping.decides.Goals as goal
 
 pub returns-then-is_entering-clause-own : goal.returns-then-is_entering-clause-own
-returns-then-is_entering-clause-own g c told me h progress leases now again means pump room le stands noted =
+returns-then-is_entering-clause-own g c told me h progress leases now means pump room le stands noted =
     let s = setting c.args.members.now me h in
     let reached = c.args.reached.now in
     let kept = reached.kept in
@@ -22,13 +22,13 @@ returns-then-is_entering-clause-own g c told me h progress leases now again mean
     let inside = applied_within (log_of now.met reached.group) (now.stored reached.group) in
     let within : reached.position ≤ prefix_of now.met reached.group = omega (arith, le, inside) in
     let entering = sym c.is_entering.ensures ∙ c.if-is_entering.true in
-    ap (λ (t : Bool). own_by t s again now o reached.group reached.reading reached.position own) entering
-    ∙ c.in_ok-own.ensures s again now o reached.reading stands.tells (c.in_ok-note_through.ensures now.met stands.tells within noted) within refl
-    ∙ ap (enters s again now o reached.group reached.reading reached.position) c.as_ref-message.ensures.value
-    ∙ sym (enters_room s again now reached.group reached.reading reached.position kept.id kept.began kept.visited kept.message kept.request entering room)
+    ap (λ (t : Bool). own_by t s now o reached.group reached.reading reached.position own) entering
+    ∙ c.in_ok-own.ensures s now o reached.reading stands.tells (c.in_ok-note_through.ensures now.met stands.tells within noted) within refl
+    ∙ ap (enters s now o reached.group reached.reading reached.position) c.as_ref-message.ensures.value
+    ∙ sym (enters_room s now reached.group reached.reading reached.position kept.id kept.began kept.visited kept.message kept.request entering room)
 
 pub returns-in-Ok-clause-own : goal.returns-in-Ok-clause-own
-returns-in-Ok-clause-own g c told me h progress leases now again means pump room le stands noted =
+returns-in-Ok-clause-own g c told me h progress leases now means pump room le stands noted =
     let s = setting c.args.members.now me h in
     let reached = c.args.reached.now in
     let kept = reached.kept in
@@ -39,10 +39,10 @@ returns-in-Ok-clause-own g c told me h progress leases now again means pump room
     let within : reached.position ≤ prefix_of now.met reached.group = omega (arith, le, inside) in
     let entering = sym c.is_entering.ensures ∙ c.if-is_entering.false in
     let shows = shows_log c.args.members.now.schema version progress (log_of now.met) now.stored reached.group stands.follows stands.owned reached.position le in
-    ap (λ (t : Bool). own_by t s again now o reached.group reached.reading reached.position own) entering
-    ∙ c.in-Ok.ensures.own told s again now o reached.reading means (λ i. (sym c.cluster.ensures i).schema) stands.tells (c.in_ok-note_through.ensures now.met stands.tells within noted) within
+    ap (λ (t : Bool). own_by t s now o reached.group reached.reading reached.position own) entering
+    ∙ c.in-Ok.ensures.own told s now o reached.reading means (λ i. (sym c.cluster.ensures i).schema) stands.tells (c.in_ok-note_through.ensures now.met stands.tells within noted) within
     (coe 1 0 (i. Shows (c.cluster.ensures i).schema reached.group (versions_at version reached.position) (listed_at now reached.group reached.position)) shows) refl
-    ∙ sym (handles_room s again now reached.group reached.reading reached.position kept.id kept.began kept.visited kept.message kept.request pump entering room)
+    ∙ sym (handles_room s now reached.group reached.reading reached.position kept.id kept.began kept.visited kept.message kept.request pump entering room)
 
 pub returns-in-Ok-clause-versions : goal.returns-in-Ok-clause-versions
 returns-in-Ok-clause-versions g c key p = λ i. c.in-Ok.ensures.looks.looked.versions i key p

@@ -1,6 +1,6 @@
 use Rattle.std.proofs.Common.{arith}
 use Rattle.std.specs.Prelude.{is_some}
-use Rattle.mega_coordinator.proofs.Places.{so_far_more}
+use Rattle.mega_base.proofs.Mapped.{so_far_more}
 use Rattle.mega_coordinator.proofs.lease.counted_cells.Goals as goal
 
 pub loop-index-preserved : goal.loop-index-preserved

@@ -1,6 +1,6 @@
 use Rattle.std.proofs.Common.{arith}
 use Rattle.mega_coordinator.specs.Lease.{is_due}
-use Rattle.mega_coordinator.proofs.Places.{so_far_more}
+use Rattle.mega_base.proofs.Mapped.{so_far_more}
 use Rattle.mega_coordinator.proofs.lease.due_cells.Goals as goal
 
 pub loop-index-preserved : goal.loop-index-preserved

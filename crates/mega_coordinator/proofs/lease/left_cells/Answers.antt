@@ -1,6 +1,6 @@
 use Rattle.std.proofs.Common.{arith, refl}
 use Rattle.mega_coordinator.specs.Lease.{left}
-use Rattle.mega_coordinator.proofs.Places.{so_far_more}
+use Rattle.mega_base.proofs.Mapped.{so_far_more}
 use Rattle.mega_coordinator.proofs.lease.left_cells.Goals as goal
 
 pub loop-index-preserved : goal.loop-index-preserved

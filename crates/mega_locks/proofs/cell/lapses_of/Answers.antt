@@ -1,6 +1,6 @@
 use Rattle.std.proofs.Common.{arith}
 use Rattle.mega_locks.specs.Rule.{lapse}
-use Rattle.mega_locks.proofs.Places.{so_far_more}
+use Rattle.mega_base.proofs.Mapped.{so_far_more}
 use Rattle.mega_locks.proofs.cell.lapses_of.Goals as goal
 
 pub loop-index-preserved : goal.loop-index-preserved

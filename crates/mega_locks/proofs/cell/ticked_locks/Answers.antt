@@ -1,6 +1,6 @@
 use Rattle.std.proofs.Common.{arith, refl}
 use Rattle.mega_locks.specs.Rule.{ticked}
-use Rattle.mega_locks.proofs.Places.{so_far_more}
+use Rattle.mega_base.proofs.Mapped.{so_far_more}
 use Rattle.mega_locks.proofs.cell.ticked_locks.Goals as goal
 
 pub loop-index-preserved : goal.loop-index-preserved

@@ -31,7 +31,7 @@ returns-clause-taken g c = λ h node open_ones begun represents heard_is owned p
     let told = told_notes s node.met m.from m.body in
     let tells = says.kept h node.met represents.tells represents.leased in
     let d = c.in_ok-found.found in
-    let d_is = decision_is s node m c.as_slice.result.now d (c.as_slice.ensures ∙ heard_is) (decides.new base tells) in
+    let d_is = decision_is s node m c.args.heard d heard_is (decides.new base tells) in
     let placed_d : IsPlaced d = subst IsPlaced (sym d_is) placed in
     let version = g.V.Versions.version r0.rows.rows in
     let progress = progress_at r0.rows.progress in
@@ -67,5 +67,5 @@ returns-clause-staged g c = λ h node open_ones begun before represents heard_is
     let base = told_on s node m in
     let tells = says.kept h node.met represents.tells represents.leased in
     let d = c.in_ok-found.found in
-    let d_is = decision_is s node m c.as_slice.result.now d (c.as_slice.ensures ∙ heard_is) (decides.new base tells) in
+    let d_is = decision_is s node m c.args.heard d heard_is (decides.new base tells) in
     coe 0 1 (i. Stages r2.voter.logs.staged.items before (onto (decision_note (d_is i)) base)) (decides.staged before base tells (says.staged h before node.met represents.leased stages))

@@ -1,7 +1,7 @@
 use Rattle.std.proofs.Common.{◌≡◌, ◌+◌, ◌-◌, ◌<◌, ◌^◌}
 use Rattle.std.specs.Ordering.{nat_cmp}
 use Rattle.std.specs.BTreeSet.{contains}
-use Rattle.mega_transcript.specs.Counts.{climb}
+use Rattle.mega_base.specs.Climbing.{climb}
 use Rattle.mega_tally.proofs.reach.climbed.Given as goal
 
 abbrev pub invariant-loop-step : goal.invariant-loop-step

@@ -1,5 +1,5 @@
 use Rattle.std.proofs.Common.{◌≡◌, ◌+◌, ◌-◌, ◌<◌, ◌^◌}
-use Rattle.mega_wal.specs.History.{climb}
+use Rattle.mega_base.specs.Climbing.{climb}
 use Rattle.mega_wal.specs.Kept.{is_decided_with}
 use Rattle.mega_wal.proofs.groups.reached.Given as goal
 

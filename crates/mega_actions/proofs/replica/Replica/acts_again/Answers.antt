@@ -1,5 +1,5 @@
 use Rattle.std.proofs.Common.{◌≡◌, ◌∙◌, ◌+◌, suc, length, ap, arith}
-use Rattle.mega_rules.specs.Acting.{acts_within}
+use Rattle.mega_rules.specs.Acting.{ActsAgain, Rests, rests_within}
 use Rattle.mega_rules.specs.Logs.{groups_of}
 use Rattle.mega_answers.specs.of_step_work.Settings.{setting}
 use Rattle.mega_actions.proofs.replica.Replica.acts_again.Goals as goal
@@ -15,5 +15,5 @@ returns-in_ok-acts_within-in-Ok-clause-acted g c h now before told means about t
       stands = inner.stands;
       work = inner.work;
       about = tt;
-      rule_is = λ again. ap (λ n. acts_within n s now c.args.operation) count ∙ inner.rule_is again;
+      leads = ap (λ n. Rests (rests_within n s (ActsAgain now c.args.operation))) count ∙ inner.leads;
     }

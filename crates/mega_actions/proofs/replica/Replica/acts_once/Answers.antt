@@ -1,31 +1,17 @@
-use Rattle.std.proofs.Common.{◌≡◌, ◌∙◌, ◌++◌, ◌∷◌, [], ap, rules, subst, sym}
+use Rattle.std.proofs.Common.{◌≡◌, ◌∙◌, ap, subst, sym}
 use Rattle.mega_answers.specs.of_operations.Phases.{phase_of, promised_of}
 use Rattle.mega_answers.specs.of_operations.Whole.{whole}
 use Rattle.mega_rules.specs.Logs.{decided}
 use Rattle.mega_rules.specs.Operations.{Operation, Proposes, Reads}
-use Rattle.mega_rules.specs.Acting.{acts, keeps, unless_decided}
+use Rattle.mega_rules.specs.Acting.{acts, unless_decided}
 use Rattle.mega_replica.specs.Following.{progress_at}
 use Rattle.mega_answers.specs.of_node_laws.About.{IsAbout}
 use Rattle.mega_outcome.specs.declared.request.Request.{Request}
 use Rattle.mega_answers.specs.Asked.{IsNextAsked}
 use Rattle.mega_actions.specs.StandsAt.{StandsAt}
-use Rattle.mega_answers.specs.of_step_work.declared.work.Work.{Work}
 use Rattle.mega_answers.specs.of_step_work.Settings.{setting}
 use Rattle.mega_answers.proofs.of_step_work.Doing.{unless_met, unless_stored}
 use Rattle.mega_actions.proofs.replica.Replica.acts_once.Goals as goal
-
-pub returns-then-stays-clause-acted : goal.returns-then-stays-clause-acted
-returns-then-stays-clause-acted g c h now told means about at =
-    let o = c.args.operation in
-    let before = c.args.work.now in
-    let pushed : c.push.new.self ≡ before.kept ++ o ∷ [] = search rules in
-    record {
-      after = keeps now o;
-      stands = at;
-      work = λ was. ap (λ kept. record before { kept = kept }) pushed ∙ ap (λ (work : Work). record work { kept = work.kept ++ o ∷ [] }) was;
-      about = tt;
-      rule_is = λ again. c.stays.ensures c.if-stays.true (setting c.args.self.now.members c.args.self.now.me h) again now at.stands.tells;
-    }
 
 pub returns-in_ok-next-in-Reads-clause-acted : goal.returns-in_ok-next-in-Reads-clause-acted
 returns-in_ok-next-in-Reads-clause-acted g c h now told means about at =
@@ -42,7 +28,7 @@ returns-in_ok-next-in-Reads-clause-acted g c h now told means about at =
       stands = inner.stands;
       work = inner.work;
       about = inner.about;
-      rule_is = λ again. ap (acts s again now) (sym whole_is) ∙ inner.rule_is again;
+      leads = ap (acts s now) (sym whole_is) ∙ inner.leads;
     }
 
 pub returns-in_ok-next-in-Reads-clause-asked : goal.returns-in_ok-next-in-Reads-clause-asked
@@ -64,5 +50,5 @@ returns-in_ok-checks-in-Proposes-clause-acted g c h now told means about at =
       stands = coe 0 1 (i. StandsAt s before.voter.logs.kept before.leases before.digest version (progress_at before.rows.progress) (sym (unless_met now o own.position promised found) i) (sym (unless_stored now o own.position promised found) i)) at;
       work = λ was. c.in_ok-checks-in-Proposes.ensures.work now at.stands.tells was;
       about = tt;
-      rule_is = λ again. ap (acts s again now) (sym whole_is);
+      leads = ap (acts s now) (sym whole_is);
     }

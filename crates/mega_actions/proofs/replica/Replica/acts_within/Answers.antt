@@ -1,6 +1,6 @@
 use Rattle.std.proofs.Common.{◌≡◌, ◌∙◌, ◌-◌, ◌+◌, None, ap, arith, rules, sym}
 use Rattle.mega_meanings.proofs.Lasting.{means_still}
-use Rattle.mega_rules.specs.Acting.{acts_within, keeps}
+use Rattle.mega_rules.specs.Acting.{ActsAgain, Rests, keeps, rests_within}
 use Rattle.mega_answers.specs.of_step_work.Settings.{setting}
 use Rattle.mega_actions.proofs.Leaving.{leaves_here, leaves_then}
 use Rattle.mega_actions.proofs.Turned.{no_turn, one_turn}
@@ -13,7 +13,7 @@ loop-turn-init g c = record {
     stands = at;
     work = λ was. was;
     about = about;
-    rule_is = ap (λ n. acts_within n (setting c.args.self.now.members c.args.self.now.me h) now c.args.operation) (let e : c.args.most ≡ c.args.most - 0 = omega arith in e);
+    leads = ap (λ n. rests_within n (setting c.args.self.now.members c.args.self.now.me h) (ActsAgain now c.args.operation)) (let e : c.args.most ≡ c.args.most - 0 = omega arith in e);
   };
   leaves = leaves_here g.V.Versions (g.H.QueueHandlers.meant c.args.handlers.now) c.args.self.now;
   asked = search rules;
@@ -35,9 +35,9 @@ loop-turn-preserved g c =
             stands = inner.stands;
             work = λ was. inner.work (so.work was);
             about = inner.about;
-            rule_is =
-                one_turn s (setting loop.self.members loop.self.me h) now so.after c.args.operation loop.next c.args.most loop._turn c.loop-turn-test.true (λ i. setting (sym loop.invariant.leaves.members i) (sym loop.invariant.leaves.me i) h) so.rule_is
-                ∙ inner.rule_is (acts_within (c.args.most - (loop._turn + 1)) s);
+            leads =
+                one_turn s (setting loop.self.members loop.self.me h) now so.after c.args.operation loop.next c.args.most loop._turn c.loop-turn-test.true (λ i. setting (sym loop.invariant.leaves.members i) (sym loop.invariant.leaves.me i) h) so.leads
+                ∙ ap (rests_within (c.args.most - (loop._turn + 1)) s) inner.leads;
           };
       leaves = leaves_then g.V.Versions None (meant c.args.handlers.now) (meant loop.handlers) (meant c.acts_once.new.handlers) before loop.self new loop.invariant.leaves c.in-Ok-Some.ensures.leaves;
       asked = (rw c.in-Ok-Some.field-0-is at c.in-Ok-Some.ensures.asked) ∙ loop.invariant.asked;
@@ -55,9 +55,10 @@ returns-in-Ok-None-clause-acted g c h now told means about at =
       stands = inner.stands;
       work = λ was. inner.work (so.work was);
       about = tt;
-      rule_is = λ again.
-          one_turn s (setting loop.self.members loop.self.me h) now so.after c.args.operation loop.next c.args.most loop._turn c.loop-turn-test.true (λ i. setting (sym loop.invariant.leaves.members i) (sym loop.invariant.leaves.me i) h) so.rule_is
-          ∙ inner.rule_is (acts_within (c.args.most - (loop._turn + 1)) s);
+      leads = ap Rests (
+          one_turn s (setting loop.self.members loop.self.me h) now so.after c.args.operation loop.next c.args.most loop._turn c.loop-turn-test.true (λ i. setting (sym loop.invariant.leaves.members i) (sym loop.invariant.leaves.me i) h) so.leads
+          ∙ ap (rests_within (c.args.most - (loop._turn + 1)) s) inner.leads
+          );
     }
 
 pub returns-in-Ok-None-clause-leaves : goal.returns-in-Ok-None-clause-leaves
@@ -85,5 +86,5 @@ returns-clause-acted g c h now told means about at =
       stands = so.stands;
       work = λ was. c.in_ok-does.ensures so.after (so.work was);
       about = tt;
-      rule_is = λ again. no_turn s now so.after c.args.operation loop.next c.args.most loop._turn (omega (arith, test)) so.rule_is;
+      leads = ap Rests (no_turn s now so.after c.args.operation loop.next c.args.most loop._turn (omega (arith, test)) so.leads);
     }

@@ -1,6 +1,7 @@
-use Rattle.std.proofs.Common.{◌∙◌, ap, subst, sym}
+use Rattle.std.proofs.Common.{◌∙◌, ap, subst, sym, length, ◌+◌}
 use Rattle.mega_answers.specs.of_pumps.Owns.{picks_by}
-use Rattle.mega_rules.specs.Acting.{goes_on}
+use Rattle.mega_rules.specs.Logs.{groups_of}
+use Rattle.mega_rules.specs.Acting.{rests_within}
 use Rattle.mega_rules.specs.Clock.{clock_of}
 use Rattle.mega_rules.specs.Operations.{Now}
 use Rattle.mega_rules.specs.Steps.{new_operation}
@@ -25,9 +26,9 @@ returns-in_ok-does-in-Done-clause-state g c h now told means pump at =
     let began = c.now-began.ensures before.members before.me now.met at.stands.leased in
     let is =
     pump_begins s now c.args.op c.args.request (clock_of now.met) pump
-    ∙ (λ i. picks_by (sym c.is_entering-entering.ensures i) s (goes_on s) now (record { id = o.id; request = o.request; began = sym began i; visited = sym c.new-visited.ensures i; message = o.message; phase = o.phase }) (sym c.new-asked.ensures i))
-    ∙ sym (c.in_ok-pumped.ensures.pumped before.me h now (goes_on s) o.phase at.stands at.noted)
-    ∙ ap (pumped_by (goes_on s) now) c.in-Done.is in
+    ∙ ap (rests_within (length (groups_of now.met) + 2) s) ((λ i. picks_by (sym c.is_entering-entering.ensures i) s now (record { id = o.id; request = o.request; began = sym began i; visited = sym c.new-visited.ensures i; message = o.message; phase = o.phase }) (sym c.new-asked.ensures i))
+    ∙ sym (c.in_ok-pumped.ensures.pumped before.me h now o.phase at.stands at.noted)
+    ∙ ap (pumped_by now) c.in-Done.is) in
     let action = c.in-Done.action in
     let digest = c.picks.new.digest in
     let noted = c.in_ok-pumped.ensures.noted now.met now.stored at.stands.tells at.stands.follows at.noted in
@@ -43,9 +44,9 @@ returns-in_ok-does-in-Done-clause-work g c h now told means pump at was =
     let began = c.now-began.ensures before.members before.me now.met at.stands.leased in
     let is =
     pump_begins s now c.args.op c.args.request (clock_of now.met) pump
-    ∙ (λ i. picks_by (sym c.is_entering-entering.ensures i) s (goes_on s) now (record { id = o.id; request = o.request; began = sym began i; visited = sym c.new-visited.ensures i; message = o.message; phase = o.phase }) (sym c.new-asked.ensures i))
-    ∙ sym (c.in_ok-pumped.ensures.pumped before.me h now (goes_on s) o.phase at.stands at.noted)
-    ∙ ap (pumped_by (goes_on s) now) c.in-Done.is in
+    ∙ ap (rests_within (length (groups_of now.met) + 2) s) ((λ i. picks_by (sym c.is_entering-entering.ensures i) s now (record { id = o.id; request = o.request; began = sym began i; visited = sym c.new-visited.ensures i; message = o.message; phase = o.phase }) (sym c.new-asked.ensures i))
+    ∙ sym (c.in_ok-pumped.ensures.pumped before.me h now o.phase at.stands at.noted)
+    ∙ ap (pumped_by now) c.in-Done.is) in
     c.in_ok-does-in-Done.ensures now was ∙ ap work_of (sym is)
 
 pub returns-in_ok-acts_in_turn-in-Again-clause-state : goal.returns-in_ok-acts_in_turn-in-Again-clause-state
@@ -58,9 +59,9 @@ returns-in_ok-acts_in_turn-in-Again-clause-state g c h now told means pump at =
     let heard = c.in-Again.heard in
     let is =
     pump_begins s now c.args.op c.args.request (clock_of now.met) pump
-    ∙ (λ i. picks_by (sym c.is_entering-entering.ensures i) s (goes_on s) now (record { id = o.id; request = o.request; began = sym began i; visited = sym c.new-visited.ensures i; message = o.message; phase = o.phase }) (sym c.new-asked.ensures i))
-    ∙ sym (c.in_ok-pumped.ensures.pumped before.me h now (goes_on s) o.phase at.stands at.noted)
-    ∙ ap (pumped_by (goes_on s) now) c.in-Again.is in
+    ∙ ap (rests_within (length (groups_of now.met) + 2) s) ((λ i. picks_by (sym c.is_entering-entering.ensures i) s now (record { id = o.id; request = o.request; began = sym began i; visited = sym c.new-visited.ensures i; message = o.message; phase = o.phase }) (sym c.new-asked.ensures i))
+    ∙ sym (c.in_ok-pumped.ensures.pumped before.me h now o.phase at.stands at.noted)
+    ∙ ap (pumped_by now) c.in-Again.is) in
     let noted = c.in_ok-pumped.ensures.noted now.met now.stored at.stands.tells at.stands.follows at.noted in
     let asked = subst (λ (pumped : Pumped). IsAsked pumped c.args.request) c.in-Again.is c.in_ok-pumped.ensures.asked in
     subst (λ (then : Now). IsAt g.V.Versions.version h new then.met then.stored) (sym is)
@@ -75,9 +76,9 @@ returns-in_ok-acts_in_turn-in-Again-clause-work g c h now told means pump at was
     let heard = c.in-Again.heard in
     let is =
     pump_begins s now c.args.op c.args.request (clock_of now.met) pump
-    ∙ (λ i. picks_by (sym c.is_entering-entering.ensures i) s (goes_on s) now (record { id = o.id; request = o.request; began = sym began i; visited = sym c.new-visited.ensures i; message = o.message; phase = o.phase }) (sym c.new-asked.ensures i))
-    ∙ sym (c.in_ok-pumped.ensures.pumped before.me h now (goes_on s) o.phase at.stands at.noted)
-    ∙ ap (pumped_by (goes_on s) now) c.in-Again.is in
+    ∙ ap (rests_within (length (groups_of now.met) + 2) s) ((λ i. picks_by (sym c.is_entering-entering.ensures i) s now (record { id = o.id; request = o.request; began = sym began i; visited = sym c.new-visited.ensures i; message = o.message; phase = o.phase }) (sym c.new-asked.ensures i))
+    ∙ sym (c.in_ok-pumped.ensures.pumped before.me h now o.phase at.stands at.noted)
+    ∙ ap (pumped_by now) c.in-Again.is) in
     let noted = c.in_ok-pumped.ensures.noted now.met now.stored at.stands.tells at.stands.follows at.noted in
     let asked = subst (λ (pumped : Pumped). IsAsked pumped c.args.request) c.in-Again.is c.in_ok-pumped.ensures.asked in
     c.in_ok-acts_in_turn-in-Again.ensures.work h now told means (pump_about heard.operation (ap is_pump asked ∙ pump)) (record { stands = at.stands; noted = noted }) was ∙ ap work_of (sym is)

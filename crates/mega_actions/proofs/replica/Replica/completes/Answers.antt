@@ -20,7 +20,7 @@ returns-clause-acted g c h now told means of le at =
       stands = goes.stands;
       work = λ was. goes.work (c.in-Ok.ensures.work before.members before.me h now at.stands was);
       about = goes.about;
-      rule_is = goes.rule_is;
+      leads = goes.leads;
     }
 
 pub returns-in_err-next-clause-leaves : goal.returns-in_err-next-clause-leaves

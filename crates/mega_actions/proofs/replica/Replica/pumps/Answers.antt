@@ -2,7 +2,7 @@ use Rattle.std.proofs.Common.{◌∙◌, Option, ap, subst, sym}
 use Rattle.mega_replica.specs.Following.{progress_at}
 use Rattle.mega_rules.specs.Operations.{Operation}
 use Rattle.mega_answers.specs.Asked.{IsNextAbout, IsNextAsked}
-use Rattle.mega_answers.specs.Pumping.{pumped_after, then_again}
+use Rattle.mega_answers.specs.Pumping.{led_to, pumped_after}
 use Rattle.mega_answers.specs.RepresentsMet.{RepresentsMet}
 use Rattle.mega_answers.specs.of_step_work.Settings.{setting}
 use Rattle.mega_answers.proofs.Serving.{next_about, next_asked, pumped_met, pumped_stored, pumped_then}
@@ -26,10 +26,10 @@ returns-clause-acted g c h now told means pump le at =
       };
       work = λ was. c.in_ok-next.ensures.work now was;
       about = subst IsNextAbout (sym next) (next_about pumped c.args.reached.kept.request pump c.in_ok-pumped.ensures.asked);
-      rule_is = λ again.
-          sym (c.in_ok-pumped.ensures.pumped told before.me h now again means pump le at.stands at.noted)
-          ∙ pumped_then again now pumped
-          ∙ ap (then_again again (pumped_after now pumped)) (sym next);
+      leads =
+          sym (c.in_ok-pumped.ensures.pumped told before.me h now means pump le at.stands at.noted)
+          ∙ pumped_then now pumped
+          ∙ ap (led_to (pumped_after now pumped)) (sym next);
     }
 
 pub returns-clause-asked : goal.returns-clause-asked

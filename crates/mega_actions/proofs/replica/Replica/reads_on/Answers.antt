@@ -23,7 +23,7 @@ returns-in_default-clause-acted g c h now told means of at =
       stands = at;
       work = λ was. c.in_ok-does.ensures now was ∙ ap (λ (one : Operation). work_of (keeps now one)) c.in_phase-operation.ensures;
       about = tt;
-      rule_is = λ again. polls s again now o group reading (sym c.through_of.ensures ∙ c.in_default.is);
+      leads = polls s now o group reading (sym c.through_of.ensures ∙ c.in_default.is);
     }
 
 pub returns-then-is_reached-clause-acted : goal.returns-then-is_reached-clause-acted
@@ -41,9 +41,9 @@ returns-then-is_reached-clause-acted g c h now told means of at =
       stands = inner.stands;
       work = inner.work;
       about = inner.about;
-      rule_is = λ again.
-          reaches s again now (whole c.args.kept (Reads group reading)) group reading through (sym c.through_of.ensures ∙ c.in-Some.is) (sym (ap (nat_le through) prefix) ∙ sym c.is_reached.ensures.exact ∙ c.if-is_reached.true)
-          ∙ inner.rule_is again;
+      leads =
+          reaches s now (whole c.args.kept (Reads group reading)) group reading through (sym c.through_of.ensures ∙ c.in-Some.is) (sym (ap (nat_le through) prefix) ∙ sym c.is_reached.ensures.exact ∙ c.if-is_reached.true)
+          ∙ inner.leads;
     }
 
 pub returns-clause-acted : goal.returns-clause-acted
@@ -64,5 +64,5 @@ returns-clause-acted g c h now told means of at =
           c.in_ok-does-2.ensures now was
           ∙ ap work_of (c.in_ok-action.ensures before.me h now clock ∙ ap (λ q. seeks_on o now group (seeks (reader_of s kept.id group) reading (q + 1) (clock_of now.met))) prefix);
       about = tt;
-      rule_is = λ again. seeks_least s again now o group reading through (sym c.through_of.ensures ∙ c.in-Some.is) (sym (ap (nat_le through) prefix) ∙ sym c.is_reached.ensures.exact ∙ c.if-is_reached.false);
+      leads = seeks_least s now o group reading through (sym c.through_of.ensures ∙ c.in-Some.is) (sym (ap (nat_le through) prefix) ∙ sym c.is_reached.ensures.exact ∙ c.if-is_reached.false);
     }

@@ -4,7 +4,8 @@ use Rattle.mega_durable.specs.of_core.of_step_parts.Notes.{met_of}
 use Rattle.mega_promises.specs.Runs.{appends}
 use Rattle.mega_durable.specs.Standing.{IsUp, records_in}
 use Rattle.mega_serve.specs.Stepping.{event_of}
-use Rattle.mega_server.proofs.Compacted.{at_compacted, at_most_two}
+use Rattle.mega_durable.specs.Spilling.{marks_of, rows_in}
+use Rattle.mega_server.proofs.Compacted.{at_compacted, at_most_two, still_spilled}
 use Rattle.mega_server.proofs.server.Server.steps.Goals as goal
 
 pub returns-in-Ok-acts-clause-notes : goal.returns-in-Ok-acts-clause-notes
@@ -29,3 +30,8 @@ returns-in-Ok-acts-clause-few g c = λ told whole due.
     at_compacted g.R.Records g.V.Versions.version (g.H.QueueHandlers.meant c.args.self.now.handlers) c.args.self.now.up.node mid (event_of c.args.event)
     (λ h s node. g.R.Records.count_of (records_in new) ≤ 2) (c.in-Ok.ensures.state told whole) c.in-Ok.ensures.members c.in-Ok.ensures.me
     (λ h node is may. at_most_two (g.R.Records.count_of (records_in mid)) (g.R.Records.count_of (records_in new)) _ (c.in-Ok.ensures.counted due) (c.in-Ok-acts.ensures.appended told h node is may))
+
+pub returns-in-Ok-acts-clause-marks : goal.returns-in-Ok-acts-clause-marks
+returns-in-Ok-acts-clause-marks g c = λ full h node up.
+    still_spilled g.V.Versions (marks_of node.met node.stored) (rows_in c.args.self.now.up.node) (rows_in c.readied.new.up.node) (rows_in c.acts.new.self.up.node)
+    (c.in-Ok.ensures.spilled full h node up) c.in-Ok-acts.ensures.used.unspilled

@@ -1,28 +1,27 @@
-//! Numbers drawn from a seed.
+//! Numbers drawn from a seed, one after another.
 ghost use Rattle.std.specs.Prelude.{◌<◌};
+
+use crate::draws::{drawn, next};
 
 /// Numbers drawn from a seed.
 #[derive(Drop)]
-pub struct Draws {
+pub struct DrawnNumbers {
     state: u64,
 }
 
-impl Draws {
-    pub fn new(seed: u64) -> Draws {
-        Draws { state: seed }
+impl DrawnNumbers {
+    pub fn new(seed: u64) -> DrawnNumbers {
+        DrawnNumbers { state: seed }
     }
 
     /// The next number, below `most`, or 0 where that is 0.
     pub fn draw(&mut self, most: u64) -> u64
         ensures { 0 < most → result < most }
     {
-        self.state = self
-            .state
-            .wrapping_mul(6364136223846793005)
-            .wrapping_add(1442695040888963407);
+        self.state = next(self.state);
         if most == 0 {
             return 0;
         }
-        (self.state >> 33) % most
+        drawn(self.state, most)
     }
 }

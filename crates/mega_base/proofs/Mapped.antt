@@ -1,4 +1,4 @@
--- A list that is made place by place.
+-- A list that is mapped place by place.
 use Rattle.std.proofs.Common.{◌≡◌, ℕ, zero, suc, ◌+◌, ◌∙◌, add-one, ◌<◌, ◌≤◌, List, [], ◌∷◌, ◌++◌, map, length, take, drop, set, get_or, refl, ap, arith}
 
 -- the first i elements of xs under f, and then those of zs

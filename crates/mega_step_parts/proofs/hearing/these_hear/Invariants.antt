@@ -2,7 +2,7 @@ use Rattle.std.proofs.Common.{◌≡◌, ◌++◌, map}
 use Rattle.std.specs.Vec.Iter.{into_iter_items}
 use Rattle.mega_rules.specs.Operations.{Setting}
 use Rattle.mega_rules.specs.Steps.{hears_message}
-use Rattle.mega_step_parts.proofs.hearing.all_hear.Given as goal
+use Rattle.mega_step_parts.proofs.hearing.these_hear.Given as goal
 
 abbrev pub invariant-loop-operation : goal.invariant-loop-operation
 invariant-loop-operation l = (s : Setting) → s.cluster ≡ l.members
