@@ -58,4 +58,5 @@ halted disks steps makes c me log before after found one start notes may are sta
   given = turned.given;
   begun = turned.begun;
   stops = λ own. turned.stops makes c me found started h means (may_turn disks steps makes c me log found one start notes may are started turned.given h handlers turned.begun.times own);
+  replied = are_replied c me (wish_of c.schema me) h (history_of found) (turns_of h turned.given);
 }

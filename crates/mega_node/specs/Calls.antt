@@ -56,13 +56,15 @@ pub record Ran {D : Type 0} (disks : DiskGhosts D) (h : Meanings) (c : Cluster) 
   pub kept : IfOwn h c number found given (KeepsMet disks left)
   pub replied : AreReplied c number (wish_of c.schema number) (served_over (setting c h number) found (turns_of h given))
 
--- it started, began turns, and ended on its way: a front of its record is held, and what was sent stands in it
+-- it started, began turns, and ended on its way: a front of its record is held, what was sent stands in it, and on that record each request of a client got one
+-- reply at most
 pub record Halted {D : Type 0} (disks : DiskGhosts D) (h : Meanings) (c : Cluster) (number : ℕ) (log : D) (before after : Outside) : Type 0 where
   pub found : List (List ℕ)
   pub are_found : AreFound disks log found
   pub given : List (ℕ × Option Datagram)
   pub begun : HasBegun before.readings after.readings before.taken after.taken given
   pub stops : IfOwn h c number found given (λ now. Stops c.schema before.held after.held before.sent after.sent now.lines)
+  pub replied : AreReplied c number (wish_of c.schema number) (served_over (setting c h number) found (turns_of h given))
 
 -- the same, in the cluster of the header
 abbrev pub HasRun : {D : Type 0} → DiskGhosts D → Meanings → ℕ → ℕ → Option (List ℕ) → D → D → Outside → Outside → Type 0
