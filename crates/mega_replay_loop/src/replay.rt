@@ -256,8 +256,8 @@ fn run_schedule<I: Source, O: Sink, H: QueueHandlers>(
 
 /// Reads a header and a schedule, and writes the report of what happens; its last bytes may wait.
 /// It is done exactly where the header reads as a cluster and every line is an event that happens; it
-/// stops at a header that breaks a rule, and else at the first line that is no event, is refused or is
-/// not served.
+/// stops at a header that breaks a rule, and else at the first line that is no event, is refused, or is
+/// a start past the last one.
 pub fn replay<I: Source, O: Sink, H: QueueHandlers>(
     alloc: Global,
     report: Report,

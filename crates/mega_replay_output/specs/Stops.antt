@@ -53,7 +53,7 @@ IsBeforeWriting Sink = ⊥
 IsBeforeWriting NoMemory = ⊥
 IsBeforeWriting _ = Unit {0}
 
--- a cluster that is not built, or want of memory
+-- want of memory
 abbrev pub IsOpeningStop : Stop → Type 0
 IsOpeningStop NoMemory = Unit {0}
 IsOpeningStop _ = ⊥
