@@ -37,7 +37,7 @@ fn all_sends(
 }
 
 impl<R: Records, V: Versions> Node<R, V> {
-    /// The step ends: of these groups what is applied since is noted behind the first notes, then what the operations came
+    /// The step ends: of these groups what is applied since is noted after the first notes, then what the operations came
     /// to, and all that is sent is told to the voter.
     pub(crate) fn ends(
         &mut self,

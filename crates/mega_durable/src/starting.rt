@@ -163,7 +163,7 @@ impl<R: Records + Drop, V: Versions + Drop> Up<R, V> {
         Down { voter, rows }
     }
 
-    /// The records of a node whose step was cut off. What it kept in memory is gone, and the next start opens them anew.
+    /// The records of a node whose step was cut off. What it kept in memory is gone, and the next start opens them again.
     pub fn close(self) -> R
         ensures { result ≡ records_in self.node }
     {

@@ -26,7 +26,7 @@ use mega_meanings::QueueHandlers;
 use mega_server::Number;
 use std::alloc::Global;
 
-/// What a call came to, and the devices as it left them, which are lost only where memory was wanting.
+/// What a call came to, and the devices as it left them, which are lost only where memory ran out.
 #[derive(Drop)]
 pub struct Outcome<D> {
     pub ended: Result<(), Stop>,

@@ -18,11 +18,11 @@ pub enum Stop {
     Device,
     /// An allocation was refused.
     NoMemory,
-    /// What a step was given, made or read is none of the formats.
+    /// What a step was given, made or read is none of the formats, or its log refused a record before.
     Unformed,
     /// The link was not bound.
     Link,
-    /// The log's file would have this length, more than 2^40.
+    /// The log's file would have this length in bytes, more than 2^40.
     Full { length: u64 },
     /// The node started 4,294,967,295 times.
     StartsFull,

@@ -28,6 +28,7 @@ pub enum Band {
     Serves,
 }
 
+/// The turn, where it is here that it happens.
 fn turn_if(here: bool, turn: Turn) -> Turn
     ensures { result ≡ turn_if here turn }
 {
@@ -58,6 +59,7 @@ fn width_of(band: Band) -> u64
     }
 }
 
+/// The class of a band.
 fn class_of(band: Band) -> &'static str
     ensures { result.now ≡ class_of band }
 {
@@ -67,6 +69,7 @@ fn class_of(band: Band) -> &'static str
     }
 }
 
+/// Draws a rectangle of a class.
 fn put_rect(
     alloc: Global,
     out: &mut Bytes,

@@ -80,6 +80,7 @@ fn put_answer(out: &mut Bytes, line: &[u8]) -> Result<(), NoMemory>
     out.extend_from_slice(words)
 }
 
+/// Appends a word and a number.
 fn put_number(alloc: Global, out: &mut Bytes, name: &str, number: u64) -> Result<(), NoMemory>
     ensures { OnOk result (out.new ≡ out.old ++ number_label name.now number) }
 {
@@ -95,6 +96,7 @@ fn put_plain(alloc: Global, out: &mut Bytes, number: u64) -> Result<(), NoMemory
     out.extend_from_slice(text.as_bytes())
 }
 
+/// Appends a word and an epoch.
 fn put_epoch(alloc: Global, out: &mut Bytes, name: &str, epoch: Epoch) -> Result<(), NoMemory>
     ensures { OnOk result (out.new ≡ out.old ++ epoch_label name.now epoch) }
 {
@@ -138,6 +140,7 @@ fn put_place(
     out.extend_from_slice(text.as_bytes())
 }
 
+/// Appends that a message was not sent, its kind, and its receiver.
 fn put_unsent(alloc: Global, out: &mut Bytes, message: &Message) -> Result<(), NoMemory>
     ensures { OnOk result (out.new ≡ out.old ++ unsent_label message.now) }
 {
@@ -147,6 +150,7 @@ fn put_unsent(alloc: Global, out: &mut Bytes, message: &Message) -> Result<(), N
     out.extend_from_slice(text.as_bytes())
 }
 
+/// Appends that a drain was cut.
 #[tactic(auto, unfolding(crate::specs::Labels::cut_label))]
 fn put_cut_label(out: &mut Bytes) -> Result<(), NoMemory>
     ensures { OnOk result (out.new ≡ out.old ++ cut_label) }
@@ -154,6 +158,7 @@ fn put_cut_label(out: &mut Bytes) -> Result<(), NoMemory>
     out.extend_from_slice(b"cut: the drain ends, and a message waits")
 }
 
+/// Appends that leases are not safe.
 #[tactic(auto, unfolding(crate::specs::Labels::unsafe_label))]
 fn put_unsafe_label(out: &mut Bytes) -> Result<(), NoMemory>
     ensures { OnOk result (out.new ≡ out.old ++ unsafe_label) }

@@ -27,6 +27,7 @@ pub struct Change {
     pub valid: bool,
 }
 
+/// The change, where it is here that it happens.
 fn change_if(here: bool, group: u32, valid: bool) -> Option<Change>
     ensures { result ≡ change_if here group valid }
 {
@@ -56,6 +57,7 @@ fn change_of(groups: &Groups, node: u8, item: &Item) -> Option<Change>
     }
 }
 
+/// Whether a group's strip ends there.
 fn is_end(turn: Turn) -> bool
     ensures { result ≡ is_end turn }
 {
@@ -66,12 +68,14 @@ fn is_end(turn: Turn) -> bool
     }
 }
 
+/// The class of a strip: of a group that is valid, or invalid.
 fn class_of(valid: bool) -> &'static str
     ensures { result.now ≡ class_of valid }
 {
     if valid { "valid" } else { "invalid" }
 }
 
+/// Opens a strip, up to its title.
 fn put_opening(alloc: Global, out: &mut Bytes, class: &str) -> Result<(), NoMemory>
     ensures { OnOk result (out.new ≡ out.old ++ strip_opening class.now) }
 {
@@ -79,6 +83,7 @@ fn put_opening(alloc: Global, out: &mut Bytes, class: &str) -> Result<(), NoMemo
     out.extend_from_slice(text.as_bytes())
 }
 
+/// Ends the title of a strip, and draws it.
 fn put_strip(alloc: Global, out: &mut Bytes, x: u64, y: u64, height: u64) -> Result<(), NoMemory>
     ensures { OnOk result (out.new ≡ out.old ++ strip_text x y height) }
 {

@@ -2,9 +2,11 @@
 use crate::fault::WorldFault;
 use mega_durable::Cut;
 
-/// Why a node did not make a step: its log's fuse cut it off, and this is owed where its record was kept; or a fault of the world.
+/// Why a node did not make a step.
 #[derive(Drop)]
 pub enum NotMade {
+    /// Its log's fuse cut the step off; this is owed where its record was kept.
     Cut(Cut),
+    /// The world refused the event, met a limit, or ran out of memory.
     Fault(WorldFault),
 }

@@ -6,7 +6,7 @@ use mega_durable::Down;
 use mega_rows::VersionedRows;
 
 /// Between two steps the logs and rows of a node, which its next start goes on with. A step or a start that was cut off leaves
-/// the records alone, which its next start opens anew.
+/// the records alone, which its next start opens again.
 #[derive(Drop)]
 pub enum Remains {
     InMemory(Down<MemRecords, VersionedRows>),

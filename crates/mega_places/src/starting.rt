@@ -25,7 +25,7 @@ use mega_verdicts::CutAt;
 use mega_voter::Voter;
 use std::alloc::Global;
 
-/// A node that started: the number of the start, what it owed, and what it shows behind that.
+/// A node that started: the number of the start, what it owed, and what it shows after that.
 #[derive(Drop)]
 pub struct Begun {
     pub member: Member,
@@ -34,16 +34,18 @@ pub struct Begun {
     pub notes: Items<Note>,
 }
 
-/// Why a node did not start: its log's fuse cut the start off, and it is down as this; or it started 4,294,967,295 times; or
-/// memory is wanting.
+/// Why a node did not start.
 #[derive(Drop)]
 pub enum NotBegun {
+    /// Its log's fuse cut the start off; it is down as this.
     Cut(Fallen),
+    /// It started 4,294,967,295 times.
     Limit,
+    /// An allocation was refused.
     NoMemory,
 }
 
-/// The node over the logs that these records hold, which are opened anew, and rows that hold nothing.
+/// The node over the logs that these records hold, which are opened again, and rows that hold nothing.
 fn anew(alloc: Global, records: MemRecords) -> Result<Down<MemRecords, VersionedRows>, NoMemory>
     ensures stands { IfOk result (λ down. (c : ClusterValue) (me starts : ℕ) (met : List Met) → HoldsMet records.list.items starts met → IsReady c me down starts met) }
     ensures list { IfOk result (λ down. down.voter.logs.records.list.items ≡ records.list.items) }
@@ -58,7 +60,7 @@ fn anew(alloc: Global, records: MemRecords) -> Result<Down<MemRecords, Versioned
     }
 }
 
-/// The node over what is left of it: as it stands in memory, or opened anew.
+/// The node over what is left of it: as it stands in memory, or opened again.
 fn opened(alloc: Global, remains: Remains) -> Result<Down<MemRecords, VersionedRows>, NoMemory>
     ensures stands { IfOk result (λ down. (c : ClusterValue) (me starts : ℕ) (met : List Met) → HoldsMet (records_below remains).list.items starts met → AreReady c me remains starts met → IsReady c me down starts met) }
     ensures list { IfOk result (λ down. down.voter.logs.records.list.items ≡ (records_below remains).list.items) }

@@ -13,7 +13,7 @@ use mega_io::{LineReader, Source};
 use mega_replay_output::Stop;
 use std::alloc::Global;
 
-/// Reads a header and the line `---` behind it.
+/// Reads a header and the line `---` after it.
 pub fn read_header<I: Source>(
     alloc: Global,
     reader: &mut LineReader,

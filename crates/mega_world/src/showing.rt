@@ -1,4 +1,4 @@
-//! What a step makes comes onto the tape, and `unsafe` behind the first item that breaks.
+//! What a step makes comes onto the tape, with `unsafe` after the first item by which leases are not safe.
 
 ghost use Rattle.std.specs.Prelude.{◌≡◌, ◌+◌, ◌++◌, ◌∷◌, ◌||◌, [], ℕ, List, OnOk, if◌then◌else◌};
 ghost use Rattle.std.specs.Prelude.{All};
