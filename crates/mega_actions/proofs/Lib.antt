@@ -2,7 +2,7 @@ mod Onward
 pub mod Leaving
 mod Within
 mod InTurn
-mod Unmoved
+pub mod Unmoved
 mod Begun
 mod Turned
 pub use Rattle.mega_answers.proofs.of_pumps as of_pumps
