@@ -5,6 +5,7 @@ mod InTurn
 pub mod Unmoved
 mod Begun
 mod Turned
+mod Undue
 pub use Rattle.mega_answers.proofs.of_pumps as of_pumps
 pub use Rattle.mega_answers.proofs.of_marks as of_marks
 pub use Rattle.mega_answers.proofs.of_node_laws as of_node_laws
