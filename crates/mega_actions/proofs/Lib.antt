@@ -6,6 +6,7 @@ pub mod Unmoved
 mod Begun
 mod Turned
 mod Undue
+mod Beyond
 pub use Rattle.mega_answers.proofs.of_pumps as of_pumps
 pub use Rattle.mega_answers.proofs.of_marks as of_marks
 pub use Rattle.mega_answers.proofs.of_node_laws as of_node_laws

@@ -1,5 +1,5 @@
 //! What an operation does that acts: it reads, seeks, finishes or ends.
-ghost use Rattle.std.specs.Prelude.{◌≡◌, ◌≤◌, ◌+◌, ◌<◌, ◌^◌, length, nat_le, IfOk, OnOk, OnErr, Err, None, false, true};
+ghost use Rattle.std.specs.Prelude.{◌≡◌, ◌≤◌, ◌+◌, ◌<◌, ◌^◌, List, length, nat_le, IfOk, OnOk, OnErr, Err, None, false, true};
 ghost use Rattle.mega_handler.specs.Named.{Meanings};
 ghost use Rattle.mega_meanings.specs.Means.{Means};
 ghost use Rattle.mega_answers.specs.of_node_laws.About.{IsAbout, IsOf};
@@ -7,6 +7,7 @@ ghost use Rattle.mega_answers.specs.of_operations.Whole.{whole};
 ghost use Rattle.mega_answers.specs.of_operations.Phases.{promised_of};
 ghost use Rattle.mega_rules.specs.Clock.{clock_of};
 ghost use Rattle.mega_rules.specs.Logs.{decided, groups_of, log_of, prefix_of};
+ghost use Rattle.mega_rules.specs.Met.{Met};
 ghost use Rattle.mega_rules.specs.Operations.{Now, Proposes, Reads, Setting};
 ghost use Rattle.mega_rules.specs.Acting.{ActsAgain, Rests, acts, completes_read, finishes, goes_on, keeps, reader_of, reads_on, rests_within, seeks_on, unless_decided};
 ghost use Rattle.mega_replica.specs.Applying.{applied};
@@ -92,6 +93,17 @@ fn seeks(
     }
 }
 
+/// Whether nothing is decided at a position of a group: mostly since nothing is so far, which the marks of the group tell.
+fn is_undecided<R: Records>(voter: &Voter<R>, group: &GroupId, position: u64) -> bool
+    ensures { result ≡ true → (met : List Met) → Tells voter.now.logs.kept met → decided met group.now position ≡ None }
+{
+    let newest = voter.newest(group).0;
+    if newest < position {
+        return true;
+    }
+    voter.decided(group, Position(position)).is_none()
+}
+
 /// Whether an operation that acts stays as it is: it does not know through where it reads, or its position is not decided.
 pub(crate) fn stays<R: Records>(voter: &Voter<R>, operation: &Operation) -> bool
     ensures { result ≡ true → (s : Setting) (now : Now) → Tells voter.now.logs.kept now.met → acts s now operation.now ≡ Rests (keeps now operation.now) }
@@ -102,7 +114,7 @@ pub(crate) fn stays<R: Records>(voter: &Voter<R>, operation: &Operation) -> bool
             group,
             position,
             ..
-        } => voter.decided(group, Position(*position)).is_none(),
+        } => is_undecided(voter, group, *position),
     }
 }
 
