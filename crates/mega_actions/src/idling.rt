@@ -87,8 +87,7 @@ fn is_idle<R: Records>(
     if operation.is_out(members, clock) {
         return false;
     }
-    let retry = members.cluster().retry;
-    if is_again(last_sent(operation), retry, clock) {
+    if is_again(last_sent(operation), members.cluster().retry, clock) {
         return false;
     }
     stays(voter, operation)
