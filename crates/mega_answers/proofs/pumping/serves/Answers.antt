@@ -11,5 +11,5 @@ returns-in_ok-heard-in-Some-clause-pumped g c me h now phase stands groups =
 
 pub returns-in_ok-pumped-in-None-clause-pumped : goal.returns-in_ok-pumped-in-None-clause-pumped
 returns-in_ok-pumped-in-None-clause-pumped g c me h now phase stands groups =
-    c.in_ok-pumped-in-None.ensures.pumped c.args.members.now me h c.args.leases.now now again (whole c.args.kept phase) c.args.asked stands groups refl
+    c.in_ok-pumped-in-None.ensures.pumped c.args.members.now me h c.args.leases.now now (whole c.args.kept phase) c.args.asked stands groups refl
     ∙ ap (serves (setting c.args.members.now me h) now (whole c.args.kept phase) c.args.asked) (sym c.in-None.is)

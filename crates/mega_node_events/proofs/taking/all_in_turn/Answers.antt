@@ -1,11 +1,12 @@
-use Rattle.std.proofs.Common.{◌≡◌, ◌∙◌, ◌++◌, List, None, All, ap, map, subst, rules}
+use Rattle.std.proofs.Common.{◌≡◌, ◌∙◌, ◌++◌, List, None, Err, All, ap, map, subst, rules}
 use Rattle.mega_meanings.proofs.Lasting.{means_still}
 use Rattle.mega_rules.specs.Operations.{Now}
 use Rattle.mega_rules.specs.Steps.{Heard, all_act}
 use Rattle.mega_actions.specs.of_answers.Faults.{failed_by}
+use Rattle.mega_actions.specs.of_answers.declared.fault.ActFault.TheVariants as act
 use Rattle.mega_actions.specs.IsAt.{IsAt}
 use Rattle.mega_actions.specs.Leaves.{Leaves}
-use Rattle.mega_actions.specs.Turns.{IsHeardAbout, unheard}
+use Rattle.mega_actions.specs.Turns.{IsHeardAbout, IsServableHeard, unheard}
 use Rattle.mega_actions.specs.of_step_work.Settings.{setting}
 use Rattle.mega_actions.specs.of_step_work.Working.{work_of}
 use Rattle.mega_actions.proofs.Leaving.{leaves_then}
@@ -63,3 +64,17 @@ returns-in_err-others_act-in-Ok-clause-leaves g c =
     let meant = g.H.QueueHandlers.meant in
     let rest : Leaves g.V.Versions (failed_by c.from_residual.result) (meant mid.handlers) (meant new.handlers) mid.self new.replica = search rules in
     leaves_then g.V.Versions (failed_by c.from_residual.result) (meant c.args.handlers.now) (meant mid.handlers) (meant new.handlers) c.args.replica.now mid.self new.replica c.in-Ok.ensures.leaves rest
+
+pub returns-in_err-others_act-in-Ok-clause-unserved : goal.returns-in_err-others_act-in-Ok-clause-unserved
+returns-in_err-others_act-in-Ok-clause-unserved g c is =
+    let first = map unheard c.heard.inside.before in
+    let ts = c.heard.inside.heard ++ map unheard c.heard.inside.behind in
+    let rest : c.from_residual.result ≡ Err act.Unserved → All IsServableHeard ts → ⊥ = search rules in
+    subst (λ (all : List Heard). All IsServableHeard all → ⊥) c.heard.view_is (λ servable. rest is (all_second IsServableHeard first ts servable))
+
+pub returns-in-Err-clause-unserved : goal.returns-in-Err-clause-unserved
+returns-in-Err-clause-unserved g c is =
+    let first = map unheard c.heard.inside.before in
+    let ts = c.heard.inside.heard ++ map unheard c.heard.inside.behind in
+    subst (λ (all : List Heard). All IsServableHeard all → ⊥) c.heard.view_is
+    (λ servable. c.in-Err.ensures.unserved is (all_of_unheard IsServableHeard c.heard.inside.before (all_first IsServableHeard first ts servable)))

@@ -1,11 +1,12 @@
-use Rattle.std.proofs.Common.{◌≡◌, ◌∙◌, None, ap, map, subst, rules}
+use Rattle.std.proofs.Common.{◌≡◌, ◌∙◌, All, Err, None, ap, map, subst, rules}
 use Rattle.mega_meanings.proofs.Lasting.{means_still}
 use Rattle.mega_rules.specs.Operations.{Now}
 use Rattle.mega_rules.specs.Steps.{all_act}
 use Rattle.mega_actions.specs.of_answers.Faults.{failed_by}
+use Rattle.mega_actions.specs.of_answers.declared.fault.ActFault.TheVariants as act
 use Rattle.mega_actions.specs.IsAt.{IsAt}
 use Rattle.mega_actions.specs.Leaves.{Leaves}
-use Rattle.mega_actions.specs.Turns.{IsHeardAbout, unheard}
+use Rattle.mega_actions.specs.Turns.{IsHeardAbout, IsServable, IsServableHeard, unheard}
 use Rattle.mega_actions.specs.of_step_work.Settings.{setting}
 use Rattle.mega_actions.specs.of_step_work.Working.{work_of}
 use Rattle.mega_actions.proofs.Leaving.{leaves_then}
@@ -57,3 +58,12 @@ returns-in_err-all_rest-in-Ok-clause-leaves g c =
     let meant = g.H.QueueHandlers.meant in
     let rest : Leaves g.V.Versions (failed_by c.from_residual.result) (meant mid.handlers) (meant new.handlers) mid.self new.self = search rules in
     leaves_then g.V.Versions (failed_by c.from_residual.result) (meant c.args.handlers.now) (meant mid.handlers) (meant new.handlers) c.args.replica.now mid.self new.self c.in-Ok.ensures.leaves rest
+
+pub returns-in_err-all_rest-in-Ok-clause-unserved : goal.returns-in_err-all_rest-in-Ok-clause-unserved
+returns-in_err-all_rest-in-Ok-clause-unserved g c is servable =
+    let os = c.args.behind in
+    let rest : c.from_residual.result ≡ Err act.Unserved → All IsServable os → ⊥ = search rules in
+    rest is (all_of_unheard IsServableHeard os (all_second IsServableHeard c.args.heard (map unheard os) servable))
+
+pub returns-in-Err-clause-unserved : goal.returns-in-Err-clause-unserved
+returns-in-Err-clause-unserved g c is servable = c.in-Err.ensures.unserved is (all_first IsServableHeard c.args.heard (map unheard c.args.behind) servable)

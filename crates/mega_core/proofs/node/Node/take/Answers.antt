@@ -5,11 +5,13 @@ use Rattle.mega_rules.specs.Members.{has_rows}
 use Rattle.mega_rules.specs.Clock.{clock_of}
 use Rattle.mega_rules.specs.Met.{Takes}
 use Rattle.mega_rules.specs.Steps.{Step as RuleStep, Take, decision_note, hears_message, stored_after, told_notes}
+use Rattle.mega_replica.proofs.Using.{used_then}
 use Rattle.mega_replica.specs.Following.{progress_at}
 use Rattle.mega_actions.specs.of_node_laws.Acted.{acted_on, decision_in}
 use Rattle.mega_actions.specs.of_step_work.Settings.{setting}
 use Rattle.mega_actions.specs.Turns.{IsServable}
 use Rattle.mega_step_parts.specs.Positions.{before_at}
+use Rattle.mega_node_events.specs.Faults.{failed_by}
 use Rattle.mega_lag.specs.Lagging.{KnowsLagging}
 use Rattle.mega_node_events.specs.Represents.{Represents}
 use Rattle.mega_step_parts.specs.Staging.{Stages}
@@ -21,6 +23,7 @@ use Rattle.mega_core.proofs.Refused.{unserved_is}
 use Rattle.mega_core.proofs.Lags.{others_kept, take_kept}
 use Rattle.mega_core.proofs.Untouched.{heard_by, take_noted}
 use Rattle.mega_core.proofs.Watched.{watched_noted}
+use Rattle.mega_node_events.proofs.Failing.{acted_store}
 use Rattle.mega_core.proofs.node.Node.take.Goals as goal
 
 pub returns-in_err-work-clause-built : goal.returns-in_err-work-clause-built
@@ -35,6 +38,10 @@ returns-in_err-work-clause-built g c = λ is h node stands.
     c.in_ok-heard.ensures s refl ∙ (λ i. map (hears_message s (clock_is i) c.args.message.now) ((c.replace-opened.ensures.value ∙ sym represents.opened) i)) in
     c.in_err-work.ensures.unserved (search (rules, unserved_is))
     (heard_are_built s node c.args.message.now r0.voter.logs.kept r0.leases version progress c.args.self.now.open c.args.self.now.begun c.in_ok-taken.taken.heard represents (c.in_ok-taken.ensures.heard ∙ heard_is))
+
+pub returns-in_err-work-clause-used : goal.returns-in_err-work-clause-used
+returns-in_err-work-clause-used g c =
+    used_then g.V.Versions (failed_by c.from_residual-in_err-work.result) c.args.self.now.replica.rows.rows c.takes.new.replica.rows.rows c.acts.new.replica.rows.rows c.in_ok-taken.ensures.used (search (rules, acted_store))
 
 pub returns-clause-notes : goal.returns-clause-notes
 returns-clause-notes g c = λ told h node means stands owned placed.
