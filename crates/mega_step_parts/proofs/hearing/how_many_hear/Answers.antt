@@ -13,8 +13,15 @@ returns-then-passed-count-clause-each c =
     let whole : length behind ≤ c.passed_by-passed.result = omega (arith, test) in
     subst (All passed) (take_all c.passed_by-passed.result behind whole ∙ take_rest os 1) c.passed_by-passed.ensures.each
 
-pub returns-in-len1-up-clause-each : goal.returns-in-len1-up-clause-each
-returns-in-len1-up-clause-each c =
+pub returns-else-passed-count-clause-each : goal.returns-else-passed-count-clause-each
+returns-else-passed-count-clause-each c =
     let passed = IsPassedBy c.args.body.now in
     let os = c.args.operations.now in
     All-same passed (drop (length os) os) [] (drop_all (length os) os (omega arith)) (All-nil passed)
+
+pub returns-in-empty-clause-each : goal.returns-in-empty-clause-each
+returns-in-empty-clause-each c =
+    let passed = IsPassedBy c.args.body.now in
+    let os = c.args.operations.now in
+    let none = c.in-empty.len_below in
+    All-same passed (drop 0 os) [] (drop_all 0 os (omega (arith, none))) (All-nil passed)
