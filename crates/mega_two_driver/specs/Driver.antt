@@ -8,7 +8,7 @@ use Rattle.mega_two_moves.specs.declared.phase.Ended.TheVariants.{Open}
 use Rattle.mega_two_moves.specs.declared.phase.Phase.TheVariants.{Begins, Prepares, Decides, Looks, Finishes, Checks, Recovers, Over}
 use Rattle.mega_two_moves.specs.declared.request_result.State.{State}
 use Rattle.mega_two_moves.specs.declared.request_result.RequestResult.{RequestResult}
-use Rattle.mega_two_moves.specs.declared.request_result.RequestResult.TheVariants.{Done, Turned, Again, Lost, Refused, NoPlan, StateIs, Held, Free}
+use Rattle.mega_two_moves.specs.declared.request_result.RequestResult.TheVariants.{Again, Lost, StateIs}
 use Rattle.mega_two_driver.specs.declared.plan.PartRequests.{PartRequests}
 use Rattle.mega_two_driver.specs.declared.plan.Plan.{Plan}
 use Rattle.mega_two_driver.specs.declared.two.Two.{Two}
@@ -75,14 +75,11 @@ recovered schema name =
 
 -- what a reply tells of the present request
 abbrev pub told_in : List ℕ → Phase → List ℕ → RequestResult
-told_in name Begins reply = transaction_told reply
-told_in name (Prepares i) reply = transaction_told reply
-told_in name (Decides made) reply = transaction_told reply
 told_in name (Looks made) reply = plan_told reply
-told_in name (Finishes made i) reply = transaction_told reply
-told_in name (Checks made i) reply = lock_told name reply
 told_in name Recovers reply = plan_told reply
+told_in name (Checks made i) reply = lock_told name reply
 told_in name (Over ending) reply = Again
+told_in name _ reply = transaction_told reply
 
 abbrev pub moved_to : Two → Phase → Two
 moved_to two phase = two_in two.schema phase two.plan
@@ -97,25 +94,12 @@ learned two state (Some plan) =
     if same plan.name two.plan.name then two_in two.schema (by_state (length plan.parts) false state) plan else moved_to two (Over Open)
 
 abbrev pub read_plan : Two → List ℕ → RequestResult → Two
-read_plan two reply Done = stepped two Done
-read_plan two reply Turned = stepped two Turned
-read_plan two reply Again = stepped two Again
-read_plan two reply Lost = stepped two Lost
-read_plan two reply Refused = stepped two Refused
-read_plan two reply NoPlan = stepped two NoPlan
 read_plan two reply (StateIs state) = learned two state (result_ok (plan_of two.schema (plan_line reply)))
-read_plan two reply Held = stepped two Held
-read_plan two reply Free = stepped two Free
+read_plan two reply told = stepped two told
 
 abbrev pub is_recovering : Phase → Bool
 is_recovering Recovers = true
-is_recovering Begins = false
-is_recovering (Prepares i) = false
-is_recovering (Decides made) = false
-is_recovering (Looks made) = false
-is_recovering (Finishes made i) = false
-is_recovering (Checks made i) = false
-is_recovering (Over ending) = false
+is_recovering _ = false
 
 -- the reply to the present request was taken
 unfoldable pub taken : Two → List ℕ → Two

@@ -29,12 +29,7 @@ no_transaction = record { group = record { key = [] }; checks = []; reads = []; 
 
 abbrev pub transaction_in : Request → Transaction
 transaction_in (requests.Txn txn) = txn
-transaction_in (requests.Batch group txns) = no_transaction
-transaction_in (requests.Read read) = no_transaction
-transaction_in (requests.Find find) = no_transaction
-transaction_in requests.PumpEnter = no_transaction
-transaction_in requests.PumpHandle = no_transaction
-transaction_in requests.Refresh = no_transaction
+transaction_in _ = no_transaction
 
 abbrev pub transaction_asked : Result Ask ℕ → Transaction
 transaction_asked (Ok ask) = transaction_in ask.request
@@ -53,8 +48,7 @@ fits_its_table s (Add row property by) = false
 
 abbrev pub new_row : Change → Option Row
 new_row (Put n row) = Some row
-new_row (Delete row) = None
-new_row (Add row property by) = None
+new_row _ = None
 
 -- the write of a change under its key, if it is a put or a deletion that fits the group
 abbrev pub write_under : Schema → Change → Option (List ℕ) → Option Write

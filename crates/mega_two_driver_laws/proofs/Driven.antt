@@ -14,7 +14,7 @@ use Rattle.mega_two_driver.specs.of_moves.declared.phase.Phase.TheVariants.{Begi
 use Rattle.mega_two_driver.specs.of_moves.declared.request_result.State.{State}
 use Rattle.mega_two_driver.specs.of_moves.declared.request_result.RequestResult.{RequestResult}
 use Rattle.mega_two_driver.specs.of_moves.declared.request_result.RequestResult.TheVariants.{Done, Turned, Again, Lost, Refused, NoPlan, StateIs, Held, Free}
-use Rattle.mega_two_driver.specs.Moves.{preparing, ending_of, finishing, by_state, planned, prepared, decided, looked, finished, checked, moved, is_within}
+use Rattle.mega_two_driver.specs.Moves.{preparing, ending_of, finishing, by_state, moved, is_within}
 use Rattle.mega_two_driver_laws.specs.Joined.{ending_in, phase_in, driver_in, state_in, plan_in, lock_in, told_in}
 
 abbrev no_part : Part
@@ -61,81 +61,81 @@ either : {A : Type 0} (f : RequestResult → A) (value : A) (held : Bool) → va
 either f value true one other = one
 either f value false one other = other
 
-plans : (name : Text) (parts : List Part) (reply : Reply) → drivers.moved name parts drivers.Begins reply ≡ phase_in parts (planned (length parts) (told_in name reply))
+plans : (name : Text) (parts : List Part) (reply : Reply) → drivers.moved name parts drivers.Begins reply ≡ phase_in parts (moved (length parts) Begins (told_in name reply))
 plans name parts world.Done = preparing_is parts 0
 plans name parts world.Turned = refl
 plans name parts (world.PlanIs None) = refl
 plans name parts (world.PlanIs (Some plan)) = refl
 plans name parts (world.LockIs None) = refl
-plans name parts (world.LockIs (Some holder)) = either (λ told. phase_in parts (planned (length parts) told)) drivers.Begins (same holder name) refl refl
+plans name parts (world.LockIs (Some holder)) = either (λ told. phase_in parts (moved (length parts) Begins told)) drivers.Begins (same holder name) refl refl
 plans name parts world.Again = refl
 plans name parts world.Lost = refl
 plans name parts world.Refused = refl
 
 prepares : (name : Text) (parts : List Part) (i : ℕ) (part : Part) (reply : Reply) → drop i parts ≡ part ∷ drop (i + 1) parts
-    → drivers.moved name parts (drivers.Prepares (part ∷ drop (i + 1) parts)) reply ≡ phase_in parts (prepared (length parts) i (told_in name reply))
+    → drivers.moved name parts (drivers.Prepares (part ∷ drop (i + 1) parts)) reply ≡ phase_in parts (moved (length parts) (Prepares i) (told_in name reply))
 prepares name parts i part world.Done left = preparing_is parts (i + 1)
 prepares name parts i part world.Turned left = refl
 prepares name parts i part (world.PlanIs None) left = ap drivers.Prepares (sym left)
 prepares name parts i part (world.PlanIs (Some plan)) left = ap drivers.Prepares (sym left)
 prepares name parts i part (world.LockIs None) left = ap drivers.Prepares (sym left)
-prepares name parts i part (world.LockIs (Some holder)) left = either (λ told. phase_in parts (prepared (length parts) i told)) (drivers.Prepares (part ∷ drop (i + 1) parts)) (same holder name) (ap drivers.Prepares (sym left)) (ap drivers.Prepares (sym left))
+prepares name parts i part (world.LockIs (Some holder)) left = either (λ told. phase_in parts (moved (length parts) (Prepares i) told)) (drivers.Prepares (part ∷ drop (i + 1) parts)) (same holder name) (ap drivers.Prepares (sym left)) (ap drivers.Prepares (sym left))
 prepares name parts i part world.Again left = ap drivers.Prepares (sym left)
 prepares name parts i part world.Lost left = refl
 prepares name parts i part world.Refused left = refl
 
-decides : (name : Text) (parts : List Part) (made : Bool) (reply : Reply) → drivers.moved name parts (drivers.Decides made) reply ≡ phase_in parts (decided (length parts) made (told_in name reply))
+decides : (name : Text) (parts : List Part) (made : Bool) (reply : Reply) → drivers.moved name parts (drivers.Decides made) reply ≡ phase_in parts (moved (length parts) (Decides made) (told_in name reply))
 decides name parts made world.Done = finishing_is parts made 0
 decides name parts made world.Turned = refl
 decides name parts made (world.PlanIs None) = refl
 decides name parts made (world.PlanIs (Some plan)) = refl
 decides name parts made (world.LockIs None) = refl
-decides name parts made (world.LockIs (Some holder)) = either (λ told. phase_in parts (decided (length parts) made told)) (drivers.Decides made) (same holder name) refl refl
+decides name parts made (world.LockIs (Some holder)) = either (λ told. phase_in parts (moved (length parts) (Decides made) told)) (drivers.Decides made) (same holder name) refl refl
 decides name parts made world.Again = refl
 decides name parts made world.Lost = refl
 decides name parts made world.Refused = refl
 
-looks : (name : Text) (parts : List Part) (made : Bool) (reply : Reply) → drivers.moved name parts (drivers.Looks made) reply ≡ phase_in parts (looked (length parts) made (Looks made) (told_in name reply))
+looks : (name : Text) (parts : List Part) (made : Bool) (reply : Reply) → drivers.moved name parts (drivers.Looks made) reply ≡ phase_in parts (moved (length parts) (Looks made) (told_in name reply))
 looks name parts made world.Done = refl
 looks name parts made world.Turned = refl
 looks name parts made (world.PlanIs None) = refl
 looks name parts made (world.PlanIs (Some plan)) = state_is parts made plan.state
 looks name parts made (world.LockIs None) = refl
-looks name parts made (world.LockIs (Some holder)) = either (λ told. phase_in parts (looked (length parts) made (Looks made) told)) (drivers.Looks made) (same holder name) refl refl
+looks name parts made (world.LockIs (Some holder)) = either (λ told. phase_in parts (moved (length parts) (Looks made) told)) (drivers.Looks made) (same holder name) refl refl
 looks name parts made world.Again = refl
 looks name parts made world.Lost = refl
 looks name parts made world.Refused = refl
 
-recovers : (name : Text) (parts : List Part) (reply : Reply) → drivers.moved name parts drivers.Recovers reply ≡ phase_in parts (looked (length parts) false Recovers (told_in name reply))
+recovers : (name : Text) (parts : List Part) (reply : Reply) → drivers.moved name parts drivers.Recovers reply ≡ phase_in parts (moved (length parts) Recovers (told_in name reply))
 recovers name parts world.Done = refl
 recovers name parts world.Turned = refl
 recovers name parts (world.PlanIs None) = refl
 recovers name parts (world.PlanIs (Some plan)) = state_is parts false plan.state
 recovers name parts (world.LockIs None) = refl
-recovers name parts (world.LockIs (Some holder)) = either (λ told. phase_in parts (looked (length parts) false Recovers told)) drivers.Recovers (same holder name) refl refl
+recovers name parts (world.LockIs (Some holder)) = either (λ told. phase_in parts (moved (length parts) Recovers told)) drivers.Recovers (same holder name) refl refl
 recovers name parts world.Again = refl
 recovers name parts world.Lost = refl
 recovers name parts world.Refused = refl
 
 finishes : (name : Text) (parts : List Part) (made : Bool) (i : ℕ) (part : Part) (reply : Reply) → drop i parts ≡ part ∷ drop (i + 1) parts
-    → drivers.moved name parts (drivers.Finishes made (part ∷ drop (i + 1) parts)) reply ≡ phase_in parts (finished (length parts) made i (told_in name reply))
+    → drivers.moved name parts (drivers.Finishes made (part ∷ drop (i + 1) parts)) reply ≡ phase_in parts (moved (length parts) (Finishes made i) (told_in name reply))
 finishes name parts made i part world.Done left = finishing_is parts made (i + 1)
 finishes name parts made i part world.Turned left = ap (drivers.Checks made) (sym left)
 finishes name parts made i part (world.PlanIs None) left = ap (drivers.Finishes made) (sym left)
 finishes name parts made i part (world.PlanIs (Some plan)) left = ap (drivers.Finishes made) (sym left)
 finishes name parts made i part (world.LockIs None) left = ap (drivers.Finishes made) (sym left)
-finishes name parts made i part (world.LockIs (Some holder)) left = either (λ told. phase_in parts (finished (length parts) made i told)) (drivers.Finishes made (part ∷ drop (i + 1) parts)) (same holder name) (ap (drivers.Finishes made) (sym left)) (ap (drivers.Finishes made) (sym left))
+finishes name parts made i part (world.LockIs (Some holder)) left = either (λ told. phase_in parts (moved (length parts) (Finishes made i) told)) (drivers.Finishes made (part ∷ drop (i + 1) parts)) (same holder name) (ap (drivers.Finishes made) (sym left)) (ap (drivers.Finishes made) (sym left))
 finishes name parts made i part world.Again left = ap (drivers.Finishes made) (sym left)
 finishes name parts made i part world.Lost left = ap (drivers.Checks made) (sym left)
 finishes name parts made i part world.Refused left = refl
 
 lock_is : (name : Text) (parts : List Part) (made : Bool) (i : ℕ) (part : Part) (held : Bool) → drop i parts ≡ part ∷ drop (i + 1) parts
-    → (if held then drivers.Finishes made (part ∷ drop (i + 1) parts) else drivers.finishing made (drop (i + 1) parts)) ≡ phase_in parts (checked (length parts) made i (if held then Held else Free))
+    → (if held then drivers.Finishes made (part ∷ drop (i + 1) parts) else drivers.finishing made (drop (i + 1) parts)) ≡ phase_in parts (moved (length parts) (Checks made i) (if held then Held else Free))
 lock_is name parts made i part true left = ap (drivers.Finishes made) (sym left)
 lock_is name parts made i part false left = finishing_is parts made (i + 1)
 
 checks : (name : Text) (parts : List Part) (made : Bool) (i : ℕ) (part : Part) (reply : Reply) → drop i parts ≡ part ∷ drop (i + 1) parts
-    → drivers.moved name parts (drivers.Checks made (part ∷ drop (i + 1) parts)) reply ≡ phase_in parts (checked (length parts) made i (told_in name reply))
+    → drivers.moved name parts (drivers.Checks made (part ∷ drop (i + 1) parts)) reply ≡ phase_in parts (moved (length parts) (Checks made i) (told_in name reply))
 checks name parts made i part world.Done left = ap (drivers.Checks made) (sym left)
 checks name parts made i part world.Turned left = ap (drivers.Checks made) (sym left)
 checks name parts made i part (world.PlanIs None) left = ap (drivers.Checks made) (sym left)
@@ -168,15 +168,15 @@ recovers_moved name parts world.Refused = recovers name parts world.Refused
 moves : (name : Text) (parts : List Part) (phase : Phase) (reply : Reply) → is_within (length parts) phase ≡ true → Moves name parts phase reply
 moves name parts Begins reply is = plans name parts reply
 moves name parts (Prepares i) reply is =
-    subst (λ left. drivers.moved name parts (drivers.Prepares left) reply ≡ phase_in parts (prepared (length parts) i (told_in name reply))) (sym (here parts i is))
+    subst (λ left. drivers.moved name parts (drivers.Prepares left) reply ≡ phase_in parts (moved (length parts) (Prepares i) (told_in name reply))) (sym (here parts i is))
     (prepares name parts i (get_or parts i no_part) reply (here parts i is))
 moves name parts (Decides made) reply is = decides name parts made reply
 moves name parts (Looks made) reply is = looks name parts made reply
 moves name parts (Finishes made i) reply is =
-    subst (λ left. drivers.moved name parts (drivers.Finishes made left) reply ≡ phase_in parts (finished (length parts) made i (told_in name reply))) (sym (here parts i is))
+    subst (λ left. drivers.moved name parts (drivers.Finishes made left) reply ≡ phase_in parts (moved (length parts) (Finishes made i) (told_in name reply))) (sym (here parts i is))
     (finishes name parts made i (get_or parts i no_part) reply (here parts i is))
 moves name parts (Checks made i) reply is =
-    subst (λ left. drivers.moved name parts (drivers.Checks made left) reply ≡ phase_in parts (checked (length parts) made i (told_in name reply))) (sym (here parts i is))
+    subst (λ left. drivers.moved name parts (drivers.Checks made left) reply ≡ phase_in parts (moved (length parts) (Checks made i) (told_in name reply))) (sym (here parts i is))
     (checks name parts made i (get_or parts i no_part) reply (here parts i is))
 moves name parts Recovers reply is = recovers_moved name parts reply
 moves name parts (Over ending) reply is = refl

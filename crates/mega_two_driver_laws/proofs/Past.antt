@@ -8,7 +8,7 @@ use Rattle.mega_two_driver.specs.of_moves.declared.request_result.State.{State}
 use Rattle.mega_two_driver.specs.of_moves.declared.request_result.State.TheVariants.{Undecided, Made, Dropped}
 use Rattle.mega_two_driver.specs.of_moves.declared.request_result.RequestResult.{RequestResult}
 use Rattle.mega_two_driver.specs.of_moves.declared.request_result.RequestResult.TheVariants.{Done, Turned, Again, Lost, Refused, NoPlan, StateIs, Held, Free}
-use Rattle.mega_two_driver.specs.Moves.{preparing, ending_of, finishing, by_state, planned, prepared, decided, looked, finished, checked, moved}
+use Rattle.mega_two_driver.specs.Moves.{preparing, ending_of, finishing, by_state, moved}
 use Rattle.mega_two_driver_laws.specs.Runs.{run, gives_up, was}
 
 -- it never asks a commit from here on
@@ -36,7 +36,7 @@ stands count Undecided = refl
 stands count Made = finishes count true 0
 stands count Dropped = finishes count false 0
 
-decides : (count : ℕ) (told : RequestResult) → is_past (decided count false told) ≡ true
+decides : (count : ℕ) (told : RequestResult) → is_past (moved count (Decides false) told) ≡ true
 decides count Done = finishes count false 0
 decides count Turned = refl
 decides count Again = refl
@@ -47,7 +47,7 @@ decides count (StateIs state) = refl
 decides count Held = refl
 decides count Free = refl
 
-looks : (count : ℕ) (told : RequestResult) → is_past (looked count false (Looks false) told) ≡ true
+looks : (count : ℕ) (told : RequestResult) → is_past (moved count (Looks false) told) ≡ true
 looks count Done = refl
 looks count Turned = refl
 looks count Again = refl
@@ -58,7 +58,7 @@ looks count (StateIs state) = stands count state
 looks count Held = refl
 looks count Free = refl
 
-finished_past : (count : ℕ) (made : Bool) (i : ℕ) (told : RequestResult) → is_past (finished count made i told) ≡ true
+finished_past : (count : ℕ) (made : Bool) (i : ℕ) (told : RequestResult) → is_past (moved count (Finishes made i) told) ≡ true
 finished_past count made i Done = finishes count made (i + 1)
 finished_past count made i Turned = refl
 finished_past count made i Again = refl
@@ -69,7 +69,7 @@ finished_past count made i (StateIs state) = refl
 finished_past count made i Held = refl
 finished_past count made i Free = refl
 
-checked_past : (count : ℕ) (made : Bool) (i : ℕ) (told : RequestResult) → is_past (checked count made i told) ≡ true
+checked_past : (count : ℕ) (made : Bool) (i : ℕ) (told : RequestResult) → is_past (moved count (Checks made i) told) ≡ true
 checked_past count made i Done = refl
 checked_past count made i Turned = refl
 checked_past count made i Again = refl
@@ -92,7 +92,7 @@ stays_past count (Checks made i) told is = checked_past count made i told
 stays_past count Recovers told is = absurd (cc)
 stays_past count (Over ending) told is = refl
 
-unprepared : (count i : ℕ) (told : RequestResult) → gives_up (Prepares i) told ≡ true → is_past (prepared count i told) ≡ true
+unprepared : (count i : ℕ) (told : RequestResult) → gives_up (Prepares i) told ≡ true → is_past (moved count (Prepares i) told) ≡ true
 unprepared count i Done is = absurd (cc)
 unprepared count i Turned is = refl
 unprepared count i Again is = absurd (cc)

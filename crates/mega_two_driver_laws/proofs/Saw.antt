@@ -1,7 +1,6 @@
 -- What a change has seen, where it is.
-use Rattle.std.proofs.Common.{◌≡◌, ℕ, ◌+◌, ◌==◌, ◌&&◌, ◌||◌, Bool, true, false, nat_lt, if◌then◌else◌, List, [], ◌∷◌, refl, ap, ◌∙◌, sym, subst, arith}
+use Rattle.std.proofs.Common.{◌≡◌, ℕ, ◌+◌, ◌==◌, ◌||◌, Bool, true, false, nat_lt, if◌then◌else◌, List, [], ◌∷◌, refl, ap, ◌∙◌, sym, subst, arith}
 use Rattle.std.proofs.lemmas.Bool.Decides.{nat_tests}
-use Rattle.std.proofs.lemmas.Bool.{or_right}
 use Rattle.mega_two_driver.specs.of_moves.declared.phase.Ended.{Ended}
 use Rattle.mega_two_driver.specs.of_moves.declared.phase.Ended.TheVariants.{Committed, Aborted, Used, Open}
 use Rattle.mega_two_driver.specs.of_moves.declared.phase.Phase.{Phase}
@@ -10,8 +9,8 @@ use Rattle.mega_two_driver.specs.of_moves.declared.request_result.State.{State}
 use Rattle.mega_two_driver.specs.of_moves.declared.request_result.State.TheVariants.{Undecided, Made, Dropped}
 use Rattle.mega_two_driver.specs.of_moves.declared.request_result.RequestResult.{RequestResult}
 use Rattle.mega_two_driver.specs.of_moves.declared.request_result.RequestResult.TheVariants.{Done, Turned, Again, Lost, Refused, NoPlan, StateIs, Held, Free}
-use Rattle.mega_two_driver.specs.Moves.{preparing, ending_of, finishing, by_state, planned, prepared, decided, looked, finished, checked, moved}
-use Rattle.mega_two_driver_laws.specs.Runs.{run, is_done, is_free, is_made, stands_made, shows_made, closes, was}
+use Rattle.mega_two_driver.specs.Moves.{preparing, ending_of, finishing, by_state, moved}
+use Rattle.mega_two_driver_laws.specs.Runs.{run, shows_made, closes, was}
 
 -- the parts before number i are closed
 abbrev AllClosed : (ℕ → Bool) → ℕ → Type 0
@@ -64,30 +63,22 @@ prepares count made closed i = by (nat_lt i count)
     by false = tt
 
 -- a part more is closed
-one_more : (closed : ℕ → Bool) (i : ℕ) → AllClosed closed i → AllClosed (λ part. ((i == part) && true) || closed part) (i + 1)
+one_more : (closed : ℕ → Bool) (i : ℕ) → AllClosed closed i → AllClosed (λ part. (i == part) || closed part) (i + 1)
 one_more closed i all part before = by (i == part) refl
   where
     lower : (i part : ℕ) → nat_lt part (i + 1) ≡ true → (i == part) ≡ false → nat_lt part i ≡ true
     lower i part before other = grind (arith, nat_tests)
 
-    by : (b : Bool) → (i == part) ≡ b → ((b && true) || closed part) ≡ true
+    by : (b : Bool) → (i == part) ≡ b → (b || closed part) ≡ true
     by true same = refl
     by false other = all part (lower i part before other)
-
-still : (closed : ℕ → Bool) (shows : ℕ → Bool) (i : ℕ) → AllClosed closed i → AllClosed (λ part. shows part || closed part) i
-still closed shows i all part before = or_right (shows part) (closed part) (all part before)
 
 -- ---- one reply more, at each place
 
 abbrev Next : ℕ → Bool → (ℕ → Bool) → Phase → RequestResult → Phase → Type 0
 Next count made closed phase told after = Saw count (shows_made phase told || made) (λ part. closes part phase told || closed part) after
 
-stands : (count : ℕ) (made truth : Bool) (closed : ℕ → Bool) (state : State) → Saw count (is_made state || made) closed (by_state count truth state)
-stands count made truth closed Undecided = tt
-stands count made truth closed Made = finishing_true count true closed 0 refl (none_before closed)
-stands count made truth closed Dropped = finishing_false count (false || made) closed 0
-
-plans : (count : ℕ) (made : Bool) (closed : ℕ → Bool) (told : RequestResult) → Next count made closed Begins told (planned count told)
+plans : (count : ℕ) (made : Bool) (closed : ℕ → Bool) (told : RequestResult) → Next count made closed Begins told (moved count Begins told)
 plans count made closed Done = prepares count (false || made) (λ part. false || closed part) 0
 plans count made closed Turned = tt
 plans count made closed Again = tt
@@ -98,7 +89,7 @@ plans count made closed (StateIs state) = tt
 plans count made closed Held = tt
 plans count made closed Free = tt
 
-prepared_saw : (count : ℕ) (made : Bool) (closed : ℕ → Bool) (i : ℕ) (told : RequestResult) → Next count made closed (Prepares i) told (prepared count i told)
+prepared_saw : (count : ℕ) (made : Bool) (closed : ℕ → Bool) (i : ℕ) (told : RequestResult) → Next count made closed (Prepares i) told (moved count (Prepares i) told)
 prepared_saw count made closed i Done = prepares count (false || made) (λ part. false || closed part) (i + 1)
 prepared_saw count made closed i Turned = tt
 prepared_saw count made closed i Again = tt
@@ -109,7 +100,7 @@ prepared_saw count made closed i (StateIs state) = tt
 prepared_saw count made closed i Held = tt
 prepared_saw count made closed i Free = tt
 
-commits : (count : ℕ) (made : Bool) (closed : ℕ → Bool) (told : RequestResult) → Next count made closed (Decides true) told (decided count true told)
+commits : (count : ℕ) (made : Bool) (closed : ℕ → Bool) (told : RequestResult) → Next count made closed (Decides true) told (moved count (Decides true) told)
 commits count made closed Done = finishing_true count (true || made) (λ part. false || closed part) 0 refl (none_before (λ part. false || closed part))
 commits count made closed Turned = tt
 commits count made closed Again = tt
@@ -120,7 +111,7 @@ commits count made closed (StateIs state) = tt
 commits count made closed Held = tt
 commits count made closed Free = tt
 
-aborts : (count : ℕ) (made : Bool) (closed : ℕ → Bool) (told : RequestResult) → Next count made closed (Decides false) told (decided count false told)
+aborts : (count : ℕ) (made : Bool) (closed : ℕ → Bool) (told : RequestResult) → Next count made closed (Decides false) told (moved count (Decides false) told)
 aborts count made closed Done = finishing_false count (false || made) (λ part. false || closed part) 0
 aborts count made closed Turned = tt
 aborts count made closed Again = tt
@@ -131,41 +122,45 @@ aborts count made closed (StateIs state) = tt
 aborts count made closed Held = tt
 aborts count made closed Free = tt
 
-looks : (count : ℕ) (made : Bool) (closed : ℕ → Bool) (truth : Bool) (told : RequestResult) → Next count made closed (Looks truth) told (looked count truth (Looks truth) told)
+looks : (count : ℕ) (made : Bool) (closed : ℕ → Bool) (truth : Bool) (told : RequestResult) → Next count made closed (Looks truth) told (moved count (Looks truth) told)
 looks count made closed truth Done = tt
 looks count made closed truth Turned = tt
 looks count made closed truth Again = tt
 looks count made closed truth Lost = tt
 looks count made closed truth Refused = tt
 looks count made closed truth NoPlan = tt
-looks count made closed truth (StateIs state) = stands count made truth (λ part. false || closed part) state
+looks count made closed truth (StateIs Undecided) = tt
+looks count made closed truth (StateIs Made) = finishing_true count (true || made) (λ part. false || closed part) 0 refl (none_before (λ part. false || closed part))
+looks count made closed truth (StateIs Dropped) = finishing_false count (false || made) (λ part. false || closed part) 0
 looks count made closed truth Held = tt
 looks count made closed truth Free = tt
 
-recovers : (count : ℕ) (made : Bool) (closed : ℕ → Bool) (told : RequestResult) → Next count made closed Recovers told (looked count false Recovers told)
+recovers : (count : ℕ) (made : Bool) (closed : ℕ → Bool) (told : RequestResult) → Next count made closed Recovers told (moved count Recovers told)
 recovers count made closed Done = tt
 recovers count made closed Turned = tt
 recovers count made closed Again = tt
 recovers count made closed Lost = tt
 recovers count made closed Refused = tt
 recovers count made closed NoPlan = tt
-recovers count made closed (StateIs state) = stands count made false (λ part. false || closed part) state
+recovers count made closed (StateIs Undecided) = tt
+recovers count made closed (StateIs Made) = finishing_true count (true || made) (λ part. false || closed part) 0 refl (none_before (λ part. false || closed part))
+recovers count made closed (StateIs Dropped) = finishing_false count (false || made) (λ part. false || closed part) 0
 recovers count made closed Held = tt
 recovers count made closed Free = tt
 
-finished_true : (count : ℕ) (made : Bool) (closed : ℕ → Bool) (i : ℕ) (told : RequestResult) → Saw count made closed (Finishes true i) → Next count made closed (Finishes true i) told (finished count true i told)
-finished_true count made closed i Done all = finishing_true count (false || made) (λ part. ((i == part) && true) || closed part) (i + 1) all.0 (one_more closed i all.1)
-finished_true count made closed i Turned all = (all.0, still closed (λ part. (i == part) && false) i all.1)
-finished_true count made closed i Again all = (all.0, still closed (λ part. (i == part) && false) i all.1)
-finished_true count made closed i Lost all = (all.0, still closed (λ part. (i == part) && false) i all.1)
+finished_true : (count : ℕ) (made : Bool) (closed : ℕ → Bool) (i : ℕ) (told : RequestResult) → Saw count made closed (Finishes true i) → Next count made closed (Finishes true i) told (moved count (Finishes true i) told)
+finished_true count made closed i Done all = finishing_true count (false || made) (λ part. (i == part) || closed part) (i + 1) all.0 (one_more closed i all.1)
+finished_true count made closed i Turned all = all
+finished_true count made closed i Again all = all
+finished_true count made closed i Lost all = all
 finished_true count made closed i Refused all = tt
-finished_true count made closed i NoPlan all = (all.0, still closed (λ part. (i == part) && false) i all.1)
-finished_true count made closed i (StateIs state) all = (all.0, still closed (λ part. (i == part) && false) i all.1)
-finished_true count made closed i Held all = (all.0, still closed (λ part. (i == part) && false) i all.1)
-finished_true count made closed i Free all = (all.0, still closed (λ part. (i == part) && false) i all.1)
+finished_true count made closed i NoPlan all = all
+finished_true count made closed i (StateIs state) all = all
+finished_true count made closed i Held all = all
+finished_true count made closed i Free all = all
 
-finished_false : (count : ℕ) (made : Bool) (closed : ℕ → Bool) (i : ℕ) (told : RequestResult) → Next count made closed (Finishes false i) told (finished count false i told)
-finished_false count made closed i Done = finishing_false count (false || made) (λ part. ((i == part) && true) || closed part) (i + 1)
+finished_false : (count : ℕ) (made : Bool) (closed : ℕ → Bool) (i : ℕ) (told : RequestResult) → Next count made closed (Finishes false i) told (moved count (Finishes false i) told)
+finished_false count made closed i Done = finishing_false count (false || made) (λ part. (i == part) || closed part) (i + 1)
 finished_false count made closed i Turned = tt
 finished_false count made closed i Again = tt
 finished_false count made closed i Lost = tt
@@ -175,18 +170,18 @@ finished_false count made closed i (StateIs state) = tt
 finished_false count made closed i Held = tt
 finished_false count made closed i Free = tt
 
-checked_true : (count : ℕ) (made : Bool) (closed : ℕ → Bool) (i : ℕ) (told : RequestResult) → Saw count made closed (Checks true i) → Next count made closed (Checks true i) told (checked count true i told)
-checked_true count made closed i Done all = (all.0, still closed (λ part. (i == part) && false) i all.1)
-checked_true count made closed i Turned all = (all.0, still closed (λ part. (i == part) && false) i all.1)
-checked_true count made closed i Again all = (all.0, still closed (λ part. (i == part) && false) i all.1)
-checked_true count made closed i Lost all = (all.0, still closed (λ part. (i == part) && false) i all.1)
+checked_true : (count : ℕ) (made : Bool) (closed : ℕ → Bool) (i : ℕ) (told : RequestResult) → Saw count made closed (Checks true i) → Next count made closed (Checks true i) told (moved count (Checks true i) told)
+checked_true count made closed i Done all = all
+checked_true count made closed i Turned all = all
+checked_true count made closed i Again all = all
+checked_true count made closed i Lost all = all
 checked_true count made closed i Refused all = tt
-checked_true count made closed i NoPlan all = (all.0, still closed (λ part. (i == part) && false) i all.1)
-checked_true count made closed i (StateIs state) all = (all.0, still closed (λ part. (i == part) && false) i all.1)
-checked_true count made closed i Held all = (all.0, still closed (λ part. (i == part) && false) i all.1)
-checked_true count made closed i Free all = finishing_true count (false || made) (λ part. ((i == part) && true) || closed part) (i + 1) all.0 (one_more closed i all.1)
+checked_true count made closed i NoPlan all = all
+checked_true count made closed i (StateIs state) all = all
+checked_true count made closed i Held all = all
+checked_true count made closed i Free all = finishing_true count (false || made) (λ part. (i == part) || closed part) (i + 1) all.0 (one_more closed i all.1)
 
-checked_false : (count : ℕ) (made : Bool) (closed : ℕ → Bool) (i : ℕ) (told : RequestResult) → Next count made closed (Checks false i) told (checked count false i told)
+checked_false : (count : ℕ) (made : Bool) (closed : ℕ → Bool) (i : ℕ) (told : RequestResult) → Next count made closed (Checks false i) told (moved count (Checks false i) told)
 checked_false count made closed i Done = tt
 checked_false count made closed i Turned = tt
 checked_false count made closed i Again = tt
@@ -195,7 +190,7 @@ checked_false count made closed i Refused = tt
 checked_false count made closed i NoPlan = tt
 checked_false count made closed i (StateIs state) = tt
 checked_false count made closed i Held = tt
-checked_false count made closed i Free = finishing_false count (false || made) (λ part. ((i == part) && true) || closed part) (i + 1)
+checked_false count made closed i Free = finishing_false count (false || made) (λ part. (i == part) || closed part) (i + 1)
 
 stays_over : (count : ℕ) (made : Bool) (closed : ℕ → Bool) (ending : Ended) → Saw count made closed (Over ending) → Saw count (false || made) (λ part. false || closed part) (Over ending)
 stays_over count made closed Committed saw = saw

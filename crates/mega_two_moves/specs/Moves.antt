@@ -7,7 +7,7 @@ use Rattle.mega_two_moves.specs.declared.phase.Phase.TheVariants.{Begins, Prepar
 use Rattle.mega_two_moves.specs.declared.request_result.State.{State}
 use Rattle.mega_two_moves.specs.declared.request_result.State.TheVariants.{Undecided, Made, Dropped}
 use Rattle.mega_two_moves.specs.declared.request_result.RequestResult.{RequestResult}
-use Rattle.mega_two_moves.specs.declared.request_result.RequestResult.TheVariants.{Done, Turned, Again, Lost, Refused, NoPlan, StateIs, Held, Free}
+use Rattle.mega_two_moves.specs.declared.request_result.RequestResult.TheVariants.{Done, Turned, Lost, Refused, NoPlan, StateIs, Held, Free}
 
 -- the parts from i on are prepared, and then the change is made
 abbrev pub preparing : ℕ → ℕ → Phase
@@ -27,97 +27,33 @@ by_state count made Undecided = Decides made
 by_state count made Made = finishing count true 0
 by_state count made Dropped = finishing count false 0
 
--- behind the plan: a name that was used before ends it
-abbrev pub planned : ℕ → RequestResult → Phase
-planned count Done = preparing count 0
-planned count Turned = Over Used
-planned count Again = Begins
-planned count Lost = Over Open
-planned count Refused = Over Open
-planned count NoPlan = Begins
-planned count (StateIs state) = Begins
-planned count Held = Begins
-planned count Free = Begins
-
--- behind a prepare: only where each was done is the change made
-abbrev pub prepared : ℕ → ℕ → RequestResult → Phase
-prepared count i Done = preparing count (i + 1)
-prepared count i Turned = Decides false
-prepared count i Again = Prepares i
-prepared count i Lost = Decides false
-prepared count i Refused = Over Open
-prepared count i NoPlan = Prepares i
-prepared count i (StateIs state) = Prepares i
-prepared count i Held = Prepares i
-prepared count i Free = Prepares i
-
--- behind a commit or an abort: where another may have decided, it looks
-abbrev pub decided : ℕ → Bool → RequestResult → Phase
-decided count made Done = finishing count made 0
-decided count made Turned = Looks made
-decided count made Again = Decides made
-decided count made Lost = Looks made
-decided count made Refused = Over Open
-decided count made NoPlan = Decides made
-decided count made (StateIs state) = Decides made
-decided count made Held = Decides made
-decided count made Free = Decides made
-
--- behind a look at the plan
-abbrev pub looked : ℕ → Bool → Phase → RequestResult → Phase
-looked count made same Done = same
-looked count made same Turned = same
-looked count made same Again = same
-looked count made same Lost = same
-looked count made same Refused = Over Open
-looked count made same NoPlan = Over Open
-looked count made same (StateIs state) = by_state count made state
-looked count made same Held = same
-looked count made same Free = same
-
--- behind a finish: where another may have finished the part, it looks
-abbrev pub finished : ℕ → Bool → ℕ → RequestResult → Phase
-finished count made i Done = finishing count made (i + 1)
-finished count made i Turned = Checks made i
-finished count made i Again = Finishes made i
-finished count made i Lost = Checks made i
-finished count made i Refused = Over Open
-finished count made i NoPlan = Finishes made i
-finished count made i (StateIs state) = Finishes made i
-finished count made i Held = Finishes made i
-finished count made i Free = Finishes made i
-
--- behind a look at a part's lock
-abbrev pub checked : ℕ → Bool → ℕ → RequestResult → Phase
-checked count made i Done = Checks made i
-checked count made i Turned = Checks made i
-checked count made i Again = Checks made i
-checked count made i Lost = Checks made i
-checked count made i Refused = Over Open
-checked count made i NoPlan = Checks made i
-checked count made i (StateIs state) = Checks made i
-checked count made i Held = Finishes made i
-checked count made i Free = finishing count made (i + 1)
-
+-- what a change comes to by what it is told: what is told besides leaves it where it is
 abbrev pub moved : ℕ → Phase → RequestResult → Phase
-moved count Begins told = planned count told
-moved count (Prepares i) told = prepared count i told
-moved count (Decides made) told = decided count made told
-moved count (Looks made) told = looked count made (Looks made) told
-moved count (Finishes made i) told = finished count made i told
-moved count (Checks made i) told = checked count made i told
-moved count Recovers told = looked count false Recovers told
+moved count Begins Done = preparing count 0
+moved count Begins Turned = Over Used
+moved count Begins Lost = Over Open
+moved count (Prepares i) Done = preparing count (i + 1)
+moved count (Prepares i) Turned = Decides false
+moved count (Prepares i) Lost = Decides false
+moved count (Decides made) Done = finishing count made 0
+moved count (Decides made) Turned = Looks made
+moved count (Decides made) Lost = Looks made
+moved count (Looks made) NoPlan = Over Open
+moved count (Looks made) (StateIs state) = by_state count made state
+moved count (Finishes made i) Done = finishing count made (i + 1)
+moved count (Finishes made i) Turned = Checks made i
+moved count (Finishes made i) Lost = Checks made i
+moved count (Checks made i) Held = Finishes made i
+moved count (Checks made i) Free = finishing count made (i + 1)
+moved count Recovers NoPlan = Over Open
+moved count Recovers (StateIs state) = by_state count false state
 moved count (Over ending) told = Over ending
+moved count phase Refused = Over Open
+moved count phase told = phase
 
 abbrev pub ended_in : Phase → Option Ended
 ended_in (Over ending) = Some ending
-ended_in Begins = None
-ended_in (Prepares i) = None
-ended_in (Decides made) = None
-ended_in (Looks made) = None
-ended_in (Finishes made i) = None
-ended_in (Checks made i) = None
-ended_in Recovers = None
+ended_in _ = None
 
 -- its part is one of the change
 abbrev pub is_within : ℕ → Phase → Bool

@@ -1,6 +1,7 @@
 //! How a change goes on by what it is told.
 ghost use Rattle.std.specs.Prelude.{◌≡◌, ◌+◌};
-ghost use Rattle.mega_two_moves.specs.Moves.{by_state, checked, decided, ended_in, ending_of, finished, finishing, looked, moved, planned, prepared, preparing};
+ghost use Rattle.mega_two_moves.specs.Moves.{by_state, ended_in, ending_of, finishing, moved, preparing};
+ghost use Rattle.mega_two_moves.specs.declared.phase.Phase.TheVariants.{Begins, Checks, Decides, Finishes, Looks, Prepares, Recovers};
 
 use crate::phase::{Ended, Phase};
 use crate::request_result::{RequestResult, State};
@@ -73,7 +74,7 @@ pub fn by_state(count: usize, made: bool, state: State) -> Phase
 }
 
 fn planned(count: usize, told: RequestResult) -> Phase
-    ensures { result ≡ planned count told }
+    ensures { result ≡ moved count Begins told }
 {
     match told {
         RequestResult::Done => preparing(count, 0),
@@ -85,7 +86,7 @@ fn planned(count: usize, told: RequestResult) -> Phase
 
 /// Only where each prepare was done is the change made.
 fn prepared(count: usize, part: usize, told: RequestResult) -> Phase
-    ensures { result ≡ prepared count part told }
+    ensures { result ≡ moved count (Prepares part) told }
 {
     match told {
         RequestResult::Done => preparing_behind(count, part),
@@ -96,7 +97,7 @@ fn prepared(count: usize, part: usize, told: RequestResult) -> Phase
 }
 
 fn decided(count: usize, made: bool, told: RequestResult) -> Phase
-    ensures { result ≡ decided count made told }
+    ensures { result ≡ moved count (Decides made) told }
 {
     match told {
         RequestResult::Done => finishing(count, made, 0),
@@ -106,18 +107,28 @@ fn decided(count: usize, made: bool, told: RequestResult) -> Phase
     }
 }
 
-fn looked(count: usize, made: bool, same: Phase, told: RequestResult) -> Phase
-    ensures { result ≡ looked count made same told }
+fn looked(count: usize, made: bool, told: RequestResult) -> Phase
+    ensures { result ≡ moved count (Looks made) told }
 {
     match told {
         RequestResult::StateIs(state) => by_state(count, made, state),
         RequestResult::NoPlan | RequestResult::Refused => Phase::Over(Ended::Open),
-        _ => same,
+        _ => Phase::Looks(made),
+    }
+}
+
+fn recovered(count: usize, told: RequestResult) -> Phase
+    ensures { result ≡ moved count Recovers told }
+{
+    match told {
+        RequestResult::StateIs(state) => by_state(count, false, state),
+        RequestResult::NoPlan | RequestResult::Refused => Phase::Over(Ended::Open),
+        _ => Phase::Recovers,
     }
 }
 
 fn finished(count: usize, made: bool, part: usize, told: RequestResult) -> Phase
-    ensures { result ≡ finished count made part told }
+    ensures { result ≡ moved count (Finishes made part) told }
 {
     match told {
         RequestResult::Done => finishing_behind(count, made, part),
@@ -128,7 +139,7 @@ fn finished(count: usize, made: bool, part: usize, told: RequestResult) -> Phase
 }
 
 fn checked(count: usize, made: bool, part: usize, told: RequestResult) -> Phase
-    ensures { result ≡ checked count made part told }
+    ensures { result ≡ moved count (Checks made part) told }
 {
     match told {
         RequestResult::Free => finishing_behind(count, made, part),
@@ -146,10 +157,10 @@ pub fn moved(count: usize, phase: Phase, told: RequestResult) -> Phase
         Phase::Begins => planned(count, told),
         Phase::Prepares(part) => prepared(count, part, told),
         Phase::Decides(made) => decided(count, made, told),
-        Phase::Looks(made) => looked(count, made, Phase::Looks(made), told),
+        Phase::Looks(made) => looked(count, made, told),
         Phase::Finishes(made, part) => finished(count, made, part, told),
         Phase::Checks(made, part) => checked(count, made, part, told),
-        Phase::Recovers => looked(count, false, Phase::Recovers, told),
+        Phase::Recovers => recovered(count, told),
         Phase::Over(ended) => Phase::Over(ended),
     }
 }

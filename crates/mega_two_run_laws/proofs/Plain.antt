@@ -6,7 +6,7 @@ use Rattle.mega_two_driver.specs.of_moves.declared.request_result.State.{State}
 use Rattle.mega_two_driver.specs.of_moves.declared.request_result.State.TheVariants.{Undecided, Made, Dropped}
 use Rattle.mega_two_driver.specs.of_moves.declared.request_result.RequestResult.{RequestResult}
 use Rattle.mega_two_driver.specs.of_moves.declared.request_result.RequestResult.TheVariants.{Done, Turned, Again, Lost, Refused, NoPlan, StateIs, Held, Free}
-use Rattle.mega_two_driver.specs.Moves.{preparing, ending_of, finishing, by_state, planned, prepared, decided, looked, finished, checked, moved}
+use Rattle.mega_two_driver.specs.Moves.{preparing, ending_of, finishing, by_state, moved}
 use Rattle.mega_two_driver.specs.Driver.{is_recovering}
 
 prepares : (count i : ℕ) → is_recovering (preparing count i) ≡ false
@@ -28,7 +28,7 @@ stands count made Undecided = refl
 stands count made Made = finishes count true 0
 stands count made Dropped = finishes count false 0
 
-plans : (count : ℕ) (told : RequestResult) → is_recovering (planned count told) ≡ false
+plans : (count : ℕ) (told : RequestResult) → is_recovering (moved count Begins told) ≡ false
 plans count Done = prepares count 0
 plans count Turned = refl
 plans count Again = refl
@@ -39,7 +39,7 @@ plans count (StateIs state) = refl
 plans count Held = refl
 plans count Free = refl
 
-prepared_within : (count i : ℕ) (told : RequestResult) → is_recovering (prepared count i told) ≡ false
+prepared_within : (count i : ℕ) (told : RequestResult) → is_recovering (moved count (Prepares i) told) ≡ false
 prepared_within count i Done = prepares count (i + 1)
 prepared_within count i Turned = refl
 prepared_within count i Again = refl
@@ -50,7 +50,7 @@ prepared_within count i (StateIs state) = refl
 prepared_within count i Held = refl
 prepared_within count i Free = refl
 
-decides : (count : ℕ) (made : Bool) (told : RequestResult) → is_recovering (decided count made told) ≡ false
+decides : (count : ℕ) (made : Bool) (told : RequestResult) → is_recovering (moved count (Decides made) told) ≡ false
 decides count made Done = finishes count made 0
 decides count made Turned = refl
 decides count made Again = refl
@@ -61,18 +61,18 @@ decides count made (StateIs state) = refl
 decides count made Held = refl
 decides count made Free = refl
 
-looks : (count : ℕ) (made : Bool) (same : Phase) (told : RequestResult) → is_recovering same ≡ false → is_recovering (looked count made same told) ≡ false
-looks count made same Done is = is
-looks count made same Turned is = is
-looks count made same Again is = is
-looks count made same Lost is = is
-looks count made same Refused is = refl
-looks count made same NoPlan is = refl
-looks count made same (StateIs state) is = stands count made state
-looks count made same Held is = is
-looks count made same Free is = is
+looks : (count : ℕ) (made : Bool) (told : RequestResult) → is_recovering (moved count (Looks made) told) ≡ false
+looks count made Done = refl
+looks count made Turned = refl
+looks count made Again = refl
+looks count made Lost = refl
+looks count made Refused = refl
+looks count made NoPlan = refl
+looks count made (StateIs state) = stands count made state
+looks count made Held = refl
+looks count made Free = refl
 
-finished_within : (count : ℕ) (made : Bool) (i : ℕ) (told : RequestResult) → is_recovering (finished count made i told) ≡ false
+finished_within : (count : ℕ) (made : Bool) (i : ℕ) (told : RequestResult) → is_recovering (moved count (Finishes made i) told) ≡ false
 finished_within count made i Done = finishes count made (i + 1)
 finished_within count made i Turned = refl
 finished_within count made i Again = refl
@@ -83,7 +83,7 @@ finished_within count made i (StateIs state) = refl
 finished_within count made i Held = refl
 finished_within count made i Free = refl
 
-checked_within : (count : ℕ) (made : Bool) (i : ℕ) (told : RequestResult) → is_recovering (checked count made i told) ≡ false
+checked_within : (count : ℕ) (made : Bool) (i : ℕ) (told : RequestResult) → is_recovering (moved count (Checks made i) told) ≡ false
 checked_within count made i Done = refl
 checked_within count made i Turned = refl
 checked_within count made i Again = refl
@@ -98,8 +98,8 @@ pub stays_plain : (count : ℕ) (phase : Phase) (told : RequestResult) → is_re
 stays_plain count Begins told is = plans count told
 stays_plain count (Prepares i) told is = prepared_within count i told
 stays_plain count (Decides made) told is = decides count made told
-stays_plain count (Looks made) told is = looks count made (Looks made) told refl
+stays_plain count (Looks made) told is = looks count made told
 stays_plain count (Finishes made i) told is = finished_within count made i told
 stays_plain count (Checks made i) told is = checked_within count made i told
-stays_plain count Recovers told is = looks count false Recovers told is
+stays_plain count Recovers told is = absurd (cc)
 stays_plain count (Over ending) told is = refl
