@@ -2,7 +2,6 @@ pub mod Streams
 pub mod Decided
 pub mod Logged
 pub mod NoFloats
-pub mod Cells
 pub mod Answered
 pub mod Emptied
 pub mod Refused

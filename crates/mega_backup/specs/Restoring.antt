@@ -8,7 +8,7 @@ use Rattle.mega_schema.specs.declared.schema.Schema.{Schema}
 use Rattle.mega_index.specs.Rows.{Rows, Listed, no_rows, written, list_after}
 use Rattle.mega_outcome.specs.declared.answer.Done.{Done}
 use Rattle.mega_outcome.specs.declared.answer.Turn.{Turn}
-use Rattle.mega_outcome.specs.declared.answer.Turn.TheVariants.{OtherGroup, BadRow, CheckFailed, NoRow, Overflow, TooLarge as LargeTurn, DiskFault, Full, BadRecord, NoMemory as StoreMemory}
+use Rattle.mega_outcome.specs.declared.answer.Turn.TheVariants.{TooLarge as LargeTurn}
 use Rattle.mega_outcome.specs.declared.transaction.Transaction.{Transaction}
 use Rattle.mega_outcome.specs.Outcome.{outcome}
 pub use Rattle.mega_backup_rows.specs.Puts.{put_of, put_at, put_in}
@@ -19,17 +19,8 @@ use Rattle.mega_backup.specs.Lines.{backup_in}
 
 -- the put alone on an empty group is refused as too large
 abbrev pub is_large_turn : Result Done Turn → Bool
-is_large_turn (Ok done) = false
-is_large_turn (Err (OtherGroup i)) = false
-is_large_turn (Err (BadRow i)) = false
-is_large_turn (Err (CheckFailed i)) = false
-is_large_turn (Err (NoRow i)) = false
-is_large_turn (Err (Overflow i)) = false
 is_large_turn (Err (LargeTurn bytes)) = true
-is_large_turn (Err DiskFault) = false
-is_large_turn (Err (Full n)) = false
-is_large_turn (Err (BadRecord n)) = false
-is_large_turn (Err StoreMemory) = false
+is_large_turn _ = false
 
 abbrev pub is_large : Schema → Transaction → Bool
 is_large s txn = is_large_turn (outcome s txn no_rows)

@@ -4,13 +4,15 @@ ghost use Rattle.serde_json.specs.Data.{string};
 ghost use Rattle.serde_json.specs.View.{view};
 ghost use Rattle.serde_json.specs.Written.{compact_text, has_float};
 ghost use Rattle.mega_index.specs.Fits.{numbered};
-ghost use Rattle.mega_backup.specs.Spelling.{group_data, line_of, name_of, put_line, row_data};
+ghost use Rattle.mega_transcript.specs.Rows.{name_of, row_data};
+ghost use Rattle.mega_backup.specs.Spelling.{group_data, line_of, put_line};
 
-use crate::showing::{group_json, name_json, row_json};
+use crate::showing::group_json;
 use mega_base::{Bytes, NoMemory, Row};
 use mega_index::table_at;
 use mega_outcome::{Change, Transaction};
 use mega_schema::Schema;
+use mega_transcript::{name_json, row_json};
 use serde_json::Value as Json;
 use std::alloc::Global;
 
@@ -71,7 +73,7 @@ fn put_row(
     ensures ok { OnOk result (out.new ≡ out.old ++ (front.now ++ compact_text (row_data (numbered schema.now.tables table) row.now))) }
     ensures err { OnErr result (take (length out.old) out.new ≡ out.old) }
 {
-    let row = row_json(alloc, table_at(schema, table), row)?;
+    let row = row_json(alloc, schema, table_at(schema, table), row)?;
     put_json(alloc, front, &row, out)
 }
 

@@ -26,14 +26,10 @@ large_line key = codes "toolarge " ++ (encode_lower key ++ codes "\n")
 
 abbrev pub last_line : Stop → List ℕ
 last_line (Header rule) = header_line rule
-last_line Source = []
-last_line Sink = []
-last_line Device = []
-last_line NoMemory = []
 last_line (Malformed line) = malformed_line line
 last_line (Short has) = short_line has.0
 last_line (TooLarge key) = large_line key
-last_line BadRecord = []
+last_line _ = []
 
 abbrev pub status_of : Stop → ℕ
 status_of (Header rule) = 3

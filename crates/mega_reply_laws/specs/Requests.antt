@@ -47,15 +47,11 @@ asked_by me wish (OfClient client) (Ok m) = if m.from == 0 && m.to == me then as
 -- an operation begins for the request before it, and its answer ends it
 abbrev pub begun_as : OpId → RequestState → RequestState
 begun_as op Heard = Opened op
-begun_as op (Refused words) = Refused words
-begun_as op (Opened other) = Opened other
-begun_as op (Ended other answer) = Ended other answer
+begun_as op came = came
 
 abbrev pub ended_as : OpId → Answer → RequestState → RequestState
-ended_as op answer Heard = Heard
-ended_as op answer (Refused words) = Refused words
 ended_as op answer (Opened other) = if same_op other op then Ended other answer else Opened other
-ended_as op answer (Ended other given) = Ended other given
+ended_as op answer came = came
 
 abbrev pub comes_to : (RequestState → RequestState) → Asked → Asked
 comes_to next one = record { client = one.client; token = one.token; came = next one.came }
@@ -76,20 +72,17 @@ requests me wish lines = fold (behind_line me wish) [] lines
 
 -- the reply that a request gets: one where it was refused or its operation was answered, and else none
 abbrev pub reply_by : Schema → ℕ → ℕ → ℕ → RequestState → Option Line
-reply_by schema me client token Heard = None
 reply_by schema me client token (Refused words) = Some (reply_line me client token words)
-reply_by schema me client token (Opened op) = None
 reply_by schema me client token (Ended op answer) = Some (reply_line me client token (answer_words schema answer))
+reply_by schema me client token _ = None
 
 abbrev pub reply_to : Schema → ℕ → Asked → Option Line
 reply_to schema me one = reply_by schema me one.client one.token one.came
 
 -- the replies that a record shows: all that went to clients
 abbrev pub is_reply : Line → Bool
-is_reply (Noted item) = false
-is_reply (Got from bytes) = false
-is_reply (Put (OfNode node) bytes) = false
 is_reply (Put (OfClient client) bytes) = true
+is_reply _ = false
 
 abbrev pub replies : List Line → List Line
 replies lines = filter is_reply lines
@@ -106,10 +99,8 @@ IsAsItStands node one = Agrees node one.came
 
 -- the requests whose operations are open, which wait for their answers
 abbrev pub waits_by : ℕ → ℕ → RequestState → Option Waiting
-waits_by client token Heard = None
-waits_by client token (Refused words) = None
 waits_by client token (Opened op) = Some (record { op = op; client = client; token = token })
-waits_by client token (Ended op answer) = None
+waits_by client token _ = None
 
 abbrev pub waits_in : Asked → Option Waiting
 waits_in one = waits_by one.client one.token one.came
@@ -129,19 +120,16 @@ IsFirst line [] = ⊥
 IsFirst line (next ∷ behind) = next ≡ line
 
 abbrev pub TellsBy : ℕ → ℕ → ℕ → RequestState → List Line → Type 0
-TellsBy me client token Heard behind = Unit {0}
 TellsBy me client token (Refused words) behind = IsFirst (reply_line me client token words) behind
-TellsBy me client token (Opened op) behind = Unit {0}
-TellsBy me client token (Ended op answer) behind = Unit {0}
+TellsBy me client token _ behind = Unit {0}
 
 abbrev pub TellsNext : ℕ → List Line → Asked → Type 0
 TellsNext me behind one = TellsBy me one.client one.token one.came behind
 
 abbrev pub AreToldAtOnce : ℕ → (List ℕ → Wish) → List Line → Type 0
 AreToldAtOnce me wish [] = Unit {0}
-AreToldAtOnce me wish (Noted item ∷ behind) = AreToldAtOnce me wish behind
 AreToldAtOnce me wish (Got from bytes ∷ behind) = All (TellsNext me behind) (asked_by me wish from (whole_of message_at bytes)) × AreToldAtOnce me wish behind
-AreToldAtOnce me wish (Put to bytes ∷ behind) = AreToldAtOnce me wish behind
+AreToldAtOnce me wish (_ ∷ behind) = AreToldAtOnce me wish behind
 
 -- each request got one reply at most: the replies are, in some order, those of the requests that were refused or have ended, since as many of the
 -- ones as of the others pass any test; what came of each request agrees with the node; and refusals stand directly behind what they refuse

@@ -9,4 +9,4 @@ mod words;
 
 pub use item::{Item, Tape};
 pub use lines::text;
-pub use showing::{is_repeated, table_at};
+pub use showing::{is_repeated, name_json, row_json, table_at, values_json};

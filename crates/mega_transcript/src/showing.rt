@@ -10,7 +10,7 @@ ghost use Rattle.mega_schema.specs.declared.schema.Schema.{Schema};
 ghost use Rattle.mega_schema.specs.Lookup.{property_at, is_repeated};
 ghost use Rattle.mega_schema.specs.Shaping.{table_at};
 ghost use Rattle.mega_keys.specs.Fit.{has_kind};
-ghost use Rattle.mega_transcript.specs.Rows.{value_data, fits_property, cell_data, with_cell, cells_members, name_of, properties_of, row_data, shown_data, found_data, mark_data};
+ghost use Rattle.mega_transcript.specs.Rows.{value_data, values_data, fits_property, cell_data, with_cell, cells_members, name_of, properties_of, row_data, shown_data, found_data, mark_data};
 ghost use Rattle.mega_transcript.specs.NoFloats.{value as no_float_value, shown as no_float_shown, found as no_float_found, mark as no_float_mark, result as no_float_result};
 ghost use Rattle.mega_transcript.specs.Answers.{result_data};
 
@@ -43,6 +43,13 @@ pub(crate) fn list<T: Show>(alloc: Global, schema: &Schema, items: &[T]) -> Resu
         made.push(item.show(alloc, schema)?)?;
     }
     Ok(Json::Array(made))
+}
+
+/// Values as a list.
+pub fn values_json(alloc: Global, schema: &Schema, values: &[Value]) -> Result<Json, NoMemory>
+    ensures { IfOk result (λ made. view made ≡ values_data values.now) }
+{
+    list(alloc, schema, values)
 }
 
 /// Appends a space and a value as compact JSON. A refusal may leave a part of it in `out`.
@@ -202,7 +209,7 @@ fn cells_value(
 }
 
 /// A row of a table: none of its cells fits where there is no such table.
-fn row_value(
+pub fn row_json(
     alloc: Global,
     schema: &Schema,
     table: Option<&Table>,
@@ -224,7 +231,7 @@ fn row_value(
 }
 
 /// The name of a table, or none where there is no such table.
-fn name_value(alloc: Global, table: Option<&Table>) -> Result<Json, NoMemory>
+pub fn name_json(alloc: Global, table: Option<&Table>) -> Result<Json, NoMemory>
     ensures { IfOk result (λ made. view made ≡ string (name_of (option_copied table.entry))) }
 {
     match table {
@@ -243,8 +250,8 @@ impl Show for Option<Shown> {
             return Ok(Json::Null);
         };
         let table = table_at(schema, shown.table);
-        let name = name_value(alloc, table)?;
-        let row = row_value(alloc, schema, table, &shown.row)?;
+        let name = name_json(alloc, table)?;
+        let row = row_json(alloc, schema, table, &shown.row)?;
         pair(alloc, name, row)
     }
 }
@@ -256,9 +263,9 @@ impl Show for Found {
 
     fn show(&self, alloc: Global, schema: &Schema) -> Result<Json, NoMemory> {
         let table = table_at(schema, self.table);
-        let name = name_value(alloc, table)?;
+        let name = name_json(alloc, table)?;
         let key = list(alloc, schema, self.key.as_slice())?;
-        let stored = row_value(alloc, schema, table, &self.stored)?;
+        let stored = row_json(alloc, schema, table, &self.stored)?;
         triple(alloc, name, key, stored)
     }
 }

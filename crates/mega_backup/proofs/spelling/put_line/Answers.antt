@@ -3,7 +3,8 @@ use Rattle.std.proofs.lemmas.Result.{IfOk-weaker}
 use Rattle.serde_json.specs.Data.{string}
 use Rattle.serde_json.specs.Written.{compact_text}
 use Rattle.mega_index.specs.Fits.{numbered}
-use Rattle.mega_backup.specs.Spelling.{group_data, name_of, row_data}
+use Rattle.mega_transcript.specs.Rows.{name_of, row_data}
+use Rattle.mega_backup.specs.Spelling.{group_data}
 use Rattle.mega_backup.proofs.Joined.{joined}
 use Rattle.mega_backup.proofs.spelling.put_line.Goals as goal
 
