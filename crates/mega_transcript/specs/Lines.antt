@@ -1,12 +1,11 @@
 -- The line of an item: its first word, the words that follow, and a line feed.
-use Rattle.std.specs.Prelude.{ℕ, List, [], ◌∷◌, ◌++◌, codes, decimal}
+use Rattle.std.specs.Prelude.{ℕ, ◌-◌, List, [], ◌∷◌, ◌++◌, codes, decimal, get_or}
 use Rattle.std.specs.List.{flat_map}
 use Rattle.hex.specs.Hex.{encode_lower}
 use Rattle.mega_entry.specs.Entries.{entry_text, IsEntry}
-use Rattle.mega_wire.specs.Messages.{message_text, IsMessage}
+use Rattle.mega_wire.specs.Messages.{kind_of, message_text, IsMessage}
 use Rattle.mega_wire.specs.declared.message.Message.{Message}
 use Rattle.mega_wire.specs.declared.message.Body.{Body}
-use Rattle.mega_wire.specs.declared.message.Body.TheVariants as bodies
 use Rattle.mega_schema.specs.declared.schema.Schema.{Schema}
 use Rattle.mega_transcript.specs.declared.item.Item.{Item}
 use Rattle.mega_transcript.specs.declared.item.Item.TheVariants.{Start, Unsent, Tick, Begin, Taken, Dropped, Sent, Grant, Lapse, Counts, Forgets, Serving, Lost, Valid, Invalid, Decide, Apply, Answer, Crash, Cut, Unsafe}
@@ -14,28 +13,15 @@ use Rattle.mega_transcript.specs.Words.{spaced, node_word, position_word, epoch_
 use Rattle.mega_transcript.specs.Answers.{answer_words}
 
 -- the name of the kind of a message
+abbrev pub kind_names : List (List ℕ)
+kind_names =
+    codes "where" ∷ codes "top" ∷ codes "accept" ∷ codes "accepted" ∷ codes "refused" ∷ codes "prepare" ∷ codes "promise" ∷ codes "invalidate" ∷ codes "invalidated"
+    ∷ codes "dead" ∷ codes "held" ∷ codes "unheld" ∷ codes "decide" ∷ codes "fetch" ∷ codes "have" ∷ codes "havenot" ∷ codes "acquire" ∷ codes "granted"
+    ∷ codes "past" ∷ codes "request" ∷ codes "reply" ∷ []
+
+-- the word of a message, by the number of its kind, from 1
 abbrev pub kind_name : Body → List ℕ
-kind_name (bodies.Where op group) = codes "where"
-kind_name (bodies.Top op group position) = codes "top"
-kind_name (bodies.Accept op group position ballot entry) = codes "accept"
-kind_name (bodies.Accepted op group position ballot entry) = codes "accepted"
-kind_name (bodies.Refused op group position asked shown entry) = codes "refused"
-kind_name (bodies.Prepare op group position ballot) = codes "prepare"
-kind_name (bodies.Promise op group position ballot accepted) = codes "promise"
-kind_name (bodies.Invalidate op group position) = codes "invalidate"
-kind_name (bodies.Invalidated op group position) = codes "invalidated"
-kind_name (bodies.Dead op cell node) = codes "dead"
-kind_name (bodies.Held op cell node) = codes "held"
-kind_name (bodies.Unheld op cell node) = codes "unheld"
-kind_name (bodies.Decide group position entry) = codes "decide"
-kind_name (bodies.Fetch op group position) = codes "fetch"
-kind_name (bodies.Have op group position entry) = codes "have"
-kind_name (bodies.HaveNot op group position) = codes "havenot"
-kind_name (bodies.Acquire cell epoch clock) = codes "acquire"
-kind_name (bodies.Granted cell epoch clock) = codes "granted"
-kind_name (bodies.Past cell asked greatest) = codes "past"
-kind_name (bodies.Request token json) = codes "request"
-kind_name (bodies.Reply token text) = codes "reply"
+kind_name body = get_or kind_names (kind_of body - 1) []
 
 -- the name of the message's kind, and the message in hex
 abbrev pub message_words : Message → List (List ℕ)

@@ -3,29 +3,17 @@ use Rattle.std.specs.Prelude.{ℕ, ◌==◌, ◌&&◌, ◌||◌, not, Bool, true
 use Rattle.std.specs.List.{list_all, list_any}
 use Rattle.std.specs.Option.{option_to_list}
 use Rattle.mega_base.specs.declared.values.Kind.{Kind}
-use Rattle.mega_base.specs.declared.values.Kind.TheVariants.{Int32, Int64, Bool as Truth, Str, Raw}
+use Rattle.mega_base.specs.declared.values.Kind.TheVariants.{Int32, Bool as Truth, Str, Raw}
 use Rattle.mega_syntax.specs.Names.{same}
-use Rattle.mega_syntax.specs.declared.need.Need.{Need}
-use Rattle.mega_syntax.specs.declared.need.Need.TheVariants.{Required, Optional, Repeated}
+use Rattle.mega_syntax.specs.declared.need.Need.TheVariants.{Required}
 use Rattle.mega_schema.specs.declared.schema.Property.{Property}
 use Rattle.mega_schema.specs.declared.schema.Table.{Table}
 use Rattle.mega_schema.specs.declared.schema.Index.{Index}
 use Rattle.mega_schema.specs.declared.schema.Schema.{Schema}
+pub use Rattle.mega_schema.specs.Lookup.{is_required}
+pub use Rattle.mega_schema.specs.Rules.{same_kind}
 use Rattle.mega_index.specs.Fits.{numbered}
 use Rattle.mega_two_driver.specs.Texts.{lock_table, end_table}
-
-abbrev pub same_kind : Kind → Kind → Bool
-same_kind Int32 Int32 = true
-same_kind Int64 Int64 = true
-same_kind Truth Truth = true
-same_kind Str Str = true
-same_kind Raw Raw = true
-same_kind _ _ = false
-
-abbrev pub is_required : Need → Bool
-is_required Required = true
-is_required Optional = false
-is_required Repeated = false
 
 -- a required property of this name and kind
 abbrev pub is_property : Property → Property → Bool

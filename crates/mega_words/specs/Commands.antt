@@ -1,5 +1,5 @@
 -- The words of the program, and what they ask for.
-use Rattle.std.specs.Prelude.{ℕ, ◌≤◌, nat_eq, if◌then◌else◌, codes, List, [], ◌∷◌, Option, Some, None}
+use Rattle.std.specs.Prelude.{ℕ, ◌≤◌, nat_eq, if◌then◌else◌, codes, List, [], ◌∷◌, Option, Some, None, option_map, option_and_then}
 use Rattle.std.specs.Cmp.Lexicographic.{pointwise}
 use Rattle.mega_base.specs.declared.names.GroupId.{GroupId}
 use Rattle.mega_words.specs.declared.command.Command.{Command}
@@ -10,83 +10,46 @@ use Rattle.mega_words.specs.declared.option.Name.TheVariants.{Seed, Count, Nodes
 use Rattle.mega_words.specs.declared.option.Options.{Options}
 use Rattle.mega_words.specs.Options.{none_yet, read_on}
 
--- the options of `gen`, of `node`, of `backup`, of `restore` and of `two`
-abbrev pub gen_names : List Name
-gen_names = Seed ∷ Count ∷ Nodes ∷ []
-
-abbrev pub node_names : List Name
-node_names = Number ∷ Turns ∷ []
-
-abbrev pub backup_names : List Name
-backup_names = Number ∷ Group ∷ At ∷ []
-
-abbrev pub restore_names : List Name
-restore_names = At ∷ []
-
-abbrev pub two_names : List Name
-two_names = OfNode ∷ Turns ∷ Recover ∷ []
+-- what is asked for with these options, each of which comes once at most, in any order
+abbrev pub with_options : List Name → (Options → Option Command) → List (List ℕ) → Option Command
+with_options names asked words = option_and_then asked (read_on names None none_yet words)
 
 -- all options of `gen` came
 abbrev pub drawn_with : Option ℕ → Option ℕ → Option ℕ → Option Command
 drawn_with (Some seed) (Some count) (Some nodes) = Some (Gen seed count nodes)
 drawn_with _ _ _ = None
 
-abbrev pub gen_with : Option Options → Option Command
-gen_with None = None
-gen_with (Some found) = drawn_with found.seed found.count found.nodes
-
 -- all options of `node` came
 abbrev pub turned_with : Option ℕ → Option ℕ → Option Command
 turned_with (Some number) (Some turns) = Some (Node number turns)
 turned_with _ _ = None
-
-abbrev pub node_with : Option Options → Option Command
-node_with None = None
-node_with (Some found) = turned_with found.number found.turns
 
 -- all options of `backup` came
 abbrev pub saved_with : Option ℕ → Option GroupId → Option ℕ → Option Command
 saved_with (Some number) (Some group) (Some at) = Some (Backup number group at)
 saved_with _ _ _ = None
 
-abbrev pub backup_with : Option Options → Option Command
-backup_with None = None
-backup_with (Some found) = saved_with found.number found.group found.at
-
--- the option of `restore` came
-abbrev pub restored_with : Option ℕ → Option Command
-restored_with (Some at) = Some (Restore at)
-restored_with None = None
-
-abbrev pub restore_with : Option Options → Option Command
-restore_with None = None
-restore_with (Some found) = restored_with found.at
-
 -- both options of `two` came; a change may be named besides
 abbrev pub driven_with : Option ℕ → Option ℕ → Option (List ℕ) → Option Command
 driven_with (Some node) (Some turns) recover = Some (Two node turns recover)
 driven_with _ _ _ = None
 
-abbrev pub two_with : Option Options → Option Command
-two_with None = None
-two_with (Some found) = driven_with found.node found.turns found.recover
-
 -- behind `replay` stands nothing, or `--summary` once
 abbrev pub replay_with : List (List ℕ) → Option Command
 replay_with [] = Some (Replay Transcript)
 replay_with (word ∷ []) = if pointwise nat_eq word (codes "--summary") then Some (Replay Summary) else None
-replay_with (word ∷ other ∷ words) = None
+replay_with _ = None
 
 -- the words are a form of this command: the command, and then each of its options once, in any order
 abbrev pub command_of : List (List ℕ) → Option Command
 command_of [] = None
 command_of (word ∷ words) =
     if pointwise nat_eq word (codes "replay") then replay_with words
-    else if pointwise nat_eq word (codes "gen") then gen_with (read_on gen_names None none_yet words)
-    else if pointwise nat_eq word (codes "node") then node_with (read_on node_names None none_yet words)
-    else if pointwise nat_eq word (codes "backup") then backup_with (read_on backup_names None none_yet words)
-    else if pointwise nat_eq word (codes "restore") then restore_with (read_on restore_names None none_yet words)
-    else if pointwise nat_eq word (codes "two") then two_with (read_on two_names None none_yet words)
+    else if pointwise nat_eq word (codes "gen") then with_options (Seed ∷ Count ∷ Nodes ∷ []) (λ found. drawn_with found.seed found.count found.nodes) words
+    else if pointwise nat_eq word (codes "node") then with_options (Number ∷ Turns ∷ []) (λ found. turned_with found.number found.turns) words
+    else if pointwise nat_eq word (codes "backup") then with_options (Number ∷ Group ∷ At ∷ []) (λ found. saved_with found.number found.group found.at) words
+    else if pointwise nat_eq word (codes "restore") then with_options (At ∷ []) (λ found. option_map Restore found.at) words
+    else if pointwise nat_eq word (codes "two") then with_options (OfNode ∷ Turns ∷ Recover ∷ []) (λ found. driven_with found.node found.turns found.recover) words
     else None
 
 -- a cluster may have as many nodes as are asked for, and a node of that number; a log may have the position

@@ -1,7 +1,6 @@
 -- The options of commands, as words.
 use Rattle.std.specs.Prelude.{ℕ, ◌≤◌, IfSome, ◌==◌, ◌||◌, Bool, true, false, nat_eq, if◌then◌else◌, codes, List, [], ◌∷◌, Option, Some, None, is_some, option_map, option_and_then}
 use Rattle.std.specs.Cmp.Lexicographic.{pointwise}
-use Rattle.mega_base.specs.declared.names.GroupId.{GroupId}
 use Rattle.mega_words.specs.declared.option.Name.{Name}
 use Rattle.mega_words.specs.declared.option.Name.TheVariants.{Seed, Count, Nodes, Number, Turns, Group, At, Node, Recover}
 use Rattle.mega_words.specs.declared.option.Options.{Options}
@@ -52,25 +51,10 @@ abbrev pub name_of : List Name → List ℕ → Option Name
 name_of [] word = None
 name_of (name ∷ names) word = if is_named (text_of name) word then Some name else name_of names word
 
-abbrev pub first_time : Option ℕ → Option ℕ → Option ℕ
-first_time (Some before) number = None
-first_time None number = number
-
--- the options with a group that comes for the first time
-abbrev pub with_first : Options → Option GroupId → Option GroupId → Option Options
-with_first found (Some before) group = None
-with_first found None group = option_map (λ group. record found { group = Some group }) group
-
-abbrev pub with_group : Options → List ℕ → Option Options
-with_group found value = with_first found found.group (group_in value)
-
--- the options with the name of a change that comes for the first time
-abbrev pub with_named : Options → Option (List ℕ) → Option (List ℕ) → Option Options
-with_named found (Some before) change = None
-with_named found None change = option_map (λ change. record found { recover = Some change }) change
-
-abbrev pub with_change : Options → List ℕ → Option Options
-with_change found value = with_named found found.recover (change_in value)
+-- what comes for the first time
+abbrev pub first_time : {A : Type 0} → Option A → Option A → Option A
+first_time (Some before) found = None
+first_time None found = found
 
 -- the option is that of a group or of a change, whose name is kept
 abbrev pub wants : Name → Bool
@@ -91,8 +75,8 @@ with_value found Count value = option_map (λ count. record found { count = Some
 with_value found Nodes value = option_map (λ nodes. record found { nodes = Some nodes }) (first_time found.nodes (number_in 1 9 value))
 with_value found Number value = option_map (λ number. record found { number = Some number }) (first_time found.number (number_in 1 9 value))
 with_value found Turns value = option_map (λ turns. record found { turns = Some turns }) (first_time found.turns (number_in 0 1000000000 value))
-with_value found Group value = with_group found value
-with_value found Recover value = with_change found value
+with_value found Group value = option_map (λ group. record found { group = Some group }) (first_time found.group (group_in value))
+with_value found Recover value = option_map (λ change. record found { recover = Some change }) (first_time found.recover (change_in value))
 with_value found Node value = option_map (λ node. record found { node = Some node }) (first_time found.node (number_in 1 9 value))
 with_value found At value = option_map (λ at. record found { at = Some at }) (first_time found.at (number_in 0 1000000 value))
 

@@ -1,7 +1,8 @@
 //! Which command the words of the program are.
-ghost use Rattle.std.specs.Prelude.{◌≡◌, IfOk, IfSome, OnErr, nat_eq};
+ghost use Rattle.std.specs.Prelude.{◌≡◌, IfOk, IfSome, OnErr, nat_eq, option_and_then, option_map};
 ghost use Rattle.std.specs.Cmp.Lexicographic.{pointwise};
-ghost use Rattle.mega_words.specs.Commands.{FitsWords, MayWant, backup_with, command_of, gen_with, node_with, replay_with, restore_with, two_with};
+ghost use Rattle.mega_words.specs.declared.command.Command.TheVariants.{Restore};
+ghost use Rattle.mega_words.specs.Commands.{FitsWords, MayWant, command_of, driven_with, drawn_with, replay_with, saved_with, turned_with};
 ghost use Rattle.mega_words.specs.Options.{FitWords};
 
 use crate::option::{Name, Options, options_of};
@@ -64,7 +65,7 @@ fn is(word: &Text, name: &str) -> bool
 /// The command `gen` with all of its options.
 fn gen_with(found: Option<Options>) -> Option<Command>
     requires { IfSome found FitWords }
-    ensures value { result ≡ gen_with found }
+    ensures value { result ≡ option_and_then (λ found. drawn_with found.seed found.count found.nodes) found }
     ensures range { FitsWords result }
 {
     match found {
@@ -83,7 +84,7 @@ fn gen_with(found: Option<Options>) -> Option<Command>
 /// The command `node` with both of its options.
 fn node_with(found: Option<Options>) -> Option<Command>
     requires { IfSome found FitWords }
-    ensures value { result ≡ node_with found }
+    ensures value { result ≡ option_and_then (λ found. turned_with found.number found.turns) found }
     ensures range { FitsWords result }
 {
     match found {
@@ -101,7 +102,7 @@ fn node_with(found: Option<Options>) -> Option<Command>
 /// The command `backup` with all of its options.
 fn backup_with(found: Option<Options>) -> Option<Command>
     requires { IfSome found FitWords }
-    ensures value { result ≡ backup_with found }
+    ensures value { result ≡ option_and_then (λ found. saved_with found.number found.group found.at) found }
     ensures range { FitsWords result }
 {
     match found {
@@ -123,7 +124,7 @@ fn backup_with(found: Option<Options>) -> Option<Command>
 /// The command `restore` with its option.
 fn restore_with(found: Option<Options>) -> Option<Command>
     requires { IfSome found FitWords }
-    ensures value { result ≡ restore_with found }
+    ensures value { result ≡ option_and_then (λ found. option_map Restore found.at) found }
     ensures range { FitsWords result }
 {
     match found {
@@ -135,7 +136,7 @@ fn restore_with(found: Option<Options>) -> Option<Command>
 /// The command `two` with both of its options, and maybe with the name of a change.
 fn two_with(found: Option<Options>) -> Option<Command>
     requires { IfSome found FitWords }
-    ensures value { result ≡ two_with found }
+    ensures value { result ≡ option_and_then (λ found. driven_with found.node found.turns found.recover) found }
     ensures range { FitsWords result }
 {
     match found {

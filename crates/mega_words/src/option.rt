@@ -3,7 +3,8 @@ ghost use Rattle.std.specs.Prelude.{◌≡◌, Some, None, IfOk, IfSome, IsOk, f
 ghost use Rattle.std.specs.List.{list_any};
 ghost use Rattle.mega_words.specs.Numbers.{number_in};
 ghost use Rattle.mega_words.specs.Groups.{group_in};
-ghost use Rattle.mega_words.specs.Options.{FitPosition, FitWords, IsOfCluster, behind, first_time, is_named, name_of, none_yet, read_on, text_of, wants, with_change, with_group, with_value};
+ghost use Rattle.mega_words.specs.declared.option.Name.TheVariants.{Group, Recover};
+ghost use Rattle.mega_words.specs.Options.{FitPosition, FitWords, IsOfCluster, behind, first_time, is_named, name_of, none_yet, read_on, text_of, wants, with_value};
 
 use crate::change::change_in;
 use crate::group::group_in;
@@ -160,7 +161,7 @@ fn with_number(found: Options, name: Name, value: &[u8]) -> Option<Options>
 /// The options with a group, where it comes for the first time and its name is one.
 fn with_group(alloc: Global, found: Options, value: &[u8]) -> Result<Option<Options>, NoMemory>
     requires { FitWords found }
-    ensures value { IfOk result (λ more. more ≡ with_group found value.now) }
+    ensures value { IfOk result (λ more. more ≡ with_value found Group value.now) }
     ensures range { IfOk result (λ more. IfSome more FitWords) }
 {
     if found.group.is_some() {
@@ -179,7 +180,7 @@ fn with_group(alloc: Global, found: Options, value: &[u8]) -> Result<Option<Opti
 /// The options with the name of a change, where it comes for the first time and is one.
 fn with_change(alloc: Global, found: Options, value: &[u8]) -> Result<Option<Options>, NoMemory>
     requires { FitWords found }
-    ensures value { IfOk result (λ more. more ≡ with_change found value.now) }
+    ensures value { IfOk result (λ more. more ≡ with_value found Recover value.now) }
     ensures range { IfOk result (λ more. IfSome more FitWords) }
 {
     if found.recover.is_some() {
