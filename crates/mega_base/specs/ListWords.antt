@@ -1,5 +1,5 @@
 -- Words on lists that std has not.
-use Rattle.std.specs.Prelude.{◌≡◌, ◌⊎◌, ℕ, ◌-◌, ◌==◌, Bool, true, false, if◌then◌else◌, List, [], ◌∷◌, Option, Some, None, Result, Ok, Err, slice_get}
+use Rattle.std.specs.Prelude.{◌≡◌, ◌⊎◌, ℕ, zero, suc, ◌+◌, ◌-◌, ◌==◌, Bool, true, false, if◌then◌else◌, List, [], ◌∷◌, Option, Some, None, Result, Ok, Err, slice_get}
 
 -- the items, the oldest first, onto a list that has its newest item first
 abbrev pub onto : {A : Type 0} → List A → List A → List A
@@ -18,6 +18,11 @@ is_empty (item ∷ items) = false
 abbrev pub then_more : {A : Type 0} → Option A → List A → List A
 then_more None more = []
 then_more (Some item) more = item ∷ more
+
+-- what stands at the places from n on, at most so many, up to the first that has none
+abbrev pub entries_from : {A : Type 0} → (ℕ → Option A) → ℕ → ℕ → List A
+entries_from found zero n = []
+entries_from found (suc most) n = then_more (found n) (entries_from found most (n + 1))
 
 -- the items that were given, or none
 abbrev pub items_or_none : {A E : Type 0} → Result (List A) E → List A

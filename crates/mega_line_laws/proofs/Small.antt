@@ -10,7 +10,8 @@ use Rattle.mega_syntax.specs.declared.whole.SchemaText.{SchemaText}
 use Rattle.mega_syntax.specs.Whole.{read_of}
 use Rattle.mega_schema.specs.Declare.{declare, index_of}
 use Rattle.mega_schema.specs.Lookup.{is_root_table}
-use Rattle.mega_schema.specs.Rules.{broken, first_broken, index_broken, index_rule_1, index_rule_5, index_rule_6, index_rule_9, index_rule_10, index_rule_11, index_rule_12}
+use Rattle.mega_schema.specs.Rules.{broken, first_broken, index_broken}
+use Rattle.mega_schema.proofs.RuleNames.{index_rule_1, index_rule_5, index_rule_6, index_rule_9, index_rule_10, index_rule_11, index_rule_12}
 use Rattle.mega_schema.specs.Verdict.{answer_of, empty, judge, parse_of, refused_or}
 use Rattle.mega_index.specs.Fits.{numbered}
 use Rattle.mega_tape_laws.specs.Indexed.{IsDeclared}

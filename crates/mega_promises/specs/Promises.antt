@@ -6,7 +6,7 @@ use Rattle.mega_base.specs.declared.names.GroupId.{GroupId}
 use Rattle.mega_base.specs.declared.names.OpId.{OpId}
 use Rattle.mega_base.specs.declared.names.NodeId.{NodeId}
 use Rattle.mega_base.specs.declared.names.Position.{Position}
-pub use Rattle.mega_base.specs.ListWords.{then_more}
+pub use Rattle.mega_base.specs.ListWords.{entries_from, then_more}
 pub use Rattle.mega_base.specs.ListWords.{Stands}
 use Rattle.mega_cluster.specs.declared.cluster.Cluster.{Cluster}
 use Rattle.mega_schema.specs.declared.schema.Schema.{Schema}
@@ -52,12 +52,12 @@ first_decided (Decide node g position entry ∷ before) group n =
     or_else (first_decided before group n) (if same_group g group && position.0 == n then Some entry else None)
 first_decided (_ ∷ before) group n = first_decided before group n
 
-abbrev pub log_from : List Item → GroupId → ℕ → ℕ → List Content
-log_from tape group zero n = []
-log_from tape group (suc most) n = then_more (first_decided tape group n) (log_from tape group most (n + 1))
-
 abbrev pub log_of : List Item → GroupId → List Content
-log_of tape group = log_from tape group (length tape) 1
+log_of tape group = entries_from (first_decided tape group) (length tape) 1
+
+-- its entries from a position on, as laws name them
+abbrev pub log_from : List Item → GroupId → ℕ → ℕ → List Content
+log_from tape group most n = entries_from (first_decided tape group) most n
 
 -- all decides of one position show one entry
 abbrev pub Agree : List Item → Type 0

@@ -1,5 +1,6 @@
 -- What is stored of the writes of logs: each write of an entry at the entry's position (CIDR 2011, write-ahead log).
 use Rattle.std.specs.Prelude.{◌≡◌, ◌≢◌, ℕ, zero, suc, ◌+◌, ◌-◌, if◌then◌else◌, List, [], ◌∷◌, length, take, Option, Some, None}
+pub use Rattle.mega_base.specs.ListWords.{entries_from, then_more}
 use Rattle.mega_base.specs.declared.values.Row.{Row}
 use Rattle.mega_base.specs.declared.names.GroupId.{GroupId}
 use Rattle.mega_entry.specs.declared.content.Write.{Write}
@@ -10,15 +11,6 @@ use Rattle.mega_replica.specs.Applying.{writes_of}
 use Rattle.mega_wal.specs.declared.item.JournalItem.{JournalItem}
 use Rattle.mega_wal.specs.History.{decided_of, prefix_of}
 use Rattle.mega_wal.specs.Same.{same_group}
-
--- the entries from a position on, at most so many, up to the first position that has none
-abbrev pub then_more : Option Content → List Content → List Content
-then_more None more = []
-then_more (Some entry) more = entry ∷ more
-
-abbrev pub entries_from : (ℕ → Option Content) → ℕ → ℕ → List Content
-entries_from decided zero n = []
-entries_from decided (suc most) n = then_more (decided n) (entries_from decided most (n + 1))
 
 -- the entries of a history's decided prefix, from position 1 on
 abbrev pub log_in : List JournalItem → GroupId → List Content

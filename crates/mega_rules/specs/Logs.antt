@@ -2,7 +2,7 @@
 use Rattle.std.specs.Prelude.{ℕ, zero, suc, ◌+◌, ◌==◌, ◌&&◌, max, Bool, true, false, if◌then◌else◌, List, [], ◌∷◌, length, Option, None}
 use Rattle.std.specs.Ordering.{is_lt}
 use Rattle.mega_base.specs.declared.names.GroupId.{GroupId}
-pub use Rattle.mega_base.specs.ListWords.{then_more}
+pub use Rattle.mega_base.specs.ListWords.{entries_from, then_more}
 use Rattle.mega_base.specs.NameOrder.{group_cmp}
 use Rattle.mega_ballot.specs.declared.ballot.Ballot.{Ballot}
 use Rattle.mega_entry.specs.declared.content.Content.{Content}
@@ -20,14 +20,13 @@ decided (Decides g position entry ∷ before) group n =
     if same_group g group && position == n then first_of (decided before group n) entry else decided before group n
 decided (_ ∷ before) group n = decided before group n
 
--- the entries from a position on, up to the first that is not decided
+-- the entries from a position on, up to the first that is not decided, as laws name them
 abbrev pub decided_from : List Met → GroupId → ℕ → ℕ → List Content
-decided_from met group zero n = []
-decided_from met group (suc most) n = then_more (decided met group n) (decided_from met group most (n + 1))
+decided_from met group most n = entries_from (decided met group) most n
 
 -- the decided prefix of a group: its entries from position 1 on, up to the first position that has none
 abbrev pub log_of : List Met → GroupId → List Content
-log_of met group = decided_from met group (length met) 1
+log_of met group = entries_from (decided met group) (length met) 1
 
 abbrev pub prefix_of : List Met → GroupId → ℕ
 prefix_of met group = length (log_of met group)

@@ -1,3 +1,4 @@
 pub mod FromExact
 pub mod Naming
 pub mod Growing
+pub mod RuleNames

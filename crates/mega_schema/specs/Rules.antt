@@ -101,25 +101,9 @@ of_group cs test = is_some_and (λ (g : List (List ℕ) × List ℕ). test g.0 g
 abbrev pub of_table : List Table → List ℕ → (Table → Bool) → Bool
 of_table ts n test = is_some_and test (table_named ts n)
 
--- 1: another table has its name, or two of its properties have one name
-abbrev pub table_rule_1 : Schema → TableWords → Bool
-table_rule_1 s t = is_table s t.name || stands_twice (words_names t.properties)
-
--- 2: it has neither ROOT nor a group key
-abbrev pub table_rule_2 : TableWords → Bool
-table_rule_2 t = not (list_any is_root t.clauses) && not (list_any is_group t.clauses)
-
--- 3: a property of its primary key is optional or repeated
-abbrev pub table_rule_3 : TableWords → Bool
-table_rule_3 t = list_any (λ n. is_loose t.properties n) t.primary
-
 -- the table referred to is a root whose primary key is of other kinds
 abbrev pub root_differs : Schema → List PropertyWords → List (List ℕ) → List ℕ → Bool
 root_differs s ps key root = of_table s.tables root (λ r. is_root_table r && kinds_differ ps key r.properties r.primary)
-
--- 4: its primary key does not begin with its group key, or the kinds of the group key are not those of the root's primary key
-abbrev pub table_rule_4 : Schema → TableWords → Bool
-table_rule_4 s t = of_group t.clauses (λ key root. not (begins_with key t.primary) || root_differs s t.properties key root)
 
 -- a group key refers to an unknown table, or has an unknown property
 abbrev pub group_unknown : Schema → TableWords → Bool
@@ -129,75 +113,13 @@ group_unknown s t = of_group t.clauses (λ key root. not (is_table s root) || ha
 abbrev pub inside_unknown : Schema → TableWords → Bool
 inside_unknown s t = is_some_and (λ n. not (is_table s n)) (inside_of t.clauses)
 
--- 5: it names an unknown table, a type that is none, or an unknown property in a key
-abbrev pub table_rule_5 : Schema → TableWords → Bool
-table_rule_5 s t =
-    group_unknown s t || inside_unknown s t
-    || has_other_type t.properties || has_unknown t.properties t.primary
-
 -- the table of this name is there and no root
 abbrev pub is_no_root : Schema → List ℕ → Bool
 is_no_root s n = of_table s.tables n (λ r. not (is_root_table r))
 
--- 7: it has both ROOT and a group key, or refers to a table that is no root
-abbrev pub table_rule_7 : Schema → TableWords → Bool
-table_rule_7 s t =
-    (list_any is_root t.clauses && list_any is_group t.clauses)
-    || of_group t.clauses (λ key root. is_no_root s root)
-
 -- the rows stand in another table than the one that the group key refers to
 abbrev pub inside_another : TableWords → Bool
 inside_another t = is_some_and (λ n. of_group t.clauses (λ key root. not (same n root))) (inside_of t.clauses)
-
--- 8: IN TABLE stands on a root, or names another table than the one referred to
-abbrev pub table_rule_8 : TableWords → Bool
-table_rule_8 t =
-    (list_any is_root t.clauses && list_any is_inside t.clauses)
-    || inside_another t
-
--- 9: its primary key or its group key is empty
-abbrev pub table_rule_9 : TableWords → Bool
-table_rule_9 t = are_empty t.primary || of_group t.clauses (λ key root. are_empty key)
-
--- 11: 64 tables stand before it, or it has more than 64 properties
-abbrev pub table_rule_11 : Schema → TableWords → Bool
-table_rule_11 s t = nat_le 64 (length s.tables) || nat_lt 64 (length t.properties)
-
--- 12: its name or a property's is longer than 64 bytes
-abbrev pub table_rule_12 : TableWords → Bool
-table_rule_12 t = is_long t.name || has_long_name t.properties
-
--- 14: SCATTER stands on a table that is no root
-abbrev pub table_rule_14 : TableWords → Bool
-table_rule_14 t = list_any is_scatter t.clauses && not (list_any is_root t.clauses)
-
--- 1: another index has its name
-abbrev pub index_rule_1 : Schema → IndexWords → Bool
-index_rule_1 s i = list_any (λ x. same x.name i.name) s.indexes
-
--- 5: its table is unknown
-abbrev pub index_rule_5 : Schema → IndexWords → Bool
-index_rule_5 s i = not (is_table s i.table)
-
--- 6: it is over an unknown property, the same one twice, or two repeated ones
-abbrev pub index_rule_6 : Schema → IndexWords → Bool
-index_rule_6 s i = of_table s.tables i.table (λ t. lacks t.properties i.indexed || stands_twice i.indexed || nat_lt 1 (repeated_count t.properties i.indexed))
-
--- 9: it is over no property
-abbrev pub index_rule_9 : IndexWords → Bool
-index_rule_9 i = are_empty i.indexed
-
--- 10: it stores an unknown or repeated property, or one twice
-abbrev pub index_rule_10 : Schema → IndexWords → Bool
-index_rule_10 s i = is_some_and (λ ns. of_table s.tables i.table (λ t. lacks t.properties ns || stands_twice ns || nat_lt 0 (repeated_count t.properties ns))) i.storing
-
--- 11: 64 indexes stand before it
-abbrev pub index_rule_11 : Schema → Bool
-index_rule_11 s = nat_le 64 (length s.indexes)
-
--- 12: its name is longer than 64 bytes
-abbrev pub index_rule_12 : IndexWords → Bool
-index_rule_12 i = is_long i.name
 
 -- the properties of the table of this name, none where it is unknown
 abbrev pub properties_of : Schema → List ℕ → List Property
@@ -209,45 +131,70 @@ adds_known old added = list_any (λ p. is_some (property_named old p.name)) adde
 abbrev pub adds_required : List PropertyWords → Bool
 adds_required added = list_any (λ p. is_required p.need) added
 
--- 1: an added name is that of another property of the table
-abbrev pub change_rule_1 : Schema → ChangeWords → Bool
-change_rule_1 s c = adds_known (properties_of s c.table) c.properties || stands_twice (words_names c.properties)
-
--- 5: its table is unknown, or an added type is none
-abbrev pub change_rule_5 : Schema → ChangeWords → Bool
-change_rule_5 s c = not (is_table s c.table) || has_other_type c.properties
-
--- 11: the table would have more than 64 properties
-abbrev pub change_rule_11 : Schema → ChangeWords → Bool
-change_rule_11 s c = nat_lt 64 (length (properties_of s c.table) + length c.properties)
-
--- 12: an added name is longer than 64 bytes
-abbrev pub change_rule_12 : ChangeWords → Bool
-change_rule_12 c = has_long_name c.properties
-
--- 13: an added property is required
-abbrev pub change_rule_13 : ChangeWords → Bool
-change_rule_13 c = adds_required c.properties
-
 -- the first of these rules that is broken
 abbrev pub first_broken : List (ℕ × Bool) → Option ℕ
 first_broken [] = None
 first_broken (r ∷ rs) = if r.1 then Some r.0 else first_broken rs
 
--- the smallest rule that the statement breaks
+-- ---- the rules for each statement by their numbers, and the smallest one that it breaks
+
+-- 1: another table has its name, or two of its properties have one name
+-- 2: it has neither ROOT nor a group key
+-- 3: a property of its primary key is optional or repeated
+-- 4: its primary key does not begin with its group key, or the kinds of the group key are not those of the root's primary key
+-- 5: it names an unknown table, a type that is none, or an unknown property in a key
+-- 7: it has both ROOT and a group key, or refers to a table that is no root
+-- 8: IN TABLE stands on a root, or names another table than the one referred to
+-- 9: its primary key or its group key is empty
+-- 11: 64 tables stand before it, or it has more than 64 properties
+-- 12: its name or a property's is longer than 64 bytes
+-- 14: SCATTER stands on a table that is no root
 abbrev pub table_broken : Schema → TableWords → Option ℕ
 table_broken s t = first_broken (
-    (1, table_rule_1 s t) ∷ (2, table_rule_2 t) ∷ (3, table_rule_3 t) ∷ (4, table_rule_4 s t) ∷ (5, table_rule_5 s t) ∷ (7, table_rule_7 s t) ∷
-    (8, table_rule_8 t) ∷ (9, table_rule_9 t) ∷ (11, table_rule_11 s t) ∷ (12, table_rule_12 t) ∷ (14, table_rule_14 t) ∷ [])
+    (1, is_table s t.name || stands_twice (words_names t.properties))
+    ∷ (2, not (list_any is_root t.clauses) && not (list_any is_group t.clauses))
+    ∷ (3, list_any (λ n. is_loose t.properties n) t.primary)
+    ∷ (4, of_group t.clauses (λ key root. not (begins_with key t.primary) || root_differs s t.properties key root))
+    ∷ (5, group_unknown s t || inside_unknown s t || has_other_type t.properties || has_unknown t.properties t.primary)
+    ∷ (7, (list_any is_root t.clauses && list_any is_group t.clauses) || of_group t.clauses (λ key root. is_no_root s root))
+    ∷ (8, (list_any is_root t.clauses && list_any is_inside t.clauses) || inside_another t)
+    ∷ (9, are_empty t.primary || of_group t.clauses (λ key root. are_empty key))
+    ∷ (11, nat_le 64 (length s.tables) || nat_lt 64 (length t.properties))
+    ∷ (12, is_long t.name || has_long_name t.properties)
+    ∷ (14, list_any is_scatter t.clauses && not (list_any is_root t.clauses))
+    ∷ [])
 
+-- 1: another index has its name
+-- 5: its table is unknown
+-- 6: it is over an unknown property, the same one twice, or two repeated ones
+-- 9: it is over no property
+-- 10: it stores an unknown or repeated property, or one twice
+-- 11: 64 indexes stand before it
+-- 12: its name is longer than 64 bytes
 abbrev pub index_broken : Schema → IndexWords → Option ℕ
 index_broken s i = first_broken (
-    (1, index_rule_1 s i) ∷ (5, index_rule_5 s i) ∷ (6, index_rule_6 s i) ∷ (9, index_rule_9 i) ∷ (10, index_rule_10 s i) ∷ (11, index_rule_11 s) ∷
-    (12, index_rule_12 i) ∷ [])
+    (1, list_any (λ x. same x.name i.name) s.indexes)
+    ∷ (5, not (is_table s i.table))
+    ∷ (6, of_table s.tables i.table (λ t. lacks t.properties i.indexed || stands_twice i.indexed || nat_lt 1 (repeated_count t.properties i.indexed)))
+    ∷ (9, are_empty i.indexed)
+    ∷ (10, is_some_and (λ ns. of_table s.tables i.table (λ t. lacks t.properties ns || stands_twice ns || nat_lt 0 (repeated_count t.properties ns))) i.storing)
+    ∷ (11, nat_le 64 (length s.indexes))
+    ∷ (12, is_long i.name)
+    ∷ [])
 
+-- 1: an added name is that of another property of the table
+-- 5: its table is unknown, or an added type is none
+-- 11: the table would have more than 64 properties
+-- 12: an added name is longer than 64 bytes
+-- 13: an added property is required
 abbrev pub change_broken : Schema → ChangeWords → Option ℕ
 change_broken s c = first_broken (
-    (1, change_rule_1 s c) ∷ (5, change_rule_5 s c) ∷ (11, change_rule_11 s c) ∷ (12, change_rule_12 c) ∷ (13, change_rule_13 c) ∷ [])
+    (1, adds_known (properties_of s c.table) c.properties || stands_twice (words_names c.properties))
+    ∷ (5, not (is_table s c.table) || has_other_type c.properties)
+    ∷ (11, nat_lt 64 (length (properties_of s c.table) + length c.properties))
+    ∷ (12, has_long_name c.properties)
+    ∷ (13, adds_required c.properties)
+    ∷ [])
 
 abbrev pub broken : Schema → Statement → Option ℕ
 broken s (statements.Table t) = table_broken s t

@@ -1,9 +1,10 @@
 //! The rules that a statement of a schema may break, each tried by a function of its own.
-ghost use Rattle.std.specs.Prelude.{◌≡◌, IfOk, is_some, is_none, map, nat_lt, length};
+ghost use Rattle.std.specs.Prelude.{◌≡◌, ◌+◌, ◌&&◌, ◌||◌, not, IfOk, is_some, is_none, map, nat_le, nat_lt, length};
 ghost use Rattle.std.specs.List.{list_any};
 ghost use Rattle.mega_syntax.specs.Names.{same};
+ghost use Rattle.mega_syntax.specs.Reading.{is_group, is_inside, is_root, is_scatter};
 ghost use Rattle.mega_schema.specs.Lookup.{is_among, stands_twice};
-ghost use Rattle.mega_schema.specs.Rules.{is_long, words_names, is_table, is_loose, repeats, has_other_type, has_long_name, begins_with, same_kind, named_kind, differ, kind_at, kinds_differ, has_unknown, lacks, repeated_count, root_differs, group_unknown, inside_unknown, is_no_root, inside_another, table_rule_1, table_rule_2, table_rule_3, table_rule_4, table_rule_5, table_rule_7, table_rule_8, table_rule_9, table_rule_11, table_rule_12, table_rule_14, table_broken, index_rule_1, index_rule_6, index_rule_10, index_broken, properties_of, adds_known, adds_required, change_rule_1, change_rule_11, change_broken, broken};
+ghost use Rattle.mega_schema.specs.Rules.{is_long, words_names, is_table, is_loose, repeats, has_other_type, has_long_name, begins_with, same_kind, named_kind, differ, kind_at, kinds_differ, has_unknown, lacks, repeated_count, root_differs, group_unknown, inside_unknown, is_no_root, inside_another, are_empty, is_some_and, of_group, of_table, table_broken, index_broken, properties_of, adds_known, adds_required, change_broken, broken};
 
 use crate::known::{Known, KnownTable};
 use crate::lookup::{group_of, inside_of, is_repeated, is_required, is_root_table, kind_of};
@@ -179,14 +180,14 @@ pub fn kinds_differ<'a>(
 
 /// Whether another table has this name, or two of its properties have one.
 fn table_rule_1<'a>(schema: &Known<'a>, table: &NamedTable<'_, 'a>) -> bool
-    ensures { result ≡ table_rule_1 schema.now table.now }
+    ensures { result ≡ (is_table schema.now table.now.name || stands_twice (words_names table.now.properties)) }
 {
     schema.is_table(&table.words().name) || table.stands_twice()
 }
 
 /// Whether it has neither `ROOT` nor a group key.
 fn table_rule_2(table: &TableWords<'_>) -> bool
-    ensures { result ≡ table_rule_2 table.now }
+    ensures { result ≡ (not (list_any is_root table.now.clauses) && not (list_any is_group table.now.clauses)) }
 {
     let clauses = table.clauses.as_slice();
     !has_root(clauses) && !has_group(clauses)
@@ -206,7 +207,7 @@ fn are_loose<'a>(table: &NamedTable<'_, 'a>, names: &[Name<'a>]) -> bool
 
 /// Whether a property of the primary key is optional or repeated.
 fn table_rule_3<'a>(table: &NamedTable<'_, 'a>) -> bool
-    ensures { result ≡ table_rule_3 table.now }
+    ensures { result ≡ list_any (λ n. is_loose table.now.properties n) table.now.primary }
 {
     are_loose(table, table.words().primary.as_slice())
 }
@@ -238,7 +239,7 @@ fn root_differs<'a>(
 /// Whether the primary key does not begin with the group key, or the group key is not of the kinds of the
 /// root's primary key.
 fn table_rule_4<'a>(schema: &Known<'a>, table: &NamedTable<'_, 'a>) -> bool
-    ensures { result ≡ table_rule_4 schema.now table.now }
+    ensures { result ≡ (of_group table.now.clauses (λ key root. not (begins_with key table.now.primary) || root_differs schema.now table.now.properties key root)) }
 {
     let words = table.words();
     match group_of(words.clauses.as_slice()) {
@@ -272,7 +273,7 @@ fn inside_unknown<'a>(schema: &Known<'a>, table: &TableWords<'a>) -> bool
 
 /// Whether it names an unknown table, a type that is none, or an unknown property in a key.
 fn table_rule_5<'a>(schema: &Known<'a>, table: &NamedTable<'_, 'a>) -> bool
-    ensures { result ≡ table_rule_5 schema.now table.now }
+    ensures { result ≡ (group_unknown schema.now table.now || inside_unknown schema.now table.now || has_other_type table.now.properties || has_unknown table.now.properties table.now.primary) }
 {
     let words = table.words();
     group_unknown(schema, table)
@@ -293,7 +294,7 @@ fn is_no_root<'a>(schema: &Known<'a>, name: &Name<'a>) -> bool
 
 /// Whether it has both `ROOT` and a group key, or refers to a table that is no root.
 fn table_rule_7<'a>(schema: &Known<'a>, table: &TableWords<'a>) -> bool
-    ensures { result ≡ table_rule_7 schema.now table.now }
+    ensures { result ≡ ((list_any is_root table.now.clauses && list_any is_group table.now.clauses) || of_group table.now.clauses (λ key root. is_no_root schema.now root)) }
 {
     let clauses = table.clauses.as_slice();
     match group_of(clauses) {
@@ -315,7 +316,7 @@ fn inside_another(table: &TableWords<'_>) -> bool
 
 /// Whether `IN TABLE` stands on a root, or names another table than the one referred to.
 fn table_rule_8(table: &TableWords<'_>) -> bool
-    ensures { result ≡ table_rule_8 table.now }
+    ensures { result ≡ ((list_any is_root table.now.clauses && list_any is_inside table.now.clauses) || inside_another table.now) }
 {
     let clauses = table.clauses.as_slice();
     has_root(clauses) && has_inside(clauses) || inside_another(table)
@@ -323,7 +324,7 @@ fn table_rule_8(table: &TableWords<'_>) -> bool
 
 /// Whether its primary key or its group key is empty.
 fn table_rule_9(table: &TableWords<'_>) -> bool
-    ensures { result ≡ table_rule_9 table.now }
+    ensures { result ≡ (are_empty table.now.primary || of_group table.now.clauses (λ key root. are_empty key)) }
 {
     if table.primary.is_empty() {
         return true;
@@ -336,21 +337,21 @@ fn table_rule_9(table: &TableWords<'_>) -> bool
 
 /// Whether 64 tables stand before it, or it has more than 64 properties.
 fn table_rule_11(schema: &Known<'_>, table: &TableWords<'_>) -> bool
-    ensures { result ≡ table_rule_11 schema.now table.now }
+    ensures { result ≡ (nat_le 64 (length schema.now.tables) || nat_lt 64 (length table.now.properties)) }
 {
     MOST <= schema.schema().tables.len() || MOST < table.properties.len()
 }
 
 /// Whether its name or a property's is too long.
 fn table_rule_12(table: &TableWords<'_>) -> bool
-    ensures { result ≡ table_rule_12 table.now }
+    ensures { result ≡ (is_long table.now.name || has_long_name table.now.properties) }
 {
     is_long(&table.name) || has_long_name(table.properties.as_slice())
 }
 
 /// Whether `SCATTER` stands on a table that is no root.
 fn table_rule_14(table: &TableWords<'_>) -> bool
-    ensures { result ≡ table_rule_14 table.now }
+    ensures { result ≡ (list_any is_scatter table.now.clauses && not (list_any is_root table.now.clauses)) }
 {
     let clauses = table.clauses.as_slice();
     has_scatter(clauses) && !has_root(clauses)
@@ -390,7 +391,7 @@ fn table_broken<'a>(schema: &Known<'a>, table: &NamedTable<'_, 'a>) -> Option<u8
 
 /// Whether another index has its name.
 fn index_rule_1<'a>(schema: &Known<'a>, index: &IndexWords<'a>) -> bool
-    ensures { result ≡ index_rule_1 schema.now index.now }
+    ensures { result ≡ list_any (λ x. same x.name index.now.name) schema.now.indexes }
 {
     schema.is_index(&index.name)
 }
@@ -401,7 +402,7 @@ fn index_rule_6<'a>(
     schema: &Known<'a>,
     index: &IndexWords<'a>,
 ) -> Result<bool, NoMemory>
-    ensures { IfOk result (λ breaks. breaks ≡ index_rule_6 schema.now index.now) }
+    ensures { IfOk result (λ breaks. breaks ≡ of_table schema.now.tables index.now.table (λ t. lacks t.properties index.now.indexed || stands_twice index.now.indexed || nat_lt 1 (repeated_count t.properties index.now.indexed))) }
 {
     let names = index.indexed.as_slice();
     let twice = stands_twice(alloc, names)?;
@@ -417,7 +418,7 @@ fn index_rule_10<'a>(
     schema: &Known<'a>,
     index: &IndexWords<'a>,
 ) -> Result<bool, NoMemory>
-    ensures { IfOk result (λ breaks. breaks ≡ index_rule_10 schema.now index.now) }
+    ensures { IfOk result (λ breaks. breaks ≡ is_some_and (λ ns. of_table schema.now.tables index.now.table (λ t. lacks t.properties ns || stands_twice ns || nat_lt 0 (repeated_count t.properties ns))) index.now.storing) }
 {
     let Some(stored) = &index.storing else {
         return Ok(false);
@@ -450,8 +451,8 @@ fn first_of_index<'a>(
     breaks_6: bool,
     breaks_10: bool,
 ) -> Option<u8>
-    requires six { breaks_6 ≡ index_rule_6 schema.now index.now }
-    requires ten { breaks_10 ≡ index_rule_10 schema.now index.now }
+    requires six { breaks_6 ≡ (of_table schema.now.tables index.now.table (λ t. lacks t.properties index.now.indexed || stands_twice index.now.indexed || nat_lt 1 (repeated_count t.properties index.now.indexed))) }
+    requires ten { breaks_10 ≡ (is_some_and (λ ns. of_table schema.now.tables index.now.table (λ t. lacks t.properties ns || stands_twice ns || nat_lt 0 (repeated_count t.properties ns))) index.now.storing) }
     ensures { result ≡ index_broken schema.now index.now }
 {
     if index_rule_1(schema, index) {
@@ -498,7 +499,7 @@ fn change_rule_1<'a>(
     schema: &Known<'a>,
     change: &ChangeWords<'a>,
 ) -> Result<bool, NoMemory>
-    ensures { IfOk result (λ breaks. breaks ≡ change_rule_1 schema.now change.now) }
+    ensures { IfOk result (λ breaks. breaks ≡ (adds_known (properties_of schema.now change.now.table) change.now.properties || stands_twice (words_names change.now.properties))) }
 {
     let added = change.properties.as_slice();
     let twice = words_twice(alloc, added)?;
@@ -517,7 +518,7 @@ fn property_count<'a>(schema: &Known<'a>, name: &Name<'a>) -> usize
 
 /// Whether the table would have more than 64 properties.
 fn change_rule_11<'a>(schema: &Known<'a>, change: &ChangeWords<'a>) -> bool
-    ensures { result ≡ change_rule_11 schema.now change.now }
+    ensures { result ≡ nat_lt 64 (length (properties_of schema.now change.now.table) + length change.now.properties) }
 {
     let old = property_count(schema, &change.table);
     MOST < old || MOST - old < change.properties.len()
@@ -537,7 +538,7 @@ fn change_broken<'a>(
 
 /// The smallest rule that a change's statement breaks, by whether it breaks rule 1.
 fn first_of_change<'a>(schema: &Known<'a>, change: &ChangeWords<'a>, breaks_1: bool) -> Option<u8>
-    requires { breaks_1 ≡ change_rule_1 schema.now change.now }
+    requires { breaks_1 ≡ (adds_known (properties_of schema.now change.now.table) change.now.properties || stands_twice (words_names change.now.properties)) }
     ensures { result ≡ change_broken schema.now change.now }
 {
     let added = change.properties.as_slice();

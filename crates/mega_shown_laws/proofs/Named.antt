@@ -26,7 +26,8 @@ use Rattle.mega_schema.specs.declared.schema.Table.{Table}
 use Rattle.mega_schema.specs.Declare.{declare, grown, grown_at, grown_with, property_of, table_of}
 use Rattle.mega_schema.specs.Known.{table_names}
 use Rattle.mega_schema.specs.Lookup.{is_among, property_named, stands_twice, table_place}
-use Rattle.mega_schema.specs.Rules.{adds_known, broken, change_broken, change_rule_1, change_rule_5, change_rule_11, change_rule_12, change_rule_13, first_broken, is_long, is_table, properties_of, property_names, table_broken, table_rule_1, table_rule_2, table_rule_3, table_rule_4, table_rule_5, table_rule_7, table_rule_8, table_rule_9, table_rule_11, table_rule_12, table_rule_14, words_names}
+use Rattle.mega_schema.specs.Rules.{adds_known, broken, change_broken, first_broken, is_long, is_table, properties_of, property_names, table_broken, words_names}
+use Rattle.mega_schema.proofs.RuleNames.{change_rule_1, change_rule_5, change_rule_11, change_rule_12, change_rule_13, table_rule_1, table_rule_2, table_rule_3, table_rule_4, table_rule_5, table_rule_7, table_rule_8, table_rule_9, table_rule_11, table_rule_12, table_rule_14}
 use Rattle.mega_schema.specs.Verdict.{empty, judge, parse_of, refused_or}
 use Rattle.mega_schema.proofs.Growing.{names_of_words, table_names_stay}
 use Rattle.mega_schema.proofs.Naming.{same_other, same_self}

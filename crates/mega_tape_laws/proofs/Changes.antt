@@ -18,7 +18,8 @@ use Rattle.mega_schema.specs.declared.schema.Property.{Property}
 use Rattle.mega_schema.specs.declared.schema.Table.{Table}
 use Rattle.mega_schema.specs.declared.schema.Schema.{Schema}
 use Rattle.mega_schema.specs.Lookup.{is_required, words_named, table_place}
-use Rattle.mega_schema.specs.Rules.{has_unknown, has_other_type, group_unknown, inside_unknown, adds_required, table_rule_1, table_rule_2, table_rule_3, table_rule_4, table_rule_5, table_rule_7, table_rule_8, table_rule_9, table_rule_11, table_rule_12, table_rule_14, change_rule_1, change_rule_5, change_rule_11, change_rule_12, change_rule_13, first_broken, table_broken, broken}
+use Rattle.mega_schema.specs.Rules.{has_unknown, has_other_type, group_unknown, inside_unknown, adds_required, first_broken, table_broken, broken}
+use Rattle.mega_schema.proofs.RuleNames.{table_rule_1, table_rule_2, table_rule_3, table_rule_4, table_rule_5, table_rule_7, table_rule_8, table_rule_9, table_rule_11, table_rule_12, table_rule_14, change_rule_1, change_rule_5, change_rule_11, change_rule_12, change_rule_13}
 use Rattle.mega_schema.specs.Declare.{number_of, property_of, words_place, numbers_of_words, table_of, grown, grown_with, grown_at, declare}
 use Rattle.mega_schema.specs.Verdict.{answer_of, empty, refused_or, judge, parse_of}
 use Rattle.mega_outcome.specs.Extends.{may_lack, may_lack_need, is_known, ExtendsTable, ExtendTables, Extends}

@@ -17,7 +17,8 @@ use Rattle.mega_syntax.specs.Names.{same}
 use Rattle.mega_syntax.specs.Reading.{is_inside}
 use Rattle.mega_syntax.specs.Whole.{read_of}
 use Rattle.mega_schema.specs.Lookup.{table_named, table_place, is_root_table, group_of}
-use Rattle.mega_schema.specs.Rules.{is_long, are_empty, has_unknown, of_group, is_table, is_no_root, group_unknown, inside_unknown, has_other_type, table_rule_1, table_rule_2, table_rule_3, table_rule_4, table_rule_5, table_rule_7, table_rule_8, table_rule_9, table_rule_11, table_rule_12, table_rule_14, first_broken, table_broken, broken}
+use Rattle.mega_schema.specs.Rules.{is_long, are_empty, has_unknown, of_group, is_table, is_no_root, group_unknown, inside_unknown, has_other_type, first_broken, table_broken, broken}
+use Rattle.mega_schema.proofs.RuleNames.{table_rule_1, table_rule_2, table_rule_3, table_rule_4, table_rule_5, table_rule_7, table_rule_8, table_rule_9, table_rule_11, table_rule_12, table_rule_14}
 use Rattle.mega_schema.specs.Declare.{number_of, property_of, numbers_of_words, root_number, group_numbers, is_scattered, scatters, table_of, grown, grown_with, grown_at, declare}
 use Rattle.mega_schema.specs.Verdict.{empty, refused_or, judge, judge_all, ruled, answer_of, parse_of}
 use Rattle.mega_index.specs.Fits.{numbered}
