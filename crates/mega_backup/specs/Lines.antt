@@ -15,9 +15,8 @@ group_in digits = if nat_le 2 (length digits) && nat_le (length digits) 2048 the
 
 -- a group and a number of entries, on either side of a space
 abbrev pub head_of : Option GroupId → Option ℕ → Option Head
-head_of None count = None
-head_of (Some group) None = None
 head_of (Some group) (Some count) = Some (record { group = group; count = count })
+head_of _ _ = None
 
 abbrev pub head_at : List ℕ → Option ℕ → Option Head
 head_at words None = None

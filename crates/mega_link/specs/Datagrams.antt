@@ -21,3 +21,9 @@ abbrev pub Gains : {A : Type 0} → Option (List A) → Option (List A) → A �
 Gains (Some all) (Some more) item = more ≡ all ++ item ∷ []
 Gains None (Some more) item = ⊥
 Gains told None item = Unit {0}
+
+-- so it gains these items
+abbrev pub GainsAll : {A : Type 0} → Option (List A) → Option (List A) → List A → Type 0
+GainsAll (Some all) (Some more) items = more ≡ all ++ items
+GainsAll None (Some more) items = ⊥
+GainsAll told None items = Unit {0}

@@ -15,8 +15,7 @@ use Rattle.mega_entry.specs.declared.content.Enter.{Enter}
 use Rattle.mega_entry.specs.declared.content.Name.{Name}
 use Rattle.mega_index.specs.Rows.{after, list_after, no_rows}
 use Rattle.mega_index.specs.declared.found.Found.{Found}
-use Rattle.mega_handler.specs.Effects.{handle_entry, handled}
-use Rattle.mega_handler.specs.Named.{Meanings, effect_by, meaning as meaning_of_queue}
+use Rattle.mega_handler.specs.Named.{Meanings}
 use Rattle.mega_ballot.specs.Order.{zero_ballot}
 use Rattle.mega_wire.specs.declared.message.Body.{Body}
 use Rattle.mega_wire.specs.declared.message.Body.TheVariants.{Accept, Where}
@@ -37,7 +36,7 @@ use Rattle.mega_wal.specs.Same.{same_group, same_name, same_op}
 use Rattle.mega_transcript.specs.declared.item.Item.{Item}
 use Rattle.mega_transcript.specs.declared.item.Item.TheVariants.{Begin, Decide, Answer as AnswerItem, Sent, Unsafe}
 use Rattle.mega_rules.specs.Queues.{Log as GroupLog, Posted, entered_in, handled_in, is_named, names_entered, oldest_unhandled, sent_in}
-use Rattle.mega_rules.specs.Acting.{table_rows}
+pub use Rattle.mega_rules.specs.Acting.{handled_by}
 use Rattle.mega_rules.specs.Steps.{is_current}
 
 -- it stood before another one that stands
@@ -136,13 +135,6 @@ pub record IsSerial (schema : Schema) (meaning : List ℕ → Option Request) (t
 abbrev pub WasSent : List Item → GroupId → Enter → Type 0
 WasSent tape to message =
     (one : Posted) × (Contains (sent_in (record { group = (message.name).group; entries = log_of tape (message.name).group })) one) × (one.to ≡ to) × (one.message ≡ message)
-
--- the entry that handles a message, by the handler of its queue, on the rows of the group's tables after the entries below
-abbrev pub handled_by : Schema → Meanings → GroupId → OpId → Enter → List Content → Content
-handled_by schema handlers group op message below =
-    handle_entry op message.name
-    (handled schema group (table_rows schema group (list_after below []))
-    (effect_by (meaning_of_queue handlers message.queue) message (table_rows schema group (list_after below []))))
 
 -- each message enters its receiver's log, and is handled, at most once, the oldest first, and what its handling writes and sends is what its handler
 -- makes of it, where the handlers are these throughout

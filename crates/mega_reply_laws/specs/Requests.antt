@@ -40,9 +40,8 @@ asked_in wish client (Requests token json) = (record { client = client; token = 
 asked_in wish client _ = []
 
 abbrev pub asked_by : ℕ → (List ℕ → Wish) → Peer → Result Message ℕ → List Asked
-asked_by me wish (OfNode node) read = []
-asked_by me wish (OfClient client) (Err at) = []
 asked_by me wish (OfClient client) (Ok m) = if m.from == 0 && m.to == me then asked_in wish client m.body else []
+asked_by me wish _ _ = []
 
 -- an operation begins for the request before it, and its answer ends it
 abbrev pub begun_as : OpId → RequestState → RequestState

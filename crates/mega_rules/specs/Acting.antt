@@ -45,7 +45,7 @@ use Rattle.mega_rules.specs.Operations.{Node, Now, Operation, Phase, Promised, P
 use Rattle.mega_rules.specs.Finding.{local_found}
 use Rattle.mega_replica.specs.of_index.Fitted.{table_of}
 use Rattle.mega_handler.specs.Effects.{handle_entry, handled}
-use Rattle.mega_handler.specs.Named.{effect_by, has, meaning}
+use Rattle.mega_handler.specs.Named.{Meanings, effect_by, has, meaning}
 use Rattle.mega_schema.specs.declared.schema.Schema.{Schema}
 use Rattle.mega_base.specs.declared.values.Row.{Row}
 
@@ -171,6 +171,13 @@ unless_full s now o p going_on = if nat_le (s.cluster.limit).0 p then Rests (end
 abbrev pub table_rows : Schema → GroupId → Listed → Listed
 table_rows schema group listed = filter (λ (one : List ℕ × Row). is_some (table_of schema group.key one.0)) listed
 
+-- the entry that handles a message, by the handler of its queue, on the rows of the group's tables after the entries below
+abbrev pub handled_by : Schema → Meanings → GroupId → OpId → Enter → List Content → Content
+handled_by schema handlers group op message below =
+    handle_entry op message.name
+    (handled schema group (table_rows schema group (list_after below []))
+    (effect_by (meaning handlers message.queue) message (table_rows schema group (list_after below []))))
+
 -- the entry that handles a message: of what its handler makes of it and of the rows of the group's tables, what fits the schema and the group
 abbrev pub handling : Setting → OpId → GroupId → Enter → Listed → Content
 handling s op group message rows =
@@ -226,7 +233,7 @@ abbrev pub handles : Setting → Now → Operation → GroupId → Reading → �
 handles s now o group r p None = picks_to_handle s now o (asked_by r)
 handles s now o group r p (Some message) =
     if has s.handlers message.queue
-    then Rests (proposes s now o group r p (handling s o.id group message (table_rows s.cluster.schema group (listed_at now group p))) (Replies []))
+    then Rests (proposes s now o group r p (handled_by s.cluster.schema s.handlers group o.id message (take p (log_of now.met group))) (Replies []))
     else Rests (ends now o.id (NoHandler message.queue))
 
 -- what an operation does whose current read through a position is complete

@@ -4,6 +4,7 @@ use Rattle.mega_base.specs.Reading.{whole_of}
 use Rattle.mega_cluster.specs.declared.cluster.Cluster.{Cluster}
 use Rattle.mega_handler.specs.Named.{Meanings}
 use Rattle.mega_link.specs.Datagrams.{Datagram}
+pub use Rattle.mega_link.specs.Datagrams.{GainsAll}
 use Rattle.mega_schema.specs.declared.schema.Schema.{Schema}
 use Rattle.mega_wire.specs.declared.message.Message.{Message}
 use Rattle.mega_wire.specs.declared.message.Body.{Body}
@@ -88,12 +89,6 @@ MayTurn steps s now turn =
 abbrev pub MayServe : {S : Type 0} → Ghosts S → Setting → Served → List Turn → Type 0
 MayServe steps s now [] = Unit {0}
 MayServe steps s now (turn ∷ turns) = MayTurn steps s now turn × MayServe steps s (turned_by s now turn) turns
-
--- what is told of a list that gained these items
-abbrev pub GainsAll : {A : Type 0} → Option (List A) → Option (List A) → List A → Type 0
-GainsAll (Some all) (Some more) items = more ≡ all ++ items
-GainsAll None (Some more) items = ⊥
-GainsAll told None items = Unit {0}
 
 abbrev pub readings_of : List (ℕ × Option Datagram) → List ℕ
 readings_of given = map (λ (one : ℕ × Option Datagram). one.0) given

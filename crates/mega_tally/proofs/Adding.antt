@@ -7,7 +7,7 @@ use Rattle.std.specs.BTreeMap.{insert_entry}
 use Rattle.std.specs.List.{list_any}
 use Rattle.mega_base.specs.declared.names.GroupId.{GroupId}
 use Rattle.mega_transcript.specs.declared.item.Item.{Item}
-use Rattle.mega_transcript.specs.Counts.{count_of, count_line, is_committed, is_conflict, is_message, is_read, is_unsafe, group_cmp, lengthened, log_lines, or_zero, summary_text, unsafe_word}
+use Rattle.mega_transcript.specs.Counts.{count_of, count_line, is_committed, is_conflict, is_message, is_read, is_unsafe, group_cmp, lengthened, log_lines, summary_text, unsafe_word}
 use Rattle.mega_transcript.specs.Tape.{newest}
 use Rattle.mega_transcript.proofs.Tapes.{newest-append}
 use Rattle.mega_tally.specs.declared.kinds.Kinds.{Kinds}
@@ -74,7 +74,7 @@ text_is tally items events r =
 
 -- the longest prefix of a group is kept
 pub lengthened_is : (es after : List (GroupId × ℕ)) (g own : GroupId) (prefix before : ℕ) → (prefix == 0) ≡ false → own ≡ g → after ≡ insert_entry group_cmp es own (max before prefix)
-    → before ≡ or_zero (lookup (λ other. is_eq (group_cmp g other)) es) → after ≡ lengthened g prefix es
+    → before ≡ unwrap_or (lookup (λ other. is_eq (group_cmp g other)) es) 0 → after ≡ lengthened g prefix es
 lengthened_is es after g own prefix before some same put was =
     put ∙ ap (λ (one : GroupId). insert_entry group_cmp es one (max before prefix)) same ∙ ap (λ (n : ℕ). insert_entry group_cmp es g (max n prefix)) was
-    ∙ sym (ap (λ (b : Bool). if b then es else insert_entry group_cmp es g (max (or_zero (lookup (λ other. is_eq (group_cmp g other)) es)) prefix)) some)
+    ∙ sym (ap (λ (b : Bool). if b then es else insert_entry group_cmp es g (max (unwrap_or (lookup (λ other. is_eq (group_cmp g other)) es) 0) prefix)) some)

@@ -1,8 +1,8 @@
 //! The longest decided prefix of each group over all nodes.
-ghost use Rattle.std.specs.Prelude.{◌≡◌, [], OnOk};
+ghost use Rattle.std.specs.Prelude.{◌≡◌, [], OnOk, unwrap_or};
 ghost use Rattle.std.specs.Ordering.{is_eq};
 ghost use Rattle.std.specs.Map.{lookup};
-ghost use Rattle.mega_transcript.specs.Counts.{group_cmp, lengthened, or_zero, prefix_sum};
+ghost use Rattle.mega_transcript.specs.Counts.{group_cmp, lengthened, prefix_sum};
 
 use mega_base::{Copied, GroupId, NoMemory};
 use std::alloc::Global;
@@ -20,7 +20,7 @@ pub(crate) fn none_longest(alloc: Global) -> Longest
 
 /// The longest prefix of a group, 0 for none.
 fn longest_of(longest: &Longest, group: &GroupId) -> u64
-    ensures { result ≡ or_zero (lookup (λ other. is_eq (group_cmp group.now other)) longest.now.entries) }
+    ensures { result ≡ unwrap_or (lookup (λ other. is_eq (group_cmp group.now other)) longest.now.entries) 0 }
 {
     match longest.get(group) {
         Some(prefix) => *prefix,

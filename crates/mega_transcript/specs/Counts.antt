@@ -1,5 +1,5 @@
 -- The counts of a run.
-use Rattle.std.specs.Prelude.{ℕ, zero, suc, ◌==◌, ◌&&◌, ◌||◌, max, sum, map, filter, Bool, true, false, if◌then◌else◌, List, [], ◌∷◌, ◌++◌, length, codes, decimal, Option, Some, None}
+use Rattle.std.specs.Prelude.{ℕ, zero, suc, ◌==◌, ◌&&◌, ◌||◌, max, sum, map, filter, Bool, true, false, if◌then◌else◌, List, [], ◌∷◌, ◌++◌, length, codes, decimal, Option, unwrap_or}
 use Rattle.std.specs.List.{list_any}
 use Rattle.std.specs.Ordering.{is_eq}
 use Rattle.std.specs.Map.{lookup}
@@ -54,14 +54,10 @@ greatest_of (_ ∷ before) group node = greatest_of before group node
 abbrev pub prefix_of : List Item → GroupId → ℕ → ℕ
 prefix_of tape group node = climb (is_decided tape group node) (greatest_of tape group node) 0
 
-abbrev pub or_zero : Option ℕ → ℕ
-or_zero None = 0
-or_zero (Some n) = n
-
 -- the groups with a prefix of one of them: the longest one is kept
 abbrev pub lengthened : GroupId → ℕ → List (GroupId × ℕ) → List (GroupId × ℕ)
 lengthened group prefix found =
-    if prefix == 0 then found else insert_entry group_cmp found group (max (or_zero (lookup (λ other. is_eq (group_cmp group other)) found)) prefix)
+    if prefix == 0 then found else insert_entry group_cmp found group (max (unwrap_or (lookup (λ other. is_eq (group_cmp group other)) found) 0) prefix)
 
 -- the groups with a decided position 1, each with its longest decided prefix over all nodes, in order of group
 abbrev pub longest : List Item → List (GroupId × ℕ)

@@ -32,9 +32,8 @@ abbrev pub are_parts : List Transaction → Bool
 are_parts owns = (nat_le 2 (length owns) && nat_le (length owns) 8) && are_apart (map group_key owns)
 
 abbrev pub parts_fit : Schema → List ℕ → List Transaction → Items → Bool
-parts_fit s name [] parts = true
-parts_fit s name (own ∷ owns) no_items = true
 parts_fit s name (own ∷ owns) (item part parts) = part_fits s name own part && parts_fit s name owns parts
+parts_fit s name _ _ = true
 
 abbrev pub all_fit : Schema → List ℕ → List Transaction → Items → Bool
 all_fit s name owns parts = has_plans s && parts_fit s name owns parts

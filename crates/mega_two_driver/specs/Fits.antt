@@ -59,9 +59,8 @@ unfoldable pub write_of : Schema → List ℕ → Change → Option Write
 write_of s group change = write_under s change (result_ok (changed_key s group 0 change))
 
 abbrev pub with_write : Option Write → Option (List Write) → Option (List Write)
-with_write None writes = None
-with_write (Some write) None = None
 with_write (Some write) (Some writes) = Some (write ∷ writes)
+with_write _ _ = None
 
 -- all of them, where each fits
 abbrev pub writes_of : Schema → List ℕ → List Change → Option (List Write)

@@ -64,9 +64,8 @@ lock_told name reply = lock_row_told name reply (first_row (rows_in reply))
 
 -- the line that a plan holds; none where it shows none
 abbrev pub line_digits : Option (Option Data) → List ℕ
-line_digits None = []
-line_digits (Some None) = []
 line_digits (Some (Some row)) = unwrap_or (text_in (codes "plan") row) []
+line_digits _ = []
 
 unfoldable pub plan_line : List ℕ → List ℕ
 plan_line reply = bytes_of (line_digits (first_row (rows_in reply)))

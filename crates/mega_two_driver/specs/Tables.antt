@@ -37,9 +37,8 @@ key_properties t = properties_at t.properties t.primary
 -- the same names, in order
 abbrev pub same_names : List Property → List Property → Bool
 same_names [] [] = true
-same_names [] (q ∷ qs) = false
-same_names (p ∷ ps) [] = false
 same_names (p ∷ ps) (q ∷ qs) = same p.name q.name && same_names ps qs
+same_names _ _ = false
 
 -- a table with exactly these properties, and a key of these
 abbrev pub is_table : List Property → List Property → Table → Bool

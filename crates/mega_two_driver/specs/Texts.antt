@@ -86,9 +86,8 @@ member_text (Some property) d = quoted property.name ++ (58 ∷ (value_text d ++
 
 -- values under the names of the properties with these numbers
 abbrev pub members_text : List Property → List ℕ → Items → List ℕ
-members_text properties [] ds = []
-members_text properties (n ∷ ns) no_items = []
 members_text properties (n ∷ ns) (item d ds) = member_text (numbered properties n) d ++ members_text properties ns ds
+members_text properties _ _ = []
 
 -- the name of the root of a part's group, its key values, and the table
 abbrev pub first_of : Option (Data × Data) → Option Data

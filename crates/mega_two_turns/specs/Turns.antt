@@ -2,6 +2,7 @@
 use Rattle.std.specs.Prelude.{◌≡◌, ℕ, ◌+◌, ◌*◌, ◌≤◌, nat_le, if◌then◌else◌, Bool, true, List, [], ◌∷◌, ◌++◌, length, Option, Some, None, is_none, option_map}
 use Rattle.mega_link.specs.declared.peer.Peer.TheVariants.{Node}
 use Rattle.mega_link.specs.Datagrams.{Datagram}
+pub use Rattle.mega_link.specs.Datagrams.{GainsAll}
 use Rattle.mega_two_driver.specs.of_moves.declared.phase.Ended.{Ended}
 use Rattle.mega_two_driver.specs.declared.two.Two.{Two}
 use Rattle.mega_two_driver.specs.Driver.{asks, taken, lost}
@@ -81,12 +82,6 @@ all_sent node patience first (one ∷ before) = all_sent node patience first bef
 abbrev pub AreOpen : ℕ → ℕ → Driving → List (ℕ × Option Datagram) → Type 0
 AreOpen node patience first [] = Unit {0}
 AreOpen node patience first (one ∷ before) = (is_none (ending (driven node patience first before).two) ≡ true) × AreOpen node patience first before
-
--- items came to a list, where it is told
-abbrev pub GainsAll : {A : Type 0} → Option (List A) → Option (List A) → List A → Type 0
-GainsAll (Some all) (Some more) items = more ≡ all ++ items
-GainsAll None (Some more) items = ⊥
-GainsAll told None items = Unit {0}
 
 -- these turns were made, from one moment to another
 pub record Drives (node patience : ℕ) (first last : Driving) (read more_read : Option (List ℕ)) (taken more_taken : Option (List (Option Datagram))) (sent more_sent : Option (List Datagram)) (given : List (ℕ × Option Datagram)) : Type 0 where

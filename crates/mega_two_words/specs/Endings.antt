@@ -12,8 +12,7 @@ abbrev pub word_of : Option Ended → List ℕ
 word_of (Some endings.Committed) = codes "committed"
 word_of (Some endings.Aborted) = codes "aborted"
 word_of (Some endings.Used) = codes "used"
-word_of (Some endings.Open) = codes "open"
-word_of None = codes "open"
+word_of _ = codes "open"
 
 abbrev pub ended_line : List ℕ → Option Ended → List ℕ
 ended_line name ended = codes "two " ++ (name ++ (codes " " ++ (word_of ended ++ codes "\n")))

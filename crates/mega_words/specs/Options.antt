@@ -37,10 +37,9 @@ text_of Recover = codes "--recover"
 
 -- what stands in a word behind a name and `=`
 abbrev pub behind : List ℕ → List ℕ → Option (List ℕ)
-behind [] [] = None
 behind [] (byte ∷ word) = if byte == 61 then Some word else None
-behind (first ∷ name) [] = None
 behind (first ∷ name) (byte ∷ word) = if first == byte then behind name word else None
+behind _ _ = None
 
 -- a word is a name, or a name and `=` and more
 abbrev pub is_named : List ℕ → List ℕ → Bool
