@@ -36,6 +36,12 @@ pub record Codec {A : Type 0} (read : Place → Read A) (spell : A → List ℕ)
   pub again : (at : ℕ) (x : A) (rest : List ℕ) → Fits x → read (place at (spell x ++ rest)) ≡ Ok (x, place (at + length (spell x)) rest)
   pub stops : (p : Place) (at : ℕ) → read p ≡ Err at → Stop read Opens p at
 
+-- whole texts are read as the values that they spell: each text of a value that fits, and no other. So the reading is told by the spelling, and
+-- what says something of texts may speak of any reading with these two laws in place of one that goes from byte to byte
+pub record ReadsBack {A : Type 0} (spell : A → List ℕ) (Fits : A → Type 0) (read : List ℕ → Result A ℕ) : Type 0 where
+  pub found : (bytes : List ℕ) (x : A) → read bytes ≡ Ok x → Fits x × (bytes ≡ spell x)
+  pub only : (x : A) → Fits x → read (spell x) ≡ Ok x
+
 -- the text is the spelling of a value that fits
 abbrev pub IsText : {A : Type 0} → (A → List ℕ) → (A → Type 0) → List ℕ → Type 0
 IsText {A} spell Fits text = (x : A) × Fits x × (spell x ≡ text)

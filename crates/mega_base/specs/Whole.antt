@@ -6,7 +6,7 @@ use Rattle.std.proofs.lemmas.Bool.{cases_lt}
 use Rattle.std.proofs.lemmas.List.{take-append-drop, length-take, length-take-le, length-drop}
 use Rattle.std.proofs.Math.Seq.{take-append_seam, drop-append_seam, take-append-add}
 use Rattle.mega_base.specs.Reading.{Place, place, end_of, Read, ◌>>=◌, number_in, within, nested_at, whole_of}
-use Rattle.mega_base.specs.Codec.{number_text, BytesBetween, first_of, Stop, Codec, IsText, IsBetween, IsNested, OpensNested, nested_text, IsFirstBad}
+use Rattle.mega_base.specs.Codec.{number_text, BytesBetween, first_of, Stop, Codec, ReadsBack, IsText, IsBetween, IsNested, OpensNested, nested_text, IsFirstBad}
 use Rattle.mega_base.specs.Codecs.{bind-ok, bind-err, bind-is_err, ok_parts, if-ok, bind_codec, refit_codec}
 use Rattle.mega_base.specs.Digits.{number_codec}
 
@@ -167,6 +167,9 @@ unfolding whole_of
 whole_only {A} r s O F c bytes x f e =
     let alone : r (place 0 (s x)) ≡ Ok (x, place (0 + length (s x)) []) = subst (λ (l : List ℕ). r (place 0 l) ≡ Ok (x, place (0 + length (s x)) [])) (append-nil (s x)) (c.again 0 x [] f) in
     rw (e, alone) refl
+
+pub whole_reads_back : {A : Type 0} (r : Place → Read A) (s : A → List ℕ) (O : List ℕ → Type 0) (F : A → Type 0) → Codec r s O F → ReadsBack s F (whole_of r)
+whole_reads_back r s O F c = record { found = whole_found r s O F c; only = λ x f. whole_only r s O F c (s x) x f refl }
 
 -- a refusal names the first byte that cannot stand there
 pub whole_stops : {A : Type 0} (r : Place → Read A) (s : A → List ℕ) (O : List ℕ → Type 0) (F : A → Type 0) → Codec r s O F → ((x : A) → F x → O (s x))
