@@ -41,7 +41,7 @@ use Rattle.mega_fresh_laws.proofs.of_leased_laws.Leased.{run_leased}
 use Rattle.mega_fresh_laws.proofs.of_leased_laws.Tops.{run_fresh}
 use Rattle.mega_line_laws.specs.Meanings.{meaning_in}
 use Rattle.mega_line_events.specs.Meanings.{usage}
-use Rattle.mega_line_events.specs.Running.{AllHappen, AllReadAll, HoldsSettled, Happens, ReadsAll, Replayed, Proceeds, in_turn, stood}
+use Rattle.mega_line_events.specs.Running.{AllHappen, HoldsSettled, Happens, ReadsAll, Replayed, Proceeds, Throughout, in_turn, stood}
 use Rattle.mega_shown_laws.specs.of_promises.Calm.{IsCalmComplete}
 use Rattle.mega_calm_laws.proofs.Complete.{run_is_calm_complete}
 use Rattle.mega_line_events.proofs.Caused.{run_caused}
@@ -75,17 +75,19 @@ fits_turned c (line ∷ lines) [] rest happen fits = absurd happen
 fits_turned c (line ∷ lines) (one ∷ events) rest happen fits =
     fits_turned c lines events (one ∷ rest) happen.0 (fits_one c (length lines + 1) line (stood c events) one happen.1, fits)
 
--- local reads, behind each event
+-- what holds of each run holds behind each event
+throughout : (c : Cluster) (Holds : Standing → Type 0) → ((events : List Happening) → Holds (stood c events)) → (events : List Happening) → Throughout Holds c events
+throughout c Holds each [] = each []
+throughout c Holds each (one ∷ earlier) = (throughout c Holds each earlier, each (one ∷ earlier))
+
+-- local reads
 reads_all : (c : Cluster) (events : List Happening) → CanStart c → ReadsAll c (stood c events)
 reads_all c events can =
     subst (ReadsAll c) (turned c events []) (run_fresh c built_in (in_turn events []) (goes_on c by_fuse (opening c built_in) (in_turn events [])).tape can.served.few (cells_few c.cells can.served.cells) (record { cuts = by_fuse; tape_is = refl }))
 
-all_read_all : (c : Cluster) (events : List Happening) → CanStart c → AllReadAll c events
-all_read_all c [] can = reads_all c [] can
-all_read_all c (one ∷ earlier) can = (all_read_all c earlier can, reads_all c (one ∷ earlier) can)
-
-joint : (c : Cluster) (events : List Happening) → CanStart c → HoldsSettled c (stood c events)
-joint c events can = subst (HoldsSettled c) (turned c events []) (run_joint c built_in (in_turn events []) can.served.few (cells_few c.cells can.served.cells))
+-- and what was settled
+holds_settled : (c : Cluster) (events : List Happening) → CanStart c → HoldsSettled c (stood c events)
+holds_settled c events can = subst (HoldsSettled c) (turned c events []) (run_joint c built_in (in_turn events []) can.served.few (cells_few c.cells can.served.cells))
 
 calm_complete : (c : Cluster) (events : List Happening) → CanStart c → Fits (usage c.schema) (in_turn events []) → IsCalmComplete c built_in by_fuse (stood c events)
 calm_complete c events can fits =
@@ -110,8 +112,8 @@ replayed c lines events can happen held =
       causes = run_caused c (in_turn events []) tape run fits;
       indexed = indexed c (usage c.schema) tape writes declared values;
       rows = rows_fit c (usage c.schema) tape writes declared values;
-      local = all_read_all c events can;
-      joint = joint c events can;
+      local = throughout c (ReadsAll c) (λ before. reads_all c before can) events;
+      joint = throughout c (HoldsSettled c) (λ before. holds_settled c before can) events;
       fresh = run_is_fresh c (usage c.schema) built_in (in_turn events []) tape can.served.few (cells_few c.cells can.served.cells) run fits;
       settled = run_settled c (usage c.schema) built_in (in_turn events []) tape run fits;
       leased = run_leased c built_in (in_turn events []) tape can.served.few run;

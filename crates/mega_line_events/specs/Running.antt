@@ -74,10 +74,10 @@ HoldsSettled c now =
     is_unsafe now.tape ≡ false → (node : ℕ) → is_full c node ≡ true → is_up (now.node node).met ≡ true → (group : GroupId) → valid_at c (now.node node).met group ≡ true
     → (n : Position) (entry : Content) → 0 < n.0 → WasCovered c now.tape (record { group = group; position = n }) entry → HasAtLeast now.tape node group n
 
--- so it is before the first of these events, and behind each
-abbrev pub AllReadAll : Cluster → List Happening → Type 0
-AllReadAll c [] = ReadsAll c (stood c [])
-AllReadAll c (one ∷ earlier) = AllReadAll c earlier × ReadsAll c (stood c (one ∷ earlier))
+-- the cluster stands so before the first of these events, and behind each
+abbrev pub Throughout : (Standing → Type 0) → Cluster → List Happening → Type 0
+Throughout Holds c [] = Holds (stood c [])
+Throughout Holds c (one ∷ earlier) = Throughout Holds c earlier × Holds (stood c (one ∷ earlier))
 
 -- the text of these items, oldest first, tells them: no others that are read back from their lines have it
 abbrev pub IsTold : Schema → List Item → Type 0
@@ -101,8 +101,8 @@ pub record Replayed (c : Cluster) (lines : List (List ℕ)) (events : List Happe
   pub causes : HaveCauses c (stood c events).tape
   pub indexed : (group : GroupId) (p : ℕ) → IsIndexed c.schema group (list_after (take p (log_of (stood c events).tape group)) [])
   pub rows : (group : GroupId) (p : ℕ) → AreRows c.schema group (list_after (take p (log_of (stood c events).tape group)) [])
-  pub local : AllReadAll c events
-  pub joint : HoldsSettled c (stood c events)
+  pub local : Throughout (ReadsAll c) c events
+  pub joint : Throughout (HoldsSettled c) c events
   pub fresh : IsFresh c (meaning_in c.schema) (stood c events).tape
   pub settled : AreSettled c (stood c events).tape
   pub leased : AreLeased c (stood c events).tape
