@@ -67,8 +67,6 @@ use Rattle.mega_cause_laws.proofs.of_run_laws.Written.{Unproposed}
 use Rattle.mega_cause_laws.proofs.of_run_laws.Whole.{in_left}
 use Rattle.mega_answer_laws.proofs.Acts.{AllActed, AtOnce, Began, Never, Opens, Outs, Spoken as SpokenIn, acted, all_heard, all_ticked, answered, begun_as, found_applied, found_globally, found_stored, read_applied, read_stored, refreshed, refused}
 use Rattle.mega_answer_laws.proofs.Reasons.{IsMet, Within}
-use Rattle.mega_answer_laws.specs.Answered.{is_placing}
-use Rattle.mega_answer_laws.proofs.Placing.{once_placed}
 use Rattle.mega_answer_laws.proofs.Notes.{applied_rest, applies_applied, decision_quiet, lapses_quiet, lease_quiet, quiet_rest, told_quiet}
 use Rattle.mega_answer_laws.proofs.Nothing.{marks_within}
 use Rattle.mega_answer_laws.proofs.Once.{Moment, once_cause}
@@ -402,13 +400,6 @@ module _ (c : Cluster) (usage : Usage) (h : Meanings) (now : Standing) (me : ℕ
         by marks is (inl k) = let unknown = k.0 in cc
         by marks is (inr k) = let timed = k.0 in cc
 
-    out_placed : (op : OpId) (request : Request) (began : ℕ) (answer : Answer) → Out op request began answer → is_placing answer ≡ false
-    out_placed op request began answer out = by out.why
-      where
-        by : ((answer ≡ answers.Unknown) × HasProposed tick_tape op) ⊎ ((answer ≡ answers.TimedOut) × (HasProposed tick_tape op → ⊥)) → is_placing answer ≡ false
-        by (inl k) = ap is_placing k.0
-        by (inr k) = ap is_placing k.0
-
     module _ (lawful : LawfulAnswers c usage (end_of c nodes' me now.tape (TickItem (number me) clock) (step s (now.node me) (Tick clock))))
         (known : KnowsAll me (step s (now.node me) (Tick clock)).node.met (end_of c nodes' me now.tape (TickItem (number me) clock) (step s (now.node me) (Tick clock)))) where
       tick_fit : Fit c usage h me now.tape now.node nodes' tick_parts tick_all.k Out tick_first count
@@ -449,7 +440,7 @@ module _ (c : Cluster) (usage : Usage) (h : Meanings) (now : Standing) (me : ℕ
               (is_out_on, λ p. k.1 (record { number = p.number; to = p.to; group = p.group; n = p.n; own = p.own; is_own = p.is_own; stands = a.unsent _ _ p.stands }))
 
       pub tick_told : Stepped c usage h now.tape now.node me (step s (now.node me) (Tick clock)).node (end_of c nodes' me now.tape (TickItem (number me) clock) (step s (now.node me) (Tick clock)))
-      tick_told = finish tick_parts tick_all.k Out tick_first tick_fit (caused_by c usage h me now.tape now.node nodes' tick_parts tick_all.k Out tick_first count tick_fit out_cause out_placed) (λ v x apart is. tt)
+      tick_told = finish tick_parts tick_all.k Out tick_first tick_fit (caused_by c usage h me now.tape now.node nodes' tick_parts tick_all.k Out tick_first count tick_fit out_cause) (λ v x apart is. tt)
 
   -- ---- a message that is taken
 
@@ -560,7 +551,7 @@ module _ (c : Cluster) (usage : Usage) (h : Meanings) (now : Standing) (me : ℕ
       pub taken_told : LawfulAnswers c usage (end_of c nodes' me now.tape (Taken j) take_made) → KnowsAll me take_made.node.met (end_of c nodes' me now.tape (Taken j) take_made)
           → Stepped c usage h now.tape now.node me take_made.node (end_of c nodes' me now.tape (Taken j) take_made)
       taken_told lawful known = finish take_parts take_all.k Never take_first fit
-          (caused_by c usage h me now.tape now.node nodes' take_parts take_all.k Never take_first count fit (λ before a op request began answer of never. absurd never) (λ op request began answer never. absurd never)) (λ v x apart is. tt)
+          (caused_by c usage h me now.tape now.node nodes' take_parts take_all.k Never take_first count fit (λ before a op request began answer of never. absurd never)) (λ v x apart is. tt)
         where
           fit : Fit c usage h me now.tape now.node nodes' take_parts take_all.k Never take_first count
           fit = record {
@@ -796,7 +787,7 @@ module _ (c : Cluster) (usage : Usage) (h : Meanings) (now : Standing) (me : ℕ
             → Began s begin_base node.stored BeginOf BeginSpoke node begin id (clock_of node.met) (begin_acting Never) request acc
             → Stepped c usage h now.tape now.node me (begin_made acc).node (end_of c nodes' me now.tape (BeginItem id text) (begin_made acc))
         by acc l k (acted a) = begin_finish acc Never a (said_marks a.answers) l k
-            (caused_by c usage h me now.tape now.node nodes' (begin_parts acc) (id.number + 1) Never node.stored count (begin_fit acc Never a (said_marks a.answers) l k) (λ before amid op asked began answer of never. absurd never) (λ op asked began answer never. absurd never))
+            (caused_by c usage h me now.tape now.node nodes' (begin_parts acc) (id.number + 1) Never node.stored count (begin_fit acc Never a (said_marks a.answers) l k) (λ before amid op asked began answer of never. absurd never))
           where
             said_marks : Each (SaidBelow s begin_base node.stored BeginOf BeginSpoke Never (id.number + 1)) acc.answers → Each (NoteMarks begin_base) acc.answers
             said_marks said = each_on (SaidBelow s begin_base node.stored BeginOf BeginSpoke Never (id.number + 1)) (NoteMarks begin_base)
@@ -808,14 +799,11 @@ module _ (c : Cluster) (usage : Usage) (h : Meanings) (now : Standing) (me : ℕ
             at_once : (given : Answer) → AtOnce s node begin request given → LawfulAnswers c usage (end_of c nodes' me now.tape (BeginItem id text) (begin_made (ends begin id given)))
                 → KnowsAll me (begin_made (ends begin id given)).node.met (end_of c nodes' me now.tape (BeginItem id text) (begin_made (ends begin id given)))
                 → Stepped c usage h now.tape now.node me (begin_made (ends begin id given)).node (end_of c nodes' me now.tape (BeginItem id text) (begin_made (ends begin id given)))
-            at_once given why' l' k' = begin_finish (ends begin id given) Any ended marks l' k' (since_more (Caused c usage h) there there (AnswerItem id given) (since_none (Caused c usage h) there) (
-              record {
-                request = request;
-                asked = (beside_mid c usage h me now.tape now.node nodes' (begin_parts (ends begin id given)) (id.number + 1) Any node.stored count fit me id).asked usage.meaning ∙ own_of.asked;
-                cause = once_cause c h me node text id refl there (moment (ends begin id given) Any ended marks l' k' refl refl) is_here request given why';
-              },
-              λ placing. (let none : false ≡ true = sym (once_placed s node begin request given why') ∙ placing in cc),
-            ))
+            at_once given why' l' k' = begin_finish (ends begin id given) Any ended marks l' k' (since_more (Caused c usage h) there there (AnswerItem id given) (since_none (Caused c usage h) there) (record {
+              request = request;
+              asked = (beside_mid c usage h me now.tape now.node nodes' (begin_parts (ends begin id given)) (id.number + 1) Any node.stored count fit me id).asked usage.meaning ∙ own_of.asked;
+              cause = once_cause c h me node text id refl there (moment (ends begin id given) Any ended marks l' k' refl refl) is_here request given why';
+            }))
               where
                 ended : Acting s begin_base node.stored BeginOf BeginSpoke Any (id.number + 1) (ends begin id given)
                 ended = ends_at s begin_base node.stored BeginOf BeginSpoke Any begin id request (clock_of node.met) given (begin_acting Any) own_of (inr tt)

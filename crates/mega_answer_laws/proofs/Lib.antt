@@ -9,7 +9,6 @@ pub mod Notes
 pub mod Causes
 pub mod Acts
 pub mod Once
-pub mod Placing
 pub mod OnTape
 pub mod Steps
 pub mod Events

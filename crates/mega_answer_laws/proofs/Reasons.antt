@@ -1,5 +1,5 @@
 -- What a node knows where it answers: the cause of an answer over the logs that the node decided.
-use Rattle.std.proofs.Common.{◌≡◌, ℕ, ◌≤◌, true, false, List, [], ◌∷◌, take, Some, None}
+use Rattle.std.proofs.Common.{◌≡◌, ℕ, ◌≤◌, false, List, [], ◌∷◌, take, Some, None}
 use Rattle.mega_base.specs.declared.names.GroupId.{GroupId}
 use Rattle.mega_base.specs.declared.names.OpId.{OpId}
 use Rattle.mega_base.specs.declared.names.Position.{Position}
@@ -14,7 +14,7 @@ use Rattle.mega_outcome.specs.declared.request.ReadRequest.{ReadRequest}
 use Rattle.mega_outcome.specs.declared.request.Request.{Request}
 use Rattle.mega_outcome.specs.declared.request.Request.TheVariants.{Batch as BatchRequest, Find, PumpEnter, PumpHandle, Read as ReadRequested, Refresh, Txn}
 use Rattle.mega_cause_laws.specs.of_run_laws.of_tape_laws.of_promises.Fresh.{find_over, read_over}
-use Rattle.mega_cause_laws.specs.of_run_laws.of_tape_laws.of_promises.Promises.{group_written, is_write}
+use Rattle.mega_cause_laws.specs.of_run_laws.of_tape_laws.of_promises.Promises.{MayPropose}
 use Rattle.mega_cause_laws.specs.of_run_laws.of_tape_laws.of_promises.of_rules.Logs.{log_of, prefix_of}
 use Rattle.mega_cause_laws.specs.of_run_laws.of_tape_laws.of_promises.of_rules.Met.{Met}
 use Rattle.mega_cause_laws.specs.of_run_laws.of_tape_laws.of_promises.of_rules.Queues.{Log, next_to_enter, next_to_handle}
@@ -26,7 +26,7 @@ At base group Shows = (p : ℕ) × (p ≤ prefix_of base group) × Shows p (take
 
 -- the log has reached its limit
 abbrev pub FullAt : Setting → List Met → Request → Position → Type 0
-FullAt s base request n = ((s.cluster.limit).0 ≤ n.0) × (group : GroupId) × (n.0 ≤ prefix_of base group) × (is_write request ≡ true → group_written request ≡ Some group)
+FullAt s base request n = ((s.cluster.limit).0 ≤ n.0) × (group : GroupId) × (n.0 ≤ prefix_of base group) × MayPropose request group
 
 -- there is nothing in the logs through marks
 abbrev pub log_at : List Met → Mark → Log

@@ -298,7 +298,6 @@ module _ (c : Cluster) (usage : Usage) (first : Meanings) (cuts : Cuts) where
     behind = a.behind;
     stood = a.stood;
     cause = a.cause;
-    kind = a.kind;
   }
 
   -- one event more
@@ -316,8 +315,7 @@ module _ (c : Cluster) (usage : Usage) (first : Meanings) (cuts : Cuts) where
         more = new.0;
         behind = new.1 ∙ ap (λ (at : Standing). new.0 ++ at.tape) is;
         stood = subst (λ (at : Standing). StoodOn (AnswerItem op answer) before at.tape) then stood;
-        cause = (new.2).0;
-        kind = (new.2).1;
+        cause = new.2;
       }
 
   all_answered : (events past : List Happening) (now : Standing) → now ≡ goes_on c cuts (opening c first) past → Fits usage events → Good (those_of usage) c now → AllTold c now → AllAnswered past now.tape

@@ -42,8 +42,6 @@ use Rattle.mega_cause_laws.proofs.of_run_laws.Stepping.{OtherThan}
 use Rattle.mega_cause_laws.proofs.of_run_laws.Turns.{IsApart, each_on}
 use Rattle.mega_answer_laws.proofs.Applied.{applied_rises, apply_told}
 use Rattle.mega_answer_laws.proofs.Causes.{Knowing, cause_met}
-use Rattle.mega_answer_laws.specs.Answered.{is_placing, may_propose}
-use Rattle.mega_answer_laws.proofs.Placing.{met_kind}
 use Rattle.mega_answer_laws.proofs.Reasons.{IsMet, Within}
 use Rattle.mega_answer_laws.proofs.Notes.{IsApplied, IsQuiet, applied_leaves, applied_mine, applied_silent, quiet_applied, quiet_leaves, quiet_mine, quiet_silent, valid_quiet}
 use Rattle.mega_answer_laws.proofs.Ops.{Beside, Leaves, beside_then, notes_beside, notes_unsent, sends_beside, stands_among}
@@ -94,7 +92,7 @@ pub record OwnTold (me : ℕ) (tape : List Item) (item : Item) (own : Met) : Typ
 
 -- what is answered has its cause
 abbrev pub Caused : Cluster → Usage → Meanings → List Item → OpId → Answer → Type 0
-Caused c usage h before op answer = (has : HasCause c usage.meaning h before op answer) × (is_placing answer ≡ true → may_propose has.request ≡ true)
+Caused c usage h before op answer = HasCause c usage.meaning h before op answer
 
 abbrev pub Given : (OpId → Answer → Type 0) → Met → Type 0
 Given Q (Answers op answer) = Q op answer
@@ -309,8 +307,8 @@ module _ (c : Cluster) (usage : Usage) (h : Meanings) (me : ℕ) (tape : List It
 
     -- with causes of answers that are given where an operation does not act
     pub caused_by : ((before : List Item) → Amid before → (op : OpId) (request : Request) (began : ℕ) (answer : Answer) → Of op request began → Other op request began answer → IsCause c h before op request answer)
-        → ((op : OpId) (request : Request) (began : ℕ) (answer : Answer) → Other op request began answer → is_placing answer ≡ false) → Since (Caused c usage h) mid (with_answers c nodes' me s.acc.answers mid)
-    caused_by other never = answers_since c usage h nodes' me Amid Q one amid_on s.acc.answers mid (given s.acc.answers f.acting.answers) amid_first lawful_noted
+        → Since (Caused c usage h) mid (with_answers c nodes' me s.acc.answers mid)
+    caused_by other = answers_since c usage h nodes' me Amid Q one amid_on s.acc.answers mid (given s.acc.answers f.acting.answers) amid_first lawful_noted
       where
         given : (answers : List Met) → Each SaidAt answers → Each (Given Q) answers
         given [] said = tt
@@ -318,7 +316,7 @@ module _ (c : Cluster) (usage : Usage) (h : Meanings) (me : ℕ) (tape : List It
         given (_ ∷ answers) said = absurd said.0
 
         one : (before : List Item) (op : OpId) (answer : Answer) → Amid before → Q op answer → LawfulAnswers c usage (AnswerItem op answer ∷ before) → Caused c usage h before op answer
-        one before op answer a said l = (record { request = said.request; asked = asked; cause = by said.cause }, kind said.cause)
+        one before op answer a said l = record { request = said.request; asked = asked; cause = by said.cause }
           where
             asked : asked_for usage.meaning before op ≡ Some said.request
             asked = a.asked op ∙ (said.of).asked
@@ -326,10 +324,6 @@ module _ (c : Cluster) (usage : Usage) (h : Meanings) (me : ℕ) (tape : List It
             by : IsMet (setting c h me) base op said.request answer ⊎ Other op said.request said.began answer → IsCause c h before op said.request answer
             by (inl met) = cause_met c usage h me base before a.knowing op answer l said.request asked met
             by (inr why) = other before a op said.request said.began answer said.of why
-
-            kind : IsMet (setting c h me) base op said.request answer ⊎ Other op said.request said.began answer → is_placing answer ≡ true → may_propose said.request ≡ true
-            kind (inl met) placing = met_kind (setting c h me) base op said.request answer met placing
-            kind (inr why) placing = let none : false ≡ true = sym (never op said.request said.began answer why) ∙ placing in cc
 
     -- ---- the whole step on the tape
 

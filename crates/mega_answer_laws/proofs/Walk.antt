@@ -27,7 +27,7 @@ use Rattle.mega_outcome.specs.declared.transaction.RowRef.{RowRef}
 use Rattle.mega_outcome.specs.Outcome.{batch_outcome, entry_of_batch, entry_of_done, outcome}
 use Rattle.mega_outcome.specs.Reads.{all_rows, read_rows}
 use Rattle.mega_cause_laws.specs.of_run_laws.of_tape_laws.of_promises.Fresh.{read_over}
-use Rattle.mega_cause_laws.specs.of_run_laws.of_tape_laws.of_promises.Promises.{group_written, is_write, rows_shown}
+use Rattle.mega_cause_laws.specs.of_run_laws.of_tape_laws.of_promises.Promises.{MayPropose, rows_shown}
 use Rattle.mega_cause_laws.specs.of_run_laws.of_tape_laws.of_promises.of_rules.of_read.of_propose.Rounds.{asks}
 use Rattle.mega_cause_laws.specs.of_run_laws.of_tape_laws.of_promises.of_rules.of_read.declared.reading.Reading.{Reading}
 use Rattle.mega_cause_laws.specs.of_run_laws.of_tape_laws.of_promises.of_rules.of_read.declared.reading.Stage.{Stage}
@@ -408,8 +408,8 @@ module _ (s : Setting) (base : List Met) (first : GroupId → ℕ) (Of : OpId �
     abbrev one : Request → Phase → Operation
     one request phase = record { id = id; request = request; began = began; visited = visited; message = message; phase = phase }
 
-    full_met : (now : Now) (request : Request) (group : GroupId) (r : Reading) (p : ℕ) → p ≤ prefix_of now.met group → Turn now (one request (Reads group r)) → (is_write request ≡ true → group_written request ≡ Some group)
-        → nat_le (s.cluster.limit).0 p ≡ true → FullAt s base request (record { 0 = p })
+    full_met : (now : Now) (request : Request) (group : GroupId) (r : Reading) (p : ℕ) → p ≤ prefix_of now.met group → Turn now (one request (Reads group r)) → MayPropose request group → nat_le (s.cluster.limit).0 p ≡ true
+        → FullAt s base request (record { 0 = p })
     full_met now request group r p le t home full = (le_is (s.cluster.limit).0 p full, group, subst (λ n. p ≤ n) ((t.acting).same.prefixes group) le, home)
 
     unless_full_it : (now : Now) (request : Request) (group : GroupId) (r : Reading) (p : ℕ) (next : Next) → Turn now (one request (Reads group r)) → (nat_le (s.cluster.limit).0 p ≡ true → IsMet s base id request (LogFull (record { 0 = p })))
@@ -434,10 +434,10 @@ module _ (s : Setting) (base : List Met) (first : GroupId → ℕ) (Of : OpId �
 
     finishes_by : (now : Now) (request : Request) (group : GroupId) (r : Reading) (p : ℕ) → p ≤ prefix_of now.met group → Turn now (one request (Reads group r)) → Leads id (finishes s now (one request (Reads group r)) group r p)
     finishes_by now (Txn transaction) group r p le t =
-        unless_full_it now (Txn transaction) group r p _ t (full_met now (Txn transaction) group r p le t (λ is. ap Some t.sound))
+        unless_full_it now (Txn transaction) group r p _ t (full_met now (Txn transaction) group r p le t (ap Some t.sound))
         (sealed_it now (Txn transaction) group r p (outcome s.cluster.schema transaction (rows_at now group p)) t (λ turn. tt) (λ done. tt))
     finishes_by now (BatchRequest own transactions) group r p le t =
-        unless_full_it now (BatchRequest own transactions) group r p _ t (full_met now (BatchRequest own transactions) group r p le t (λ is. ap Some t.sound))
+        unless_full_it now (BatchRequest own transactions) group r p _ t (full_met now (BatchRequest own transactions) group r p le t (ap Some t.sound))
         (either id (list_any is_ok (batch_outcome s.cluster.schema own transactions (rows_at now group p)).results) _ _
         (proposes_it now (one (BatchRequest own transactions) (Reads group r)) group r p (entry_of_batch id (batch_outcome s.cluster.schema own transactions (rows_at now group p))) (Results (batch_outcome s.cluster.schema own transactions (rows_at now group p)).results) t refl tt)
         (ends_it now (one (BatchRequest own transactions) (Reads group r)) (AllTurned (batch_outcome s.cluster.schema own transactions (rows_at now group p)).results) t tt))
@@ -450,8 +450,8 @@ module _ (s : Setting) (base : List Met) (first : GroupId → ℕ) (Of : OpId �
     finishes_by now (Find request) group r p le t =
         ends_it now (one (Find request) (Reads group r)) (local_found s.cluster.schema request p (listed_at now group p)) t
         (t.sound.1, group, t.sound.0, (p, subst (λ n. p ≤ n) ((t.acting).same.prefixes group) le, ap (λ log. local_found s.cluster.schema request p (list_after (take p log) [])) (sym ((t.acting).same.logs group))))
-    finishes_by now PumpEnter group r p le t = unless_full_it now PumpEnter group r p _ t (full_met now PumpEnter group r p le t (λ is. cc)) (enters_it now group r p message t)
-    finishes_by now PumpHandle group r p le t = unless_full_it now PumpHandle group r p _ t (full_met now PumpHandle group r p le t (λ is. cc)) (handles_it now group r p (oldest_unhandled (take p (log_of now.met group))) t)
+    finishes_by now PumpEnter group r p le t = unless_full_it now PumpEnter group r p _ t (full_met now PumpEnter group r p le t tt) (enters_it now group r p message t)
+    finishes_by now PumpHandle group r p le t = unless_full_it now PumpHandle group r p _ t (full_met now PumpHandle group r p le t tt) (handles_it now group r p (oldest_unhandled (take p (log_of now.met group))) t)
     finishes_by now Refresh group r p le t = absurd t.sound
 
     reads_on_by : (now : Now) (request : Request) (group : GroupId) (noted : Option Epoch) (asked : List ℕ) (stage : Stage) → Turn now (one request (Reads group (record { noted = noted; asked = asked; stage = stage })))

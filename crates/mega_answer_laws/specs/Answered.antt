@@ -1,12 +1,10 @@
 -- Where a run answers an operation: in one of its events, under the handlers that are there then, and with its cause on the tape before.
-use Rattle.std.specs.Prelude.{◌≡◌, ℕ, Bool, true, false, List, [], ◌∷◌, ◌++◌, Option}
+use Rattle.std.specs.Prelude.{◌≡◌, ℕ, List, [], ◌∷◌, ◌++◌, Option}
 use Rattle.mega_base.specs.declared.names.OpId.{OpId}
 use Rattle.mega_cluster.specs.declared.cluster.Cluster.{Cluster}
 use Rattle.mega_handler.specs.Named.{Meanings}
 use Rattle.mega_outcome.specs.declared.answer.Answer.{Answer}
-use Rattle.mega_outcome.specs.declared.answer.Answer.TheVariants.{Conflict, LogFull}
 use Rattle.mega_outcome.specs.declared.request.Request.{Request}
-use Rattle.mega_outcome.specs.declared.request.Request.TheVariants.{Batch, Find, PumpEnter, PumpHandle, Read, Refresh, Txn}
 use Rattle.mega_cause_laws.specs.of_run_laws.of_tape_laws.of_promises.of_transcript.declared.item.Item.{Item}
 use Rattle.mega_cause_laws.specs.of_run_laws.of_tape_laws.of_promises.of_transcript.declared.item.Item.TheVariants.{Answer as AnswerItem}
 use Rattle.mega_cause_laws.specs.of_run_laws.of_tape_laws.of_promises.Causes.{HasCause}
@@ -16,21 +14,6 @@ use Rattle.mega_cause_laws.specs.of_run_laws.of_tape_laws.of_promises.Runs.{Cuts
 -- the tape of a run after these events
 abbrev pub tape_after : Cluster → Meanings → Cuts → List Happening → List Item
 tape_after c first cuts events = (goes_on c cuts (opening c first) events).tape
-
--- answers of operations that are to propose an entry, and the requests for them
-abbrev pub is_placing : Answer → Bool
-is_placing (Conflict position other) = true
-is_placing (LogFull position) = true
-is_placing _ = false
-
-abbrev pub may_propose : Request → Bool
-may_propose (Txn transaction) = true
-may_propose (Batch group transactions) = true
-may_propose PumpEnter = true
-may_propose PumpHandle = true
-may_propose (Read request) = false
-may_propose (Find request) = false
-may_propose Refresh = false
 
 -- an answer is given in an event: the tape before the event is a part of the one before the answer, which stands on the tape behind the event
 pub record IsAnswered (c : Cluster) (meaning : List ℕ → Option Request) (first : Meanings) (cuts : Cuts) (events : List Happening) (before : List Item) (op : OpId) (answer : Answer) : Type 0 where
@@ -42,4 +25,3 @@ pub record IsAnswered (c : Cluster) (meaning : List ℕ → Option Request) (fir
   pub behind : before ≡ more ++ tape_after c first cuts past
   pub stood : StoodOn (AnswerItem op answer) before (tape_after c first cuts (past ++ event ∷ []))
   pub cause : HasCause c meaning event.handlers before op answer
-  pub kind : is_placing answer ≡ true → may_propose cause.request ≡ true

@@ -1,5 +1,5 @@
 -- A lawful answer that its group's log tells has its cause.
-use Rattle.std.proofs.Common.{◌≡◌, ◌≢◌, ℕ, suc, ◌-◌, ◌≤◌, true, false, List, [], ◌∷◌, ◌++◌, length, take, Option, Some, Result, Err, sym, ap, ◌∙◌, subst, arith}
+use Rattle.std.proofs.Common.{◌≡◌, ◌≢◌, ℕ, suc, ◌-◌, ◌≤◌, true, false, List, [], ◌∷◌, ◌++◌, length, take, Option, Some, Result, Err, refl, sym, ap, ◌∙◌, subst, arith}
 use Rattle.mega_base.specs.declared.names.GroupId.{GroupId}
 use Rattle.mega_base.specs.declared.names.OpId.{OpId}
 use Rattle.mega_base.specs.declared.names.Position.{Position}
@@ -25,7 +25,7 @@ use Rattle.mega_run_laws.specs.of_tape_laws.of_promises.of_rules.Acting.{rows_an
 use Rattle.mega_run_laws.specs.of_tape_laws.of_promises.of_rules.Steps.{is_current}
 use Rattle.mega_run_laws.specs.of_tape_laws.of_promises.Causes.{AreTurned, HasCause, HasReplies, HasResults, IsCause, IsTurned, ShowsRead, front}
 use Rattle.mega_run_laws.specs.of_tape_laws.of_promises.Moments.{StoodOn}
-use Rattle.mega_run_laws.specs.of_tape_laws.of_promises.Promises.{Stands, asked_for, group_written, is_write, log_of, rows_shown}
+use Rattle.mega_run_laws.specs.of_tape_laws.of_promises.Promises.{MayPropose, Stands, asked_for, group_written, is_write, log_of, rows_shown}
 use Rattle.mega_run_laws.specs.of_tape_laws.of_promises.Runs.{Happening, IsRun}
 use Rattle.mega_run_laws.specs.of_tape_laws.Answers.{AreAnswered, HasCause as IsLawful, LawfulAnswers, MayCommitAll, MayConflict, MayRead, MayTurn, MayTurnAll, Replied, ShowsFront, of_pump, of_read, of_transaction, of_write}
 use Rattle.mega_run_laws.specs.of_tape_laws.Lawful.{Lawful}
@@ -33,7 +33,7 @@ use Rattle.mega_run_laws.specs.of_tape_laws.Writes.{IsFront, Usage}
 use Rattle.mega_run_laws.proofs.of_tape_laws.Complete.{known_is_front}
 use Rattle.mega_run_laws.specs.Usages.{Fits}
 use Rattle.mega_run_laws.proofs.Runs.{run_answered}
-use Rattle.mega_cause_laws.specs.LogTells.{is_told}
+use Rattle.mega_cause_laws.specs.LogTells.{is_proposing, is_told}
 use Rattle.mega_run_laws.proofs.of_tape_laws.Earlier.{lawful_before}
 
 abbrev Replies : Type 0
@@ -79,7 +79,17 @@ no_write Refresh transaction same is = cc
 -- another entry is decided where the operation proposed
 abbrev IsConflict : List Item → OpId → Request → Position → Option OpId → Type 0
 IsConflict tape op request n other =
-    (group : GroupId) × (entry : Content) × Stands (Decide op.node group n entry) tape × (entry.id ≡ other) × (other ≢ Some op) × (is_write request ≡ true → group_written request ≡ Some group)
+    (group : GroupId) × (entry : Content) × Stands (Decide op.node group n entry) tape × (entry.id ≡ other) × (other ≢ Some op) × MayPropose request group
+
+-- it proposed in its own group
+proposes_in : (request : Request) (group : GroupId) → is_proposing request ≡ true → (is_write request ≡ true → group_written request ≡ Some group) → MayPropose request group
+proposes_in (Txn transaction) group may home = home refl
+proposes_in (BatchRequest own transactions) group may home = home refl
+proposes_in (ReadRequested request) group may home = cc
+proposes_in (Find request) group may home = cc
+proposes_in PumpEnter group may home = tt
+proposes_in PumpHandle group may home = tt
+proposes_in Refresh group may home = cc
 
 module _ (c : Cluster) (usage : Usage) (tape : List Item) (l : Lawful c tape) (op : OpId) where
   replied : (transaction : Transaction) → asked_for usage.meaning tape op ≡ Some (Txn transaction) → (group : GroupId) (n : Position) (replies : Replies) → Replied c.schema usage tape op group n replies
@@ -109,10 +119,11 @@ module _ (c : Cluster) (usage : Usage) (tape : List Item) (l : Lawful c tape) (o
   shows_front request p rows Snapshot current h = cc
   shows_front request p rows Inconsistent current h = cc
 
-  conflicts : (request : Request) → asked_for usage.meaning tape op ≡ Some request → (n : Position) (other : Option OpId) → MayConflict usage tape op n other → IsConflict tape op request n other
-  conflicts request asked n other may =
-      subst (λ (r : Request). IsConflict tape op r n other) (request_is may.request request (sym may.asked ∙ asked))
-      (may.group, may.entry, may.stands, may.names, may.others, may.home)
+  conflicts : (request : Request) → asked_for usage.meaning tape op ≡ Some request → is_proposing request ≡ true → (n : Position) (other : Option OpId) → MayConflict usage tape op n other → IsConflict tape op request n other
+  conflicts request asked told n other may = (may.group, may.entry, may.stands, may.names, may.others, proposes_in request may.group told home)
+    where
+      home : is_write request ≡ true → group_written request ≡ Some may.group
+      home = subst (λ (r : Request). is_write r ≡ true → group_written r ≡ Some may.group) (request_is may.request request (sym may.asked ∙ asked)) may.home
 
   batched : (own : GroupId) (transactions : List Transaction) → asked_for usage.meaning tape op ≡ Some (BatchRequest own transactions) → (n : Position) (results : Results) (may : MayCommitAll c.schema usage tape op n results)
       → HasResults c tape (BatchRequest own transactions) may.group n results
@@ -170,7 +181,7 @@ module _ (c : Cluster) (usage : Usage) (tape : List Item) (l : Lawful c tape) (o
   cause_of h (answers.Read p rows) PumpEnter asked told may = cc
   cause_of h (answers.Read p rows) PumpHandle asked told may = cc
   cause_of h (answers.Read p rows) Refresh asked told may = cc
-  cause_of h (answers.Conflict n other) request asked told may = conflicts request asked n other may
+  cause_of h (answers.Conflict n other) request asked told may = conflicts request asked told n other may
   cause_of h answers.Unknown request asked told may = cc
   cause_of h answers.TimedOut request asked told may = cc
   cause_of h (answers.Found marks rows) request asked told may = cc

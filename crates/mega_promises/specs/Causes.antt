@@ -35,7 +35,7 @@ use Rattle.mega_rules.specs.Queues.{Log, next_to_enter, next_to_handle}
 use Rattle.mega_rules.specs.Steps.{missing_kind}
 use Rattle.mega_promises.specs.Fresh.{find_over, proposes, read_over}
 use Rattle.mega_promises.specs.Moments.{StoodOn, applied_on, began_on, begun_on, clock_on, open_on, refreshed_on}
-use Rattle.mega_promises.specs.Promises.{Stands, asked_for, group_written, is_write, log_of}
+use Rattle.mega_promises.specs.Promises.{MayPropose, Stands, asked_for, log_of}
 use Rattle.mega_promises.specs.Runs.{setting}
 
 -- ---- what reads and finds show
@@ -147,7 +147,7 @@ IsCause c h before op request (Committed n replies) =
 IsCause c h before op request (Batched n results) =
     (group : GroupId) × (entry : Content) × Stands (Decide op.node group n entry) before × (entry.id ≡ Some op) × HasResults c before request group n results
 IsCause c h before op request (Conflict n other) =
-    (group : GroupId) × (entry : Content) × Stands (Decide op.node group n entry) before × (entry.id ≡ other) × (other ≢ Some op) × (is_write request ≡ true → group_written request ≡ Some group)
+    (group : GroupId) × (entry : Content) × Stands (Decide op.node group n entry) before × (entry.id ≡ other) × (other ≢ Some op) × MayPropose request group
 IsCause c h before op request (Turned turn) = IsTurned c before op request turn
 IsCause c h before op request (AllTurned results) = AreTurned c before request results
 IsCause c h before op (ReadRequested request) (ReadAnswer p rows) = ShowsRead c before op request request.mode (ReadAnswer p rows)
@@ -155,8 +155,7 @@ IsCause c h before op (Find request) (FoundAnswer marks found) = ShowsFind c bef
 IsCause c h before op request (Refreshed marks) = (request ≡ Refresh) × ((group : GroupId) → marked_at marks group ≡ applied_on before op.node group)
 IsCause c h before op request Unknown = IsOut c before op × HasProposed before op
 IsCause c h before op request TimedOut = IsOut c before op × (HasProposed before op → ⊥)
-IsCause c h before op request (LogFull n) =
-    ((c.limit).0 ≤ n.0) × (group : GroupId) × (n.0 ≤ length (log_of before group)) × (is_write request ≡ true → group_written request ≡ Some group)
+IsCause c h before op request (LogFull n) = ((c.limit).0 ≤ n.0) × (group : GroupId) × (n.0 ≤ length (log_of before group)) × MayPropose request group
 IsCause c h before op request (Busy count) = (count ≡ 64) × (count + 1 ≤ length (open_on before op.node))
 IsCause c h before op request Worn = last_number ≤ begun_on before op.node
 IsCause c h before op request (NotHere kind) = missing_kind request (kind_of c op.node.0) ≡ Some kind

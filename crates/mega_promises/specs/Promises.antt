@@ -90,6 +90,12 @@ is_write (Txn transaction) = true
 is_write (BatchRequest group transactions) = true
 is_write _ = false
 
+-- who may propose an entry in a group: a transaction or a batch in its own, a pump in any
+abbrev pub MayPropose : Request → GroupId → Type 0
+MayPropose PumpEnter group = Unit {0}
+MayPropose PumpHandle group = Unit {0}
+MayPropose request group = group_written request ≡ Some group
+
 -- an operation that was answered so is committed nowhere
 abbrev pub is_negative : Answer → Bool
 is_negative (Committed position replies) = false
