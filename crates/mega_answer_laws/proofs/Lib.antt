@@ -8,6 +8,7 @@ pub mod Since
 pub mod Notes
 pub mod Causes
 pub mod Acts
+pub mod Storing
 pub mod Once
 pub mod OnTape
 pub mod Steps

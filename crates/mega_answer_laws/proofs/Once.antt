@@ -1,11 +1,12 @@
 -- An answer that is given where its operation begins has its cause on the tape.
-use Rattle.std.proofs.Common.{◌≡◌, ℕ, zero, suc, ◌+◌, ◌-◌, ◌≤◌, ◌&&◌, ◌||◌, nat_le, nat_lt, Bool, true, false, cond, List, [], ◌∷◌, ◌++◌, take, drop, length, map, filter_map, flat_map, sum_by, slice_get, Option, Some, None, Result, Ok, Err, refl, sym, ap, ◌∙◌, subst, arith}
+use Rattle.std.proofs.Common.{◌≡◌, ℕ, zero, suc, ◌+◌, ◌-◌, ◌≤◌, ◌&&◌, ◌||◌, nat_le, nat_lt, min, Bool, true, false, cond, List, [], ◌∷◌, ◌++◌, take, drop, length, map, filter_map, flat_map, sum_by, slice_get, Option, Some, None, Result, Ok, Err, refl, sym, ap, ◌∙◌, subst, arith}
 use Rattle.std.proofs.lemmas.Bool.Decides.{nat_tests}
 use Rattle.std.proofs.lemmas.List.{length-take, take-append-drop, take-append-le, take_all}
 use Rattle.std.specs.List.{cons_option}
 use Rattle.std.proofs.lemmas.Option.{same_Some}
 use Rattle.std.proofs.lemmas.Bool.{and_parts}
 use Rattle.mega_base.specs.declared.names.GroupId.{GroupId}
+use Rattle.mega_base.specs.declared.names.NodeId.{NodeId}
 use Rattle.mega_base.specs.declared.names.OpId.{OpId}
 use Rattle.mega_base.specs.declared.values.NodeKind.{NodeKind}
 use Rattle.mega_base.specs.declared.values.NodeKind.TheVariants.{Full, Witness, Read as ReadOnly}
@@ -28,7 +29,10 @@ use Rattle.mega_outcome.specs.declared.request.Request.TheVariants.{Find, Read a
 use Rattle.mega_outcome.specs.declared.transaction.RowRef.{RowRef}
 use Rattle.mega_outcome.specs.Reads.{all_rows, read_rows}
 use Rattle.mega_cause_laws.specs.of_run_laws.of_tape_laws.of_promises.of_rules.of_replica.Applying.{applied, stored_writes, writes_of, writes_through}
+use Rattle.mega_node_laws.proofs.of_replica.Places.{through_later}
+use Rattle.mega_node_laws.proofs.of_replica.Writes.{length_writes}
 use Rattle.mega_node_laws.proofs.of_replica.Writing.{through-cons}
+use Rattle.mega_cause_laws.specs.of_run_laws.of_tape_laws.of_promises.of_transcript.Counts.{prefix_of as prefix_on}
 use Rattle.mega_cause_laws.specs.of_run_laws.of_tape_laws.of_promises.of_transcript.declared.item.Item.{Item}
 use Rattle.mega_cause_laws.specs.of_run_laws.of_tape_laws.of_promises.Causes.{IsCause, ShowsFind, ShowsLocal, ShowsRead, StoresSome, front, global_over, marked_at, rows_through as rows_on}
 use Rattle.mega_cause_laws.specs.of_run_laws.of_tape_laws.of_promises.Fresh.{find_over, read_over}
@@ -52,6 +56,7 @@ use Rattle.mega_answer_laws.proofs.Acts.{AtOnce, found_applied, found_globally, 
 use Rattle.mega_answer_laws.proofs.Applied.{empty_log, has_it}
 use Rattle.mega_answer_laws.proofs.Causes.{Fronts, Knowing, found_cause, fronts, local_cause, read_cause}
 use Rattle.mega_answer_laws.proofs.Reasons.{Within}
+use Rattle.mega_answer_laws.proofs.Storing.{front_bounds, least_of, next_bounds, prefix_shown}
 use Rattle.mega_answer_laws.proofs.Walk.{answer_is}
 
 -- ---- what is stored of a log
@@ -250,9 +255,28 @@ module _ (c : Cluster) (h : Meanings) (me : ℕ) (node : Node) (text : List ℕ)
         stored = node.stored group;
         enough = subst (λ n. writes_through n (log_of before group) ≤ node.stored group) (sym applied_is)
             (subst (λ log. length_of log ≤ node.stored group) through.same (through_le (enough_stored (log_met base group) (node.stored group))));
+        known = least_of (λ n. writes_through n (log_of before group)) (node.stored group) (applied_on before id.node group + 1) (prefix_on before group id.node.0) of_next of_known;
         shows = shows;
       }
         where
+          -- not the whole entry behind those that are applied
+          of_next : node.stored group ≤ writes_through (applied_on before id.node group + 1) (log_of before group)
+          of_next = subst (λ n. node.stored group ≤ writes_through (n + 1) (log_of before group)) (sym applied_is)
+              (let all : node.stored group ≤ writes_through (p + 1) (take (prefix_of base group) (log_of before group))
+              = subst (λ log. node.stored group ≤ writes_through (p + 1) log) log_is (next_bounds (log_met base group) (node.stored group) few) in
+              let fronts_are = front_bounds (prefix_of base group) (p + 1) (log_of before group) in omega (arith, all, fronts_are))
+
+          -- none of an entry that the node had not decided
+          of_known : node.stored group ≤ writes_through (prefix_on before group id.node.0) (log_of before group)
+          of_known =
+              let all : node.stored group ≤ length (writes_of (take (prefix_of base group) (log_of before group))) = subst (λ log. node.stored group ≤ length (writes_of log)) log_is few in
+              let size : length (writes_of (take (prefix_of base group) (log_of before group))) ≡ writes_through (prefix_of base group) (log_of before group) = length_writes (take (prefix_of base group) (log_of before group)) in
+              let more = through_later (prefix_of base group) (prefix_on before group id.node.0) (log_of before group) shown in
+              let counted : node.stored group ≤ writes_through (prefix_of base group) (log_of before group) = omega (arith, all, size) in omega (arith, counted, more)
+            where
+              shown : prefix_of base group ≤ prefix_on before group id.node.0
+              shown = subst (λ n. prefix_of base group ≤ prefix_on before group n) (sym (ap (λ (n : NodeId). n.0) is_mine)) (prefix_shown group me base before (m.knowing).known)
+
           length_of : List Content → ℕ
           length_of log = sum_by (λ (entry : Content). length entry.writes) log
 

@@ -1,5 +1,5 @@
 -- The cause of each answer: what the tape before it shows wherever an operation is answered so.
-use Rattle.std.specs.Prelude.{◌≡◌, ◌≢◌, ℕ, ◌+◌, ◌-◌, ◌≤◌, ◌==◌, Bool, true, false, if◌then◌else◌, List, [], ◌∷◌, take, length, map, flat_map, Option, Some, None, Result, Ok, Err}
+use Rattle.std.specs.Prelude.{◌≡◌, ◌≢◌, ℕ, ◌+◌, ◌-◌, ◌≤◌, ◌==◌, Bool, true, false, if◌then◌else◌, List, [], ◌∷◌, take, length, map, flat_map, min, Option, Some, None, Result, Ok, Err}
 use Rattle.mega_base.specs.declared.names.GroupId.{GroupId}
 use Rattle.mega_base.specs.declared.names.OpId.{OpId}
 use Rattle.mega_base.specs.declared.names.Position.{Position}
@@ -24,6 +24,7 @@ use Rattle.mega_outcome.specs.declared.request.Request.TheVariants.{Batch as Bat
 use Rattle.mega_outcome.specs.declared.transaction.Transaction.{Transaction}
 use Rattle.mega_outcome.specs.Outcome.{batch_outcome, outcome}
 use Rattle.mega_rules.specs.of_replica.Applying.{stored_writes, writes_through}
+use Rattle.mega_transcript.specs.Counts.{prefix_of}
 use Rattle.mega_transcript.specs.declared.item.Item.{Item}
 use Rattle.mega_transcript.specs.declared.item.Item.TheVariants.{Answer as AnswerItem, Decide}
 use Rattle.mega_wal.specs.Same.{same_group, same_op}
@@ -44,30 +45,28 @@ use Rattle.mega_promises.specs.Runs.{setting}
 abbrev pub front : List Item → GroupId → ℕ → List Content
 front before group p = take p (log_of before group)
 
--- writes that are stored: all those of the entries that are applied, and perhaps some more
+-- writes that are stored: all those of the entries that are applied, and perhaps some of the next one, where the node decided it
 pub record StoresSome (before : List Item) (op : OpId) (group : GroupId) (Shows : ℕ → Listed → Type 0) : Type 0 where
   pub stored : ℕ
   pub enough : writes_through (applied_on before op.node group) (log_of before group) ≤ stored
+  pub known : stored ≤ writes_through (min (applied_on before op.node group + 1) (prefix_of before group op.node.0)) (log_of before group)
   pub shows : Shows stored (list_written (stored_writes (log_of before group) stored) [])
 
--- a current read shows the rows at a position that its node decided through, a snapshot those at its node's applied position, and an inconsistent
--- read all that is stored
+-- by its mode a request shows a group at a position of its log, at its node's applied position, or as it is stored there
+abbrev pub ShowsBy : Mode → List Item → OpId → GroupId → (ℕ → List Content → Type 0) → (ℕ → Listed → Type 0) → Type 0
+ShowsBy Current before op group ShowsFront ShowsStored = (p : ℕ) × (p ≤ length (log_of before group)) × ShowsFront p (front before group p)
+ShowsBy Snapshot before op group ShowsFront ShowsStored = ShowsFront (applied_on before op.node group) (front before group (applied_on before op.node group))
+ShowsBy Inconsistent before op group ShowsFront ShowsStored = StoresSome before op group ShowsStored
+
+-- so a read, over rows
 abbrev pub ShowsRead : Cluster → List Item → OpId → ReadRequest → Mode → Answer → Type 0
-ShowsRead c before op request Current answer =
-    (p : ℕ) × (p ≤ length (log_of before request.group)) × (read_over c request p (front before request.group p) ≡ answer)
-ShowsRead c before op request Snapshot answer =
-    read_over c request (applied_on before op.node request.group) (front before request.group (applied_on before op.node request.group)) ≡ answer
-ShowsRead c before op request Inconsistent answer = StoresSome before op request.group (λ stored listed.
+ShowsRead c before op request mode answer = ShowsBy mode before op request.group (λ p log. read_over c request p log ≡ answer) (λ stored listed.
     read_answer (setting c [] 0) request (applied_on before op.node request.group) (written (stored_writes (log_of before request.group) stored) no_rows) listed ≡ answer)
 
 -- so a find in a local index, over the entries that rows have there
 abbrev pub ShowsLocal : Cluster → List Item → OpId → FindRequest → GroupId → Mode → Answer → Type 0
-ShowsLocal c before op request group Current answer =
-    (p : ℕ) × (p ≤ length (log_of before group)) × (find_over c request p (front before group p) ≡ answer)
-ShowsLocal c before op request group Snapshot answer =
-    find_over c request (applied_on before op.node group) (front before group (applied_on before op.node group)) ≡ answer
-ShowsLocal c before op request group Inconsistent answer = StoresSome before op group (λ stored listed.
-    local_found c.schema request (applied_on before op.node group) listed ≡ answer)
+ShowsLocal c before op request group mode answer =
+    ShowsBy mode before op group (λ p log. find_over c request p log ≡ answer) (λ stored listed. local_found c.schema request (applied_on before op.node group) listed ≡ answer)
 
 -- and a find in a global index, over the rows of each group through its mark, by its node's last refresh
 abbrev pub rows_through : List Item → Mark → Listed
