@@ -21,7 +21,7 @@ use Rattle.mega_cause_laws.specs.of_run_laws.of_tape_laws.of_promises.of_rules.S
 use Rattle.mega_wire.specs.declared.message.Message.{Message}
 use Rattle.mega_cause_laws.specs.of_run_laws.Justified.{Each}
 use Rattle.mega_cause_laws.proofs.of_run_laws.Turns.{IsRising}
-use Rattle.mega_answer_laws.proofs.Reasons.{IsSound, SoundReads}
+use Rattle.mega_answer_laws.proofs.Reasons.{IsSound, KeepsRows, SoundReads}
 use Rattle.mega_answer_laws.proofs.Walk.{Acting, acting_sends, acting_up, begins_read_it, ends_at, goes_on_it, picks_group_it, picks_message_it, rests_within_it}
 
 -- ---- acting in turn
@@ -38,28 +38,29 @@ module _ (s : Setting) (base : List Met) (first : GroupId → ℕ) (Of : OpId �
   -- an operation that is open as the step begins
   pub record Opens (o : Operation) : Type 0 where
     pub of : Of o.id o.request o.began
+    pub served : KeepsRows s
     pub sound : IsSound o.request o.phase
     pub spoke : Spoken o.id o.phase
 
-  heard_by : (clock : ℕ) (m : Message) (now : Now) (o : Operation) (phase : Phase) → ActingAt (o.id).number now → Of o.id o.request o.began → IsSound o.request phase → Spoken o.id phase
+  heard_by : (clock : ℕ) (m : Message) (now : Now) (o : Operation) (phase : Phase) → ActingAt (o.id).number now → Of o.id o.request o.began → KeepsRows s → IsSound o.request phase → Spoken o.id phase
       → ActingAt ((o.id).number + 1) (acts_in_turn s now (hears_message s clock m (record { id = o.id; request = o.request; began = o.began; visited = o.visited; message = o.message; phase = phase })))
-  heard_by clock m now o (Reads group r) a of sound spoke =
+  heard_by clock m now o (Reads group r) a of served sound spoke =
       goes_on_it s base first Of Spoke Other (sends_more now (hears (reader_of s o.id group) r m.from clock m.body).sends) (in_phase o (Reads group (hears (reader_of s o.id group) r m.from clock m.body).reading))
-      (record { acting = acting_sends s base first Of Spoke Other (o.id).number now (hears (reader_of s o.id group) r m.from clock m.body).sends a; of = of; sound = sound; spoke = tt })
-  heard_by clock m now o (Proposes group n asked proposal promised) a of sound spoke =
+      (record { acting = acting_sends s base first Of Spoke Other (o.id).number now (hears (reader_of s o.id group) r m.from clock m.body).sends a; of = of; served = served; sound = sound; spoke = tt })
+  heard_by clock m now o (Proposes group n asked proposal promised) a of served sound spoke =
       goes_on_it s base first Of Spoke Other (sends_more now (takes (site (reader_of s o.id group) asked n) proposal m.from clock m.body).sends)
       (in_phase o (Proposes group n asked (takes (site (reader_of s o.id group) asked n) proposal m.from clock m.body).proposal promised))
-      (record { acting = acting_sends s base first Of Spoke Other (o.id).number now (takes (site (reader_of s o.id group) asked n) proposal m.from clock m.body).sends a; of = of; sound = sound; spoke = inl spoke })
+      (record { acting = acting_sends s base first Of Spoke Other (o.id).number now (takes (site (reader_of s o.id group) asked n) proposal m.from clock m.body).sends a; of = of; served = served; sound = sound; spoke = inl spoke })
 
-  due_by : (clock : ℕ) (now : Now) (o : Operation) (phase : Phase) → ActingAt (o.id).number now → Of o.id o.request o.began → IsSound o.request phase → Spoken o.id phase
+  due_by : (clock : ℕ) (now : Now) (o : Operation) (phase : Phase) → ActingAt (o.id).number now → Of o.id o.request o.began → KeepsRows s → IsSound o.request phase → Spoken o.id phase
       → ActingAt ((o.id).number + 1) (acts_in_turn s now (does_due s clock (record { id = o.id; request = o.request; began = o.began; visited = o.visited; message = o.message; phase = phase })))
-  due_by clock now o (Reads group r) a of sound spoke =
+  due_by clock now o (Reads group r) a of served sound spoke =
       goes_on_it s base first Of Spoke Other (sends_more now (falls_due (reader_of s o.id group) r s.cluster.retry clock).sends) (in_phase o (Reads group (falls_due (reader_of s o.id group) r s.cluster.retry clock).reading))
-      (record { acting = acting_sends s base first Of Spoke Other (o.id).number now (falls_due (reader_of s o.id group) r s.cluster.retry clock).sends a; of = of; sound = sound; spoke = tt })
-  due_by clock now o (Proposes group n asked proposal promised) a of sound spoke =
+      (record { acting = acting_sends s base first Of Spoke Other (o.id).number now (falls_due (reader_of s o.id group) r s.cluster.retry clock).sends a; of = of; served = served; sound = sound; spoke = tt })
+  due_by clock now o (Proposes group n asked proposal promised) a of served sound spoke =
       goes_on_it s base first Of Spoke Other (sends_more now (due (site (reader_of s o.id group) asked n) proposal s.cluster.retry clock).sends)
       (in_phase o (Proposes group n asked (due (site (reader_of s o.id group) asked n) proposal s.cluster.retry clock).proposal promised))
-      (record { acting = acting_sends s base first Of Spoke Other (o.id).number now (due (site (reader_of s o.id group) asked n) proposal s.cluster.retry clock).sends a; of = of; sound = sound; spoke = inl spoke })
+      (record { acting = acting_sends s base first Of Spoke Other (o.id).number now (due (site (reader_of s o.id group) asked n) proposal s.cluster.retry clock).sends a; of = of; served = served; sound = sound; spoke = inl spoke })
 
   pub record AllActed (now : Now) : Type 0 where
     pub k : ℕ
@@ -68,7 +69,7 @@ module _ (s : Setting) (base : List Met) (first : GroupId → ℕ) (Of : OpId �
   pub all_heard : (clock : ℕ) (m : Message) (os : List Operation) (k : ℕ) (now : Now) → IsRising k os → Each Opens os → ActingAt k now → AllActed (all_act s now (map (hears_message s clock m) os))
   all_heard clock m [] k now rising opens a = record { k = k; acting = a }
   all_heard clock m (o ∷ os) k now rising opens a = all_heard clock m os ((o.id).number + 1) (acts_in_turn s now (hears_message s clock m o)) rising.1 opens.1
-      (heard_by clock m now o o.phase (acting_up s base first Of Spoke Other k (o.id).number now rising.0 a) (opens.0).of (opens.0).sound (opens.0).spoke)
+      (heard_by clock m now o o.phase (acting_up s base first Of Spoke Other k (o.id).number now rising.0 a) (opens.0).of (opens.0).served (opens.0).sound (opens.0).spoke)
 
   -- at a tick an operation ends where its patience is out
   module _ (clock : ℕ) where
@@ -80,7 +81,7 @@ module _ (s : Setting) (base : List Met) (first : GroupId → ℕ) (Of : OpId �
       where
         by : (t : Bool) → is_out s clock o ≡ t → ActingAt ((o.id).number + 1) (cond t (ends now o.id (last_answer o)) (acts_in_turn s now (does_due s clock o)))
         by true e = ends_at s base first Of Spoke Other now o.id o.request o.began (last_answer o) a opens.of (inr (out e))
-        by false e = due_by clock now o o.phase a opens.of opens.sound opens.spoke
+        by false e = due_by clock now o o.phase a opens.of opens.served opens.sound opens.spoke
 
     pub all_ticked : (os : List Operation) (k : ℕ) (now : Now) → IsRising k os → Each Opens os → Each Outs os → ActingAt k now → AllActed (fold (ticked s clock) now os)
     all_ticked [] k now rising opens outs a = record { k = k; acting = a }
@@ -106,7 +107,8 @@ pub data AtOnce (s : Setting) (node : Node) (begin : Now) (request : Request) (a
 abbrev pub Never : OpId → Request → ℕ → Answer → Type 0
 Never op request began answer = ⊥
 
-module _ (s : Setting) (base : List Met) (first : GroupId → ℕ) (Of : OpId → Request → ℕ → Type 0) (Spoke : OpId → Type 0) (node : Node) (begin : Now) (id : OpId) (clock : ℕ) (a : Acting s base first Of Spoke Never id.number begin) where
+module _ (s : Setting) (base : List Met) (first : GroupId → ℕ) (Of : OpId → Request → ℕ → Type 0) (Spoke : OpId → Type 0) (node : Node) (begin : Now) (id : OpId) (clock : ℕ) (a : Acting s base first Of Spoke Never id.number begin)
+    (serves : (request : Request) → refusal s node request ≡ None → KeepsRows s) where
   -- it acts, or is answered at once
   pub data Began (request : Request) (now : Now) : Type 0 where
     acted : Acting s base first Of Spoke Never (id.number + 1) now → Began request now
@@ -117,7 +119,7 @@ module _ (s : Setting) (base : List Met) (first : GroupId → ℕ) (Of : OpId �
     o = new_operation id request clock
 
     reads_it : (group : GroupId) → SoundReads request group → Acting s base first Of Spoke Never (id.number + 1) (rests_within (length (groups_of begin.met) + 2) s (begins_read s begin o group None []))
-    reads_it group h = rests_within_it s base first Of Spoke Never (length (groups_of begin.met) + 2) id (begins_read s begin o group None []) (begins_read_it s base first Of Spoke Never begin o group None [] (record { acting = a; of = of }) h)
+    reads_it group h = rests_within_it s base first Of Spoke Never (length (groups_of begin.met) + 2) id (begins_read s begin o group None []) (begins_read_it s base first Of Spoke Never begin o group None [] (record { acting = a; of = of; served = serves request none }) h)
 
   begins_as : (request : Request) → Of id request clock → refusal s node request ≡ None → Began request (begins s begin (new_operation id request clock))
   begins_as (Txn transaction) of none = acted (reads_it (Txn transaction) of none transaction.group refl)
@@ -138,8 +140,8 @@ module _ (s : Setting) (base : List Met) (first : GroupId → ℕ) (Of : OpId �
       by : (group : Option GroupId) → asked.group ≡ group → Began (Find asked) (rests_within (length (groups_of begin.met) + 2) s (find_begins s begin (new_operation id (Find asked) clock) asked group))
       by None is = answered _ refl (found_globally asked refl is refl)
       by (Some group) is = local group is asked.mode refl
-  begins_as PumpEnter of none = acted (rests_within_it s base first Of Spoke Never (length (groups_of begin.met) + 2) id (picks_to_enter s begin (new_operation id PumpEnter clock) []) (picks_message_it s base first Of Spoke Never begin (new_operation id PumpEnter clock) [] (record { acting = a; of = of }) refl))
-  begins_as PumpHandle of none = acted (rests_within_it s base first Of Spoke Never (length (groups_of begin.met) + 2) id (picks_to_handle s begin (new_operation id PumpHandle clock) []) (picks_group_it s base first Of Spoke Never begin (new_operation id PumpHandle clock) [] (record { acting = a; of = of }) refl))
+  begins_as PumpEnter of none = acted (rests_within_it s base first Of Spoke Never (length (groups_of begin.met) + 2) id (picks_to_enter s begin (new_operation id PumpEnter clock) []) (picks_message_it s base first Of Spoke Never begin (new_operation id PumpEnter clock) [] (record { acting = a; of = of; served = serves PumpEnter none }) refl))
+  begins_as PumpHandle of none = acted (rests_within_it s base first Of Spoke Never (length (groups_of begin.met) + 2) id (picks_to_handle s begin (new_operation id PumpHandle clock) []) (picks_group_it s base first Of Spoke Never begin (new_operation id PumpHandle clock) [] (record { acting = a; of = of; served = serves PumpHandle none }) refl))
   begins_as Refresh of none = answered _ refl (refreshed none refl refl)
 
   pub begun_as : (request : Request) → Of id request clock → Began request (unless_refused s begin (new_operation id request clock) (refusal s node request))

@@ -1,6 +1,7 @@
 -- What a node knows where it answers is what the tape before the answer shows: so the answer has its cause there.
-use Rattle.std.proofs.Common.{◌≡◌, ℕ, ◌≤◌, true, List, [], ◌∷◌, length, map, take, Option, Some, None, Result, Ok, Err, refl, sym, ap, ◌∙◌, subst}
+use Rattle.std.proofs.Common.{◌≡◌, ℕ, ◌≤◌, true, List, [], ◌∷◌, length, map, take, Option, Some, None, Result, Ok, Err, refl, sym, ap, ◌∙◌, subst, arith}
 use Rattle.mega_base.specs.declared.names.GroupId.{GroupId}
+use Rattle.mega_base.specs.declared.names.NodeId.{NodeId}
 use Rattle.mega_base.specs.declared.names.OpId.{OpId}
 use Rattle.mega_base.specs.declared.names.Position.{Position}
 use Rattle.mega_cluster.specs.declared.cluster.Cluster.{Cluster}
@@ -22,14 +23,17 @@ use Rattle.mega_outcome.specs.declared.request.Request.TheVariants.{Batch as Bat
 use Rattle.mega_schema.specs.declared.schema.Index.{Index}
 use Rattle.mega_cause_laws.specs.of_run_laws.of_tape_laws.of_promises.of_transcript.declared.item.Item.{Item}
 use Rattle.mega_cause_laws.specs.of_run_laws.of_tape_laws.of_promises.of_transcript.declared.item.Item.TheVariants.{Answer as AnswerItem}
-use Rattle.mega_cause_laws.specs.of_run_laws.of_tape_laws.of_promises.Causes.{HasCause, IsCause, ShowsFind, ShowsLocal, ShowsRead, front, log_through}
+use Rattle.mega_cause_laws.specs.of_run_laws.of_tape_laws.of_promises.Causes.{AreReached, HasCause, IsCause, ShowsFind, ShowsLocal, ShowsRead, front, log_through}
 use Rattle.mega_cause_laws.specs.of_run_laws.of_tape_laws.of_promises.Fresh.{find_over, read_over}
+use Rattle.mega_cause_laws.specs.of_run_laws.of_tape_laws.of_promises.Moments.{applied_on, before_step}
 use Rattle.mega_cause_laws.specs.of_run_laws.of_tape_laws.of_promises.Promises.{asked_for, log_of, rows_shown}
 use Rattle.mega_cause_laws.specs.of_run_laws.of_tape_laws.of_promises.Runs.{setting}
 use Rattle.mega_cause_laws.specs.of_run_laws.of_tape_laws.of_promises.of_rules.Acting.{rows_answer}
 use Rattle.mega_cause_laws.specs.of_run_laws.of_tape_laws.of_promises.of_rules.Finding.{find_answer, find_by, group_bytes, group_marks, local_found}
 use Rattle.mega_cause_laws.specs.of_run_laws.of_tape_laws.of_promises.of_rules.Logs.{log_of as log_met, prefix_of}
+use Rattle.mega_cause_laws.specs.of_run_laws.of_tape_laws.of_promises.of_rules.Members.{has_rows}
 use Rattle.mega_cause_laws.specs.of_run_laws.of_tape_laws.of_promises.of_rules.Met.{Met}
+use Rattle.mega_cause_laws.specs.of_run_laws.of_tape_laws.of_promises.of_rules.of_replica.Applying.{applied}
 use Rattle.mega_cause_laws.specs.of_run_laws.of_tape_laws.of_promises.of_rules.Queues.{next_to_enter, next_to_handle}
 use Rattle.mega_cause_laws.specs.of_run_laws.of_tape_laws.Answers.{LawfulAnswers, MayCommit}
 use Rattle.mega_cause_laws.specs.of_run_laws.of_tape_laws.Lawful.{Lawful}
@@ -38,12 +42,24 @@ use Rattle.mega_cause_laws.proofs.of_run_laws.of_tape_laws.Complete.{known_is_fr
 use Rattle.mega_cause_laws.proofs.of_run_laws.Owned.{KnowsAll, front_length, knows_front}
 use Rattle.mega_cause_laws.specs.LogTells.{is_told}
 use Rattle.mega_cause_laws.proofs.LogTells.{told_causes}
-use Rattle.mega_answer_laws.proofs.Reasons.{FindMet, FullAt, IsMet, ReadMet, Within, logs_at}
+use Rattle.mega_answer_laws.proofs.Reasons.{FindMet, FullAt, IsMet, ReadMet, Reached, Within, logs_at}
 
 -- a tape shows what a node decided
 pub record Knowing (c : Cluster) (me : ℕ) (base : List Met) (before : List Item) : Type 0 where
   pub lawful : Lawful c before
   pub known : KnowsAll me base before
+
+-- how far the tape shows that a node applied its groups, before a step and in it
+pub record Spans (c : Cluster) (me : ℕ) (base : List Met) (first stored : GroupId → ℕ) (before : List Item) (node : NodeId) : Type 0 where
+  pub from : has_rows c me ≡ true → (group : GroupId) → applied_on (before_step before) node group ≤ applied (log_met base group) (first group)
+  pub through : has_rows c me ≡ true → (group : GroupId) → applied (log_met base group) (stored group) ≤ applied_on before node group
+
+reached_on : (c : Cluster) (me : ℕ) (base : List Met) (first stored : GroupId → ℕ) (before : List Item) (node : NodeId) → Spans c me base first stored before node → has_rows c me ≡ true
+    → (marks : List Mark) → Reached base first stored marks → AreReached before node marks
+reached_on c me base first stored before node spans rows marks reached group = (
+  (let low = spans.from rows group in let one = (reached group).0 in omega (arith, low, one)),
+  (let high = spans.through rows group in let two = (reached group).1 in omega (arith, high, two)),
+)
 
 -- the first entries of the node's log are those of the tape's
 pub record Fronts (before : List Item) (base : List Met) (group : GroupId) (p : ℕ) : Type 0 where
@@ -142,32 +158,32 @@ pump_committed : (c : Cluster) (usage : Usage) (before : List Item) (op : OpId) 
     → MayCommit c.schema usage before op n replies
 pump_committed c usage before op n replies l = ((l.answered).0).0
 
-pub cause_met : (c : Cluster) (usage : Usage) (h : Meanings) (me : ℕ) (base : List Met) (before : List Item) → Knowing c me base before → (op : OpId) (answer : Answer) → LawfulAnswers c usage (AnswerItem op answer ∷ before)
-    → (request : Request) → asked_for usage.meaning before op ≡ Some request → IsMet (setting c h me) base op request answer → IsCause c h before op request answer
-cause_met c usage h me base before k op answer l (ReadRequested request) asked met = read_met c usage h me base before k op answer l request met
-cause_met c usage h me base before k op answer l (Find request) asked met = found_met c usage h me base before k op answer l request met
-cause_met c usage h me base before k op answer l Refresh asked met = absurd met
-cause_met c usage h me base before k op (answers.Committed n replies) l (Txn transaction) asked met = told_cause c usage h me base before k op (answers.Committed n replies) l (Txn transaction) asked refl
-cause_met c usage h me base before k op (answers.Conflict n other) l (Txn transaction) asked met = told_cause c usage h me base before k op (answers.Conflict n other) l (Txn transaction) asked refl
-cause_met c usage h me base before k op (answers.Turned turn) l (Txn transaction) asked met = told_cause c usage h me base before k op (answers.Turned turn) l (Txn transaction) asked refl
-cause_met c usage h me base before k op (answers.LogFull n) l (Txn transaction) asked met = full_cause c usage h me base before k op (answers.LogFull n) l (Txn transaction) n met
-cause_met c usage h me base before k op (answers.Batched n results) l (BatchRequest group transactions) asked met = told_cause c usage h me base before k op (answers.Batched n results) l (BatchRequest group transactions) asked refl
-cause_met c usage h me base before k op (answers.Conflict n other) l (BatchRequest group transactions) asked met = told_cause c usage h me base before k op (answers.Conflict n other) l (BatchRequest group transactions) asked refl
-cause_met c usage h me base before k op (answers.AllTurned results) l (BatchRequest group transactions) asked met = told_cause c usage h me base before k op (answers.AllTurned results) l (BatchRequest group transactions) asked refl
-cause_met c usage h me base before k op (answers.LogFull n) l (BatchRequest group transactions) asked met = full_cause c usage h me base before k op (answers.LogFull n) l (BatchRequest group transactions) n met
-cause_met c usage h me base before k op (answers.Committed n replies) l PumpEnter asked met = let may = pump_committed c usage before op n replies l in (may.group, may.entry, may.stands, may.is_own, met)
-cause_met c usage h me base before k op (answers.Conflict n other) l PumpEnter asked met = told_cause c usage h me base before k op (answers.Conflict n other) l PumpEnter asked refl
-cause_met c usage h me base before k op (answers.LogFull n) l PumpEnter asked met = full_cause c usage h me base before k op (answers.LogFull n) l PumpEnter n met
-cause_met c usage h me base before k op (answers.NothingToDo marks) l PumpEnter asked met =
-    ap (next_to_enter op) (sym (logs_same c usage h me base before k op (answers.NothingToDo marks) l marks met.0)) ∙ met.1
-cause_met c usage h me base before k op (answers.NoHandler queue) l PumpEnter asked met = met
-cause_met c usage h me base before k op (answers.Committed n replies) l PumpHandle asked met = let may = pump_committed c usage before op n replies l in (may.group, may.entry, may.stands, may.is_own, met)
-cause_met c usage h me base before k op (answers.Conflict n other) l PumpHandle asked met = told_cause c usage h me base before k op (answers.Conflict n other) l PumpHandle asked refl
-cause_met c usage h me base before k op (answers.LogFull n) l PumpHandle asked met = full_cause c usage h me base before k op (answers.LogFull n) l PumpHandle n met
-cause_met c usage h me base before k op (answers.NothingToDo marks) l PumpHandle asked met =
-    ap next_to_handle (sym (logs_same c usage h me base before k op (answers.NothingToDo marks) l marks met.0)) ∙ met.1
-cause_met c usage h me base before k op (answers.NoHandler queue) l PumpHandle asked met = met
-cause_met c usage h me base before k op _ l (Txn transaction) asked met = absurd met
-cause_met c usage h me base before k op _ l (BatchRequest group transactions) asked met = absurd met
-cause_met c usage h me base before k op _ l PumpEnter asked met = absurd met
-cause_met c usage h me base before k op _ l PumpHandle asked met = absurd met
+pub cause_met : (c : Cluster) (usage : Usage) (h : Meanings) (me : ℕ) (base : List Met) (first stored : GroupId → ℕ) (before : List Item) → Knowing c me base before → (op : OpId) (answer : Answer) → Spans c me base first stored before op.node → LawfulAnswers c usage (AnswerItem op answer ∷ before)
+    → (request : Request) → asked_for usage.meaning before op ≡ Some request → IsMet (setting c h me) base first stored op request answer → IsCause c h before op request answer
+cause_met c usage h me base first stored before k op answer spans l (ReadRequested request) asked met = read_met c usage h me base before k op answer l request met
+cause_met c usage h me base first stored before k op answer spans l (Find request) asked met = found_met c usage h me base before k op answer l request met
+cause_met c usage h me base first stored before k op answer spans l Refresh asked met = absurd met
+cause_met c usage h me base first stored before k op (answers.Committed n replies) spans l (Txn transaction) asked met = told_cause c usage h me base before k op (answers.Committed n replies) l (Txn transaction) asked refl
+cause_met c usage h me base first stored before k op (answers.Conflict n other) spans l (Txn transaction) asked met = told_cause c usage h me base before k op (answers.Conflict n other) l (Txn transaction) asked refl
+cause_met c usage h me base first stored before k op (answers.Turned turn) spans l (Txn transaction) asked met = told_cause c usage h me base before k op (answers.Turned turn) l (Txn transaction) asked refl
+cause_met c usage h me base first stored before k op (answers.LogFull n) spans l (Txn transaction) asked met = full_cause c usage h me base before k op (answers.LogFull n) l (Txn transaction) n met
+cause_met c usage h me base first stored before k op (answers.Batched n results) spans l (BatchRequest group transactions) asked met = told_cause c usage h me base before k op (answers.Batched n results) l (BatchRequest group transactions) asked refl
+cause_met c usage h me base first stored before k op (answers.Conflict n other) spans l (BatchRequest group transactions) asked met = told_cause c usage h me base before k op (answers.Conflict n other) l (BatchRequest group transactions) asked refl
+cause_met c usage h me base first stored before k op (answers.AllTurned results) spans l (BatchRequest group transactions) asked met = told_cause c usage h me base before k op (answers.AllTurned results) l (BatchRequest group transactions) asked refl
+cause_met c usage h me base first stored before k op (answers.LogFull n) spans l (BatchRequest group transactions) asked met = full_cause c usage h me base before k op (answers.LogFull n) l (BatchRequest group transactions) n met
+cause_met c usage h me base first stored before k op (answers.Committed n replies) spans l PumpEnter asked met = let may = pump_committed c usage before op n replies l in (may.group, may.entry, may.stands, may.is_own, met)
+cause_met c usage h me base first stored before k op (answers.Conflict n other) spans l PumpEnter asked met = told_cause c usage h me base before k op (answers.Conflict n other) l PumpEnter asked refl
+cause_met c usage h me base first stored before k op (answers.LogFull n) spans l PumpEnter asked met = full_cause c usage h me base before k op (answers.LogFull n) l PumpEnter n met
+cause_met c usage h me base first stored before k op (answers.NothingToDo marks) spans l PumpEnter asked met =
+    (reached_on c me base first stored before op.node spans met.rows marks met.reached, ap (next_to_enter op) (sym (logs_same c usage h me base before k op (answers.NothingToDo marks) l marks met.within)) ∙ met.none)
+cause_met c usage h me base first stored before k op (answers.NoHandler queue) spans l PumpEnter asked met = met
+cause_met c usage h me base first stored before k op (answers.Committed n replies) spans l PumpHandle asked met = let may = pump_committed c usage before op n replies l in (may.group, may.entry, may.stands, may.is_own, met)
+cause_met c usage h me base first stored before k op (answers.Conflict n other) spans l PumpHandle asked met = told_cause c usage h me base before k op (answers.Conflict n other) l PumpHandle asked refl
+cause_met c usage h me base first stored before k op (answers.LogFull n) spans l PumpHandle asked met = full_cause c usage h me base before k op (answers.LogFull n) l PumpHandle n met
+cause_met c usage h me base first stored before k op (answers.NothingToDo marks) spans l PumpHandle asked met =
+    (reached_on c me base first stored before op.node spans met.rows marks met.reached, ap next_to_handle (sym (logs_same c usage h me base before k op (answers.NothingToDo marks) l marks met.within)) ∙ met.none)
+cause_met c usage h me base first stored before k op (answers.NoHandler queue) spans l PumpHandle asked met = met
+cause_met c usage h me base first stored before k op _ spans l (Txn transaction) asked met = absurd met
+cause_met c usage h me base first stored before k op _ spans l (BatchRequest group transactions) asked met = absurd met
+cause_met c usage h me base first stored before k op _ spans l PumpEnter asked met = absurd met
+cause_met c usage h me base first stored before k op _ spans l PumpHandle asked met = absurd met

@@ -66,10 +66,10 @@ use Rattle.mega_cause_laws.proofs.of_run_laws.Turns.{Held, IsRising, each_on, ea
 use Rattle.mega_cause_laws.proofs.of_run_laws.Written.{Unproposed}
 use Rattle.mega_cause_laws.proofs.of_run_laws.Whole.{in_left}
 use Rattle.mega_answer_laws.proofs.Acts.{AllActed, AtOnce, Began, Never, Opens, Outs, Spoken as SpokenIn, acted, all_heard, all_ticked, answered, begun_as, found_applied, found_globally, found_stored, read_applied, read_stored, refreshed, refused}
-use Rattle.mega_answer_laws.proofs.Reasons.{IsMet, Within}
+use Rattle.mega_answer_laws.proofs.Reasons.{IsMet, KeepsRows, Within}
 use Rattle.mega_answer_laws.proofs.Notes.{applied_rest, applies_applied, decision_quiet, lapses_quiet, lease_quiet, quiet_rest, told_quiet}
 use Rattle.mega_answer_laws.proofs.Nothing.{marks_within}
-use Rattle.mega_answer_laws.proofs.Once.{Moment, once_cause}
+use Rattle.mega_answer_laws.proofs.Once.{Moment, begins_served, once_cause}
 use Rattle.mega_answer_laws.proofs.Ops.{Beside, in_filter}
 use Rattle.mega_answer_laws.proofs.Since.{Since, since_more, since_none}
 use Rattle.mega_answer_laws.proofs.Steps.{Amid, Caused, Fit, OfOp, OwnTold, Parts, applied_mid, beside_mid, caused_by, each_silent, final, knowing_mid, made, marks_base, mid, mid_view, node_end, others_end, silent, step_since}
@@ -131,28 +131,28 @@ read_over_kept c request p log marks is = rows_kept p (rows_shown c.schema reque
 local_kept : (c : Cluster) (request : FindRequest) (p : ℕ) (listed : Listed) (marks : List Mark) → local_found c.schema request p listed ≡ answers.Refreshed marks → ⊥
 local_kept c request p listed marks is = found_kept c request (group_marks request.group p) (group_bytes request.group) listed (numbered (c.schema).indexes request.index) marks is
 
-never_refreshed : (s : Setting) (base : List Met) (op : OpId) (request : Request) (marks : List Mark) → IsMet s base op request (answers.Refreshed marks) → ⊥
-never_refreshed s base op (Txn transaction) marks met = met
-never_refreshed s base op (BatchRequest group transactions) marks met = met
-never_refreshed s base op (ReadRequested request) marks met = read_over_kept s.cluster request (met.1).0 (take (met.1).0 (log_of base request.group)) marks (met.1).2
-never_refreshed s base op (Find request) marks met = local_kept s.cluster request (met.3).0 (list_after (take (met.3).0 (log_of base met.1)) []) marks (met.3).2
-never_refreshed s base op PumpEnter marks met = met
-never_refreshed s base op PumpHandle marks met = met
-never_refreshed s base op Refresh marks met = met
+never_refreshed : (s : Setting) (base : List Met) (first stored : GroupId → ℕ) (op : OpId) (request : Request) (marks : List Mark) → IsMet s base first stored op request (answers.Refreshed marks) → ⊥
+never_refreshed s base first stored op (Txn transaction) marks met = met
+never_refreshed s base first stored op (BatchRequest group transactions) marks met = met
+never_refreshed s base first stored op (ReadRequested request) marks met = read_over_kept s.cluster request (met.1).0 (take (met.1).0 (log_of base request.group)) marks (met.1).2
+never_refreshed s base first stored op (Find request) marks met = local_kept s.cluster request (met.3).0 (list_after (take (met.3).0 (log_of base met.1)) []) marks (met.3).2
+never_refreshed s base first stored op PumpEnter marks met = met
+never_refreshed s base first stored op PumpHandle marks met = met
+never_refreshed s base first stored op Refresh marks met = met
 
 marks_of : (base : List Met) (op : OpId) (answer : Answer) → ((marks : List Mark) → answer ≡ answers.Refreshed marks → Within base marks) → NoteMarks base (Answers op answer)
 marks_of base op (answers.Refreshed marks) h = h marks refl
 marks_of base op _ h = tt
 
-marks_said : (s : Setting) (base : List Met) (first : GroupId → ℕ) (Of : OpId → Request → ℕ → Type 0) (Spoke : OpId → Type 0) (Other : OpId → Request → ℕ → Answer → Type 0) (k : ℕ)
+marks_said : (s : Setting) (base : List Met) (first : GroupId → ℕ) (Of : OpId → Request → ℕ → Type 0) (Spoke : OpId → Type 0) (Other : OpId → Request → ℕ → Answer → Type 0) (stored : GroupId → ℕ) (k : ℕ)
     → ((op : OpId) (request : Request) (began : ℕ) (answer : Answer) → Other op request began answer → NoteMarks base (Answers op answer))
-    → (one : Met) → SaidBelow s base first Of Spoke Other k one → NoteMarks base one
-marks_said s base first Of Spoke Other k other (Answers op answer) said = by said.cause
+    → (one : Met) → SaidBelow s base first Of Spoke Other stored k one → NoteMarks base one
+marks_said s base first Of Spoke Other stored k other (Answers op answer) said = by said.cause
   where
-    by : IsMet s base op said.request answer ⊎ Other op said.request said.began answer → NoteMarks base (Answers op answer)
-    by (inl met) = marks_of base op answer (λ marks is. absurd (never_refreshed s base op said.request marks (subst (IsMet s base op said.request) is met)))
+    by : IsMet s base first stored op said.request answer ⊎ Other op said.request said.began answer → NoteMarks base (Answers op answer)
+    by (inl met) = marks_of base op answer (λ marks is. absurd (never_refreshed s base first stored op said.request marks (subst (IsMet s base first stored op said.request) is met)))
     by (inr why) = other op said.request said.began answer why
-marks_said s base first Of Spoke Other k other _ said = absurd said
+marks_said s base first Of Spoke Other stored k other _ said = absurd said
 
 -- ---- open operations as a step begins
 
@@ -172,7 +172,7 @@ module _ (c : Cluster) (usage : Usage) (now : Standing) (me : ℕ) (g : Good (th
       (kept (move_of o.id (at_place h.group h.n.0)) _ (ProposesMove zero_ballot h.own) now.tape (proposed_here o.id (at_place h.group h.n.0) zero_ballot h.own) h.stands) h.is_own
 
   -- as an event's own item comes, that begins no operation of this name
-  of_op : (item : Item) → (o : Operation) → Beside me o.id now.tape (item ∷ now.tape) → OpenOn now.tape me o → asked_for usage.meaning now.tape o.id ≡ Some o.request → OfOp usage me (item ∷ now.tape) o.id o.request o.began
+  of_op : (item : Item) → (o : Operation) → Beside me o.id now.tape (item ∷ now.tape) → OpenOn c now.tape me o → asked_for usage.meaning now.tape o.id ≡ Some o.request → OfOp usage me (item ∷ now.tape) o.id o.request o.began
   of_op item o b opened asked = record { node = opened.node; asked = b.asked usage.meaning ∙ asked; begins = b.began ∙ opened.began; opens = b.opens opened.opens }
 
   spoke_on : (item : Item) → (o : Operation) (phase : Phase) → Beside me o.id now.tape (item ∷ now.tape) → Spoken now.tape o.id phase → SpokeIn (item ∷ now.tape) o.id phase
@@ -274,11 +274,11 @@ module _ (c : Cluster) (usage : Usage) (h : Meanings) (now : Standing) (me : ℕ
   -- an operation of the node as the step begins
   pub record Ready (item : Item) (o : Operation) : Type 0 where
     pub beside : Beside me o.id now.tape (item ∷ now.tape)
-    pub opened : OpenOn now.tape me o
+    pub opened : OpenOn c now.tape me o
     pub asked : asked_for usage.meaning now.tape o.id ≡ Some o.request
 
   all_ready : (item : Item) → ((x : OpId) → Beside me x now.tape (item ∷ now.tape)) → Each (Ready item) (now.node me).open_operations
-  all_ready item beside = each_zip (OpenOn now.tape me) HeldNow (Ready item) (λ o opened held. record { beside = beside o.id; opened = opened; asked = asked_now c usage now me g told o _ _ _ held }) (now.node me).open_operations told.opens (g.node me).held
+  all_ready item beside = each_zip (OpenOn c now.tape me) HeldNow (Ready item) (λ o opened held. record { beside = beside o.id; opened = opened; asked = asked_now c usage now me g told o _ _ _ held }) (now.node me).open_operations told.opens (g.node me).held
     where
       HeldNow : Operation → Type 0
       HeldNow = Held (those_of usage) c now.tape me (start_of (now.node me).met) (begun_of (now.node me).met + 1) (now.node me).met
@@ -311,6 +311,7 @@ module _ (c : Cluster) (usage : Usage) (h : Meanings) (now : Standing) (me : ℕ
       marks = λ base. tt;
       undecided = refl;
       quiet = tt;
+      steps = refl;
     }
 
     abbrev tick_first : GroupId → ℕ
@@ -363,6 +364,7 @@ module _ (c : Cluster) (usage : Usage) (h : Meanings) (now : Standing) (me : ℕ
     tick_opens : (o : Operation) → Ready (TickItem (number me) clock) o → Opens s tick_base tick_first TickOf TickSpoke Out o
     tick_opens o r = record {
       of = of_op c usage now me g told (TickItem (number me) clock) o r.beside r.opened r.asked;
+      served = (r.opened).serves;
       sound = (r.opened).sound;
       spoke = spoken_in o.id o.phase (spoke_on c usage now me g told (TickItem (number me) clock) o o.phase r.beside (r.opened).spoke);
     }
@@ -413,7 +415,7 @@ module _ (c : Cluster) (usage : Usage) (h : Meanings) (now : Standing) (me : ℕ
         acting = tick_all.acting;
         more = λ rows group. portion_more s (now.node me).met (now.node me).stored group rows (told.stored group);
         among = λ m i. in_left m (acquires_at c me (now.node me).met clock ++ tick_acc.sends) (background s (now.node me).met clock) (in_behind m (acquires_at c me (now.node me).met clock) tick_acc.sends i);
-        marks = each_on (SaidBelow s tick_base tick_first TickOf TickSpoke Out tick_all.k) (NoteMarks tick_base) (marks_said s tick_base tick_first TickOf TickSpoke Out tick_all.k out_marks) tick_acc.answers tick_all.acting.answers;
+        marks = each_on (SaidBelow s tick_base tick_first TickOf TickSpoke Out tick_acc.stored tick_all.k) (NoteMarks tick_base) (marks_said s tick_base tick_first TickOf TickSpoke Out tick_acc.stored tick_all.k out_marks) tick_acc.answers tick_all.acting.answers;
         lawful = lawful;
         known = known;
       }
@@ -459,6 +461,7 @@ module _ (c : Cluster) (usage : Usage) (h : Meanings) (now : Standing) (me : ℕ
       marks = λ base. tt;
       undecided = refl;
       quiet = tt;
+      steps = refl;
     }
       where
         same_if : (t : Bool) (x : View) → x ≡ cond t x x
@@ -511,6 +514,7 @@ module _ (c : Cluster) (usage : Usage) (h : Meanings) (now : Standing) (me : ℕ
       take_opens : (o : Operation) → Ready (Taken j) o → Opens s take_base take_first TakeOf TakeSpoke Never o
       take_opens o r = record {
         of = of_op c usage now me g told (Taken j) o r.beside r.opened r.asked;
+        served = (r.opened).serves;
         sound = (r.opened).sound;
         spoke = spoken_by o.id o.phase (spoke_on c usage now me g told (Taken j) o o.phase r.beside (r.opened).spoke);
       }
@@ -564,7 +568,7 @@ module _ (c : Cluster) (usage : Usage) (h : Meanings) (now : Standing) (me : ℕ
             acting = take_all.acting;
             more = λ rows group. first_more d group rows;
             among = λ m' i. in_behind m' (reply ++ told_news) take_acc.sends i;
-            marks = each_on (SaidBelow s take_base take_first TakeOf TakeSpoke Never take_all.k) (NoteMarks take_base) (marks_said s take_base take_first TakeOf TakeSpoke Never take_all.k (λ op request began answer never. absurd never)) take_acc.answers take_all.acting.answers;
+            marks = each_on (SaidBelow s take_base take_first TakeOf TakeSpoke Never take_acc.stored take_all.k) (NoteMarks take_base) (marks_said s take_base take_first TakeOf TakeSpoke Never take_acc.stored take_all.k (λ op request began answer never. absurd never)) take_acc.answers take_all.acting.answers;
             lawful = lawful;
             known = known;
           }
@@ -602,6 +606,7 @@ module _ (c : Cluster) (usage : Usage) (h : Meanings) (now : Standing) (me : ℕ
       marks = λ base. tt;
       undecided = refl;
       quiet = tt;
+      steps = refl;
     }
 
     abbrev begin_base : List Met
@@ -629,7 +634,7 @@ module _ (c : Cluster) (usage : Usage) (h : Meanings) (now : Standing) (me : ℕ
     ready : Each (Ready (BeginItem id text)) node.open_operations
     ready = ready_by node.open_operations told.opens (g.node me).held below
       where
-        ready_by : (os : List Operation) → Each (OpenOn now.tape me) os → Each HeldNow os → Each (λ (o : Operation). (o.id).number < id.number) os → Each (Ready (BeginItem id text)) os
+        ready_by : (os : List Operation) → Each (OpenOn c now.tape me) os → Each HeldNow os → Each (λ (o : Operation). (o.id).number < id.number) os → Each (Ready (BeginItem id text)) os
         ready_by [] opens held less = tt
         ready_by (o ∷ os) opens held less = (
           record { beside = begun_beside me id text now.tape o.id (other_number id o.id less.0); opened = opens.0; asked = asked_now c usage now me g told o _ _ _ held.0 },
@@ -645,12 +650,17 @@ module _ (c : Cluster) (usage : Usage) (h : Meanings) (now : Standing) (me : ℕ
       opens = subst (λ t. In id (cond t (id ∷ open_on now.tape (number me)) (open_on now.tape (number me)))) (sym (number_self me)) (inl refl);
     }
 
+    -- its node keeps rows, where it is not refused
+    serves_it : (asked : Request) → refusal s node asked ≡ None → KeepsRows s
+    serves_it asked none = begins_served s node asked is_here none
+
     module _ (Other : OpId → Request → ℕ → Answer → Type 0) where
       kept_open : (os : List Operation) → Each (Ready (BeginItem id text)) os → Each (λ (o : Operation). (o.id).number < id.number) os → Each (OpenBelow s begin_base node.stored BeginOf BeginSpoke Other id.number [] []) os
       kept_open [] r less = tt
       kept_open (o ∷ os) r less = (
         record {
           of = of_op c usage now me g told (BeginItem id text) o (r.0).beside (r.0).opened (r.0).asked;
+          served = ((r.0).opened).serves;
           sound = ((r.0).opened).sound;
           spoke = spoken_kept o.id o.phase (spoke_on c usage now me g told (BeginItem id text) o o.phase (r.0).beside ((r.0).opened).spoke);
           below = less.0;
@@ -781,17 +791,17 @@ module _ (c : Cluster) (usage : Usage) (h : Meanings) (now : Standing) (me : ℕ
 
     pub begin_told : LawfulAnswers c usage (end_of c nodes' me now.tape (BeginItem id text) (step s node (Begin request text))) → KnowsAll me (step s node (Begin request text)).node.met (end_of c nodes' me now.tape (BeginItem id text) (step s node (Begin request text)))
         → Stepped c usage h now.tape now.node me (step s node (Begin request text)).node (end_of c nodes' me now.tape (BeginItem id text) (step s node (Begin request text)))
-    begin_told lawful known = by begin_now lawful known (begun_as s begin_base node.stored BeginOf BeginSpoke node begin id (clock_of node.met) (begin_acting Never) request own_of)
+    begin_told lawful known = by begin_now lawful known (begun_as s begin_base node.stored BeginOf BeginSpoke node begin id (clock_of node.met) (begin_acting Never) serves_it request own_of)
       where
         by : (acc : Now) → LawfulAnswers c usage (end_of c nodes' me now.tape (BeginItem id text) (begin_made acc)) → KnowsAll me (begin_made acc).node.met (end_of c nodes' me now.tape (BeginItem id text) (begin_made acc))
-            → Began s begin_base node.stored BeginOf BeginSpoke node begin id (clock_of node.met) (begin_acting Never) request acc
+            → Began s begin_base node.stored BeginOf BeginSpoke node begin id (clock_of node.met) (begin_acting Never) serves_it request acc
             → Stepped c usage h now.tape now.node me (begin_made acc).node (end_of c nodes' me now.tape (BeginItem id text) (begin_made acc))
         by acc l k (acted a) = begin_finish acc Never a (said_marks a.answers) l k
             (caused_by c usage h me now.tape now.node nodes' (begin_parts acc) (id.number + 1) Never node.stored count (begin_fit acc Never a (said_marks a.answers) l k) (λ before amid op asked began answer of never. absurd never))
           where
-            said_marks : Each (SaidBelow s begin_base node.stored BeginOf BeginSpoke Never (id.number + 1)) acc.answers → Each (NoteMarks begin_base) acc.answers
-            said_marks said = each_on (SaidBelow s begin_base node.stored BeginOf BeginSpoke Never (id.number + 1)) (NoteMarks begin_base)
-                (marks_said s begin_base node.stored BeginOf BeginSpoke Never (id.number + 1) (λ op asked began answer never. absurd never)) acc.answers said
+            said_marks : Each (SaidBelow s begin_base node.stored BeginOf BeginSpoke Never acc.stored (id.number + 1)) acc.answers → Each (NoteMarks begin_base) acc.answers
+            said_marks said = each_on (SaidBelow s begin_base node.stored BeginOf BeginSpoke Never acc.stored (id.number + 1)) (NoteMarks begin_base)
+                (marks_said s begin_base node.stored BeginOf BeginSpoke Never acc.stored (id.number + 1) (λ op asked began answer never. absurd never)) acc.answers said
         by acc l k (answered answer is why) = subst (λ (a : Now). Stepped c usage h now.tape now.node me (begin_made a).node (end_of c nodes' me now.tape (BeginItem id text) (begin_made a))) (sym is)
             (at_once answer why (subst (λ (a : Now). LawfulAnswers c usage (end_of c nodes' me now.tape (BeginItem id text) (begin_made a))) is l)
             (subst (λ (a : Now). KnowsAll me (begin_made a).node.met (end_of c nodes' me now.tape (BeginItem id text) (begin_made a))) is k))

@@ -1,8 +1,10 @@
 pub mod Reasons
+pub mod Views
+pub mod InStep
+pub mod Applied
+pub mod Marks
 pub mod Nothing
 pub mod Walk
-pub mod Views
-pub mod Applied
 pub mod Ops
 pub mod Since
 pub mod Notes

@@ -36,15 +36,16 @@ abbrev pub Spoken : List Item → OpId → Phase → Type 0
 Spoken tape op (Reads group r) = Unit {0}
 Spoken tape op (Proposes group n asked proposal promised) = HasProposed tape op
 
-pub record OpenOn (tape : List Item) (v : ℕ) (o : Operation) : Type 0 where
+pub record OpenOn (c : Cluster) (tape : List Item) (v : ℕ) (o : Operation) : Type 0 where
   pub node : (o.id).node.0 ≡ v
+  pub serves : has_rows c v ≡ true
   pub sound : IsSound o.request o.phase
   pub spoke : Spoken tape o.id o.phase
   pub began : began_on tape o.id ≡ o.began
   pub opens : In o.id (open_on tape (number v))
 
 pub record NodeTold (c : Cluster) (tape : List Item) (v : ℕ) (node : Node) : Type 0 where
-  pub opens : Each (OpenOn tape v) node.open_operations
+  pub opens : Each (OpenOn c tape v) node.open_operations
   pub agrees : Agrees (view tape v) node.met
   pub applies : has_rows c v ≡ true → (group : GroupId) → (view tape v).applied group ≡ applied_at node.met node.stored group
   pub stored : (group : GroupId) → node.stored group ≤ length (writes_of (log_of node.met group))
@@ -73,8 +74,9 @@ spoken_on old new op stood (Proposes group n asked proposal promised) h = propos
 
 pub other_told : (c : Cluster) (old new : List Item) (v : ℕ) (node : Node) → view new v ≡ view old v → ((x : OpId) → x.node.0 ≡ v → Beside v x old new) → NodeTold c old v node → NodeTold c new v node
 other_told c old new v node same beside t = record {
-  opens = each_on (OpenOn old v) (OpenOn new v) (λ o h. let b = beside o.id h.node in record {
+  opens = each_on (OpenOn c old v) (OpenOn c new v) (λ o h. let b = beside o.id h.node in record {
     node = h.node;
+    serves = h.serves;
     sound = h.sound;
     spoke = spoken_on old new o.id b.stood o.phase h.spoke;
     began = b.began ∙ h.began;

@@ -1,8 +1,7 @@
 -- An answer that is given where its operation begins has its cause on the tape.
-use Rattle.std.proofs.Common.{◌≡◌, ℕ, zero, suc, ◌+◌, ◌-◌, ◌≤◌, ◌&&◌, ◌||◌, nat_le, nat_lt, min, Bool, true, false, cond, List, [], ◌∷◌, ◌++◌, take, drop, length, map, filter_map, flat_map, sum_by, slice_get, Option, Some, None, Result, Ok, Err, refl, sym, ap, ◌∙◌, subst, arith}
+use Rattle.std.proofs.Common.{◌≡◌, ℕ, zero, suc, ◌+◌, ◌-◌, ◌≤◌, ◌&&◌, nat_le, min, Bool, true, false, cond, List, [], ◌∷◌, ◌++◌, take, drop, length, flat_map, sum_by, slice_get, Option, Some, None, Result, Ok, Err, refl, sym, ap, ◌∙◌, subst, arith}
 use Rattle.std.proofs.lemmas.Bool.Decides.{nat_tests}
-use Rattle.std.proofs.lemmas.List.{length-take, take-append-drop, take-append-le, take_all}
-use Rattle.std.specs.List.{cons_option}
+use Rattle.std.proofs.lemmas.List.{take-append-drop, take-append-le, take_all}
 use Rattle.std.proofs.lemmas.Option.{same_Some}
 use Rattle.std.proofs.lemmas.Bool.{and_parts}
 use Rattle.mega_base.specs.declared.names.GroupId.{GroupId}
@@ -34,27 +33,25 @@ use Rattle.mega_node_laws.proofs.of_replica.Writes.{length_writes}
 use Rattle.mega_node_laws.proofs.of_replica.Writing.{through-cons}
 use Rattle.mega_cause_laws.specs.of_run_laws.of_tape_laws.of_promises.of_transcript.Counts.{prefix_of as prefix_on}
 use Rattle.mega_cause_laws.specs.of_run_laws.of_tape_laws.of_promises.of_transcript.declared.item.Item.{Item}
-use Rattle.mega_cause_laws.specs.of_run_laws.of_tape_laws.of_promises.Causes.{IsCause, ShowsFind, ShowsLocal, ShowsRead, StoresSome, front, global_over, marked_at, rows_through as rows_on}
+use Rattle.mega_cause_laws.specs.of_run_laws.of_tape_laws.of_promises.Causes.{IsCause, ShowsFind, ShowsLocal, ShowsRead, StoresSome, front, global_over, rows_through as rows_on}
 use Rattle.mega_cause_laws.specs.of_run_laws.of_tape_laws.of_promises.Fresh.{find_over, read_over}
 use Rattle.mega_cause_laws.specs.of_run_laws.of_tape_laws.of_promises.Items.{number}
 use Rattle.mega_cause_laws.specs.of_run_laws.of_tape_laws.of_promises.Moments.{applied_on, begun_on, open_on, refreshed_on}
 use Rattle.mega_cause_laws.specs.of_run_laws.of_tape_laws.of_promises.Promises.{log_of}
 use Rattle.mega_cause_laws.specs.of_run_laws.of_tape_laws.of_promises.Runs.{setting}
-use Rattle.mega_cause_laws.specs.of_run_laws.of_tape_laws.of_promises.of_rules.Acting.{applied_in, applied_marks, mark_of, read_answer, rows_answer}
+use Rattle.mega_cause_laws.specs.of_run_laws.of_tape_laws.of_promises.of_rules.Acting.{read_answer, rows_answer}
 use Rattle.mega_cause_laws.specs.of_run_laws.of_tape_laws.of_promises.of_rules.Clock.{begun_of, last_number}
 use Rattle.mega_cause_laws.specs.of_run_laws.of_tape_laws.of_promises.of_rules.Finding.{find_by, global_found, local_found, refreshed_marks, rows_through as rows_met}
-use Rattle.mega_cause_laws.specs.of_run_laws.of_tape_laws.of_promises.of_rules.Logs.{groups_of, log_of as log_met, prefix_of}
+use Rattle.mega_cause_laws.specs.of_run_laws.of_tape_laws.of_promises.of_rules.Logs.{log_of as log_met, prefix_of}
 use Rattle.mega_cause_laws.specs.of_run_laws.of_tape_laws.of_promises.of_rules.Members.{has_rows, is_node, keeps_rows, kind_of}
 use Rattle.mega_cause_laws.specs.of_run_laws.of_tape_laws.of_promises.of_rules.Met.{Met, Begins}
 use Rattle.mega_cause_laws.specs.of_run_laws.of_tape_laws.of_promises.of_rules.Operations.{Node, Now, Setting}
 use Rattle.mega_cause_laws.specs.of_run_laws.of_tape_laws.of_promises.of_rules.Steps.{applied_at, applied_position, at_first, at_open, is_worn, missing_kind, refusal, snapshot_listed, snapshot_rows, stored_listed, stored_rows, unless_busy, unless_missing}
-use Rattle.mega_wal.specs.Same.{same_group}
-use Rattle.mega_wal.proofs.Sames.{same_group_equal}
 use Rattle.mega_node_laws.proofs.Applied.{applied_within}
 use Rattle.mega_node_laws.proofs.Logs.{log_stays}
 use Rattle.mega_answer_laws.proofs.Acts.{AtOnce, found_applied, found_globally, found_stored, read_applied, read_stored, refreshed, refused}
-use Rattle.mega_answer_laws.proofs.Applied.{empty_log, has_it}
 use Rattle.mega_answer_laws.proofs.Causes.{Fronts, Knowing, found_cause, fronts, local_cause, read_cause}
+use Rattle.mega_answer_laws.proofs.Marks.{marked_is}
 use Rattle.mega_answer_laws.proofs.Reasons.{Within}
 use Rattle.mega_answer_laws.proofs.Storing.{front_bounds, least_of, next_bounds, prefix_shown}
 use Rattle.mega_answer_laws.proofs.Walk.{answer_is}
@@ -86,43 +83,6 @@ writes_append (x ∷ xs) ys = ap (λ l. x.writes ++ l) (writes_append xs ys) ∙
 -- the first writes of a log are those of its first entries
 stored_front : (q : ℕ) (log : List Content) (n : ℕ) → n ≤ length (writes_of (take q log)) → stored_writes (take q log) n ≡ stored_writes log n
 stored_front q log n le = sym (ap (λ l. take n (writes_of l)) (sym (take-append-drop q log)) ∙ ap (take n) (writes_append (take q log) (drop q log)) ∙ take-append-le n (writes_of (take q log)) (writes_of (drop q log)) le)
-
--- ---- marks
-
-taken_length : (a : ℕ) (log : List Content) → a ≤ length log → length (take a log) ≡ a
-taken_length a log le = let is = length-take a log in omega (arith, is, le)
-
-module _ (begin : Now) where
-  abbrev marks_for : List GroupId → List Mark
-  marks_for groups = filter_map mark_of (map (applied_in begin) groups)
-
-  abbrev long : GroupId → ℕ
-  long group = length (applied_in begin group).entries
-
-  not_below : (n : ℕ) → nat_lt 0 n ≡ false → n ≡ 0
-  not_below n h = grind (arith, nat_tests)
-
-  marked_among : (group : GroupId) (groups : List GroupId) → marked_at (marks_for groups) group ≡ cond (has_it group groups) (long group) 0
-  marked_among group [] = refl
-  marked_among group (other ∷ groups) = by (nat_lt 0 (long other)) (same_group other group) refl refl (marked_among group groups)
-    where
-      nothing : (t : Bool) → long group ≡ 0 → cond t (long group) 0 ≡ long group
-      nothing true e = refl
-      nothing false e = sym e
-
-      by : (t u : Bool) → nat_lt 0 (long other) ≡ t → same_group other group ≡ u → marked_at (marks_for groups) group ≡ cond (has_it group groups) (long group) 0
-          → marked_at (cons_option (cond t (Some (record { group = other; position = record { 0 = long other } })) None) (marks_for groups)) group ≡ cond (u || has_it group groups) (long group) 0
-      by true true e same rest = ap (λ v. cond v (long other) (marked_at (marks_for groups) group)) same ∙ ap long (same_group_equal other group same)
-      by true false e same rest = ap (λ v. cond v (long other) (marked_at (marks_for groups) group)) same ∙ rest
-      by false true e same rest = rest ∙ nothing (has_it group groups) (ap long (sym (same_group_equal other group same)) ∙ not_below (long other) e)
-      by false false e same rest = rest
-
-  pub marked_is : (group : GroupId) → marked_at (applied_marks begin) group ≡ applied (log_met begin.met group) (begin.stored group)
-  marked_is group = marked_among group (groups_of begin.met) ∙ by (has_it group (groups_of begin.met)) refl
-    where
-      by : (t : Bool) → has_it group (groups_of begin.met) ≡ t → cond t (long group) 0 ≡ applied (log_met begin.met group) (begin.stored group)
-      by true e = taken_length (applied (log_met begin.met group) (begin.stored group)) (log_met begin.met group) (applied_within (log_met begin.met group) (begin.stored group))
-      by false e = sym (ap (λ log. applied log (begin.stored group)) (empty_log begin.met group e))
 
 -- ---- where the operation begins
 
@@ -175,6 +135,18 @@ serves_rows c me request node none = by (kind_of c me) refl none
         and_so a b = a && b
     by None e k = absurd (there c.nodes (me - 1) (node_place c me node) e)
 
+-- what is not refused is served
+not_missing : (s : Setting) (node : Node) (request : Request) → refusal s node request ≡ None → missing_kind request (kind_of s.cluster s.me) ≡ None
+not_missing s node request none = by (is_worn node.met) (missing_kind request (kind_of s.cluster s.me)) none
+  where
+    by : (t : Bool) (kind : Option NodeKind) → cond t (Some Worn) (unless_missing node.open_operations kind) ≡ None → kind ≡ None
+    by true kind k = cc
+    by false None k = refl
+    by false (Some kind) k = cc
+
+pub begins_served : (s : Setting) (node : Node) (request : Request) → is_node s.cluster s.me ≡ true → refusal s node request ≡ None → has_rows s.cluster s.me ≡ true
+begins_served s node request here none = serves_rows s.cluster s.me request here (not_missing s node request none)
+
 module _ (c : Cluster) (h : Meanings) (me : ℕ) (node : Node) (text : List ℕ) (id : OpId) (is_mine : id.node ≡ number me) (before : List Item) where
   abbrev s : Setting
   s = setting c h me
@@ -209,14 +181,6 @@ module _ (c : Cluster) (h : Meanings) (me : ℕ) (node : Node) (text : List ℕ)
         by false e k = missing_cause request answer (missing_kind request (kind_of c me)) refl k
 
     -- ---- what is applied and stored
-
-    not_missing : (request : Request) → refusal s node request ≡ None → missing_kind request (kind_of c me) ≡ None
-    not_missing request none = by (is_worn node.met) (missing_kind request (kind_of c me)) none
-      where
-        by : (t : Bool) (kind : Option NodeKind) → cond t (Some Worn) (unless_missing node.open_operations kind) ≡ None → kind ≡ None
-        by true kind k = cc
-        by false None k = refl
-        by false (Some kind) k = cc
 
     same_log : (group : GroupId) → log_met base group ≡ log_met node.met group
     same_log group = log_stays (Begins id text) node.met group refl
@@ -361,10 +325,10 @@ module _ (c : Cluster) (h : Meanings) (me : ℕ) (node : Node) (text : List ℕ)
 
     pub once_cause : is_node c me ≡ true → (request : Request) (answer : Answer) → AtOnce s node begin request answer → IsCause c h before id request answer
     once_cause node_is request answer (refused is) = refused_cause request answer is
-    once_cause node_is request answer (read_applied asked none same mode is) = subst (λ r. IsCause c h before id r answer) (sym same) (read_snapshot asked answer (serves_rows c me request node_is (not_missing request none)) mode is)
-    once_cause node_is request answer (read_stored asked none same mode is) = subst (λ r. IsCause c h before id r answer) (sym same) (read_of_stored asked answer (serves_rows c me request node_is (not_missing request none)) mode is)
-    once_cause node_is request answer (found_applied asked group none same of mode is) = subst (λ r. IsCause c h before id r answer) (sym same) (found_snapshot asked group answer (serves_rows c me request node_is (not_missing request none)) of mode is)
-    once_cause node_is request answer (found_stored asked group none same of mode is) = subst (λ r. IsCause c h before id r answer) (sym same) (found_of_stored asked group answer (serves_rows c me request node_is (not_missing request none)) of mode is)
+    once_cause node_is request answer (read_applied asked none same mode is) = subst (λ r. IsCause c h before id r answer) (sym same) (read_snapshot asked answer (begins_served s node request node_is none) mode is)
+    once_cause node_is request answer (read_stored asked none same mode is) = subst (λ r. IsCause c h before id r answer) (sym same) (read_of_stored asked answer (begins_served s node request node_is none) mode is)
+    once_cause node_is request answer (found_applied asked group none same of mode is) = subst (λ r. IsCause c h before id r answer) (sym same) (found_snapshot asked group answer (begins_served s node request node_is none) of mode is)
+    once_cause node_is request answer (found_stored asked group none same of mode is) = subst (λ r. IsCause c h before id r answer) (sym same) (found_of_stored asked group answer (begins_served s node request node_is none) of mode is)
     once_cause node_is request answer (found_globally asked same of is) = subst (λ r. IsCause c h before id r answer) (sym same) (found_everywhere asked answer of is)
     once_cause node_is request answer (refreshed none same is) = subst (IsCause c h before id request) (sym is)
-        (same, λ group. marked_is begin group ∙ sym (applied_is (serves_rows c me request node_is (not_missing request none)) group))
+        (same, λ group. marked_is begin group ∙ sym (applied_is (begins_served s node request node_is none) group))

@@ -15,7 +15,7 @@ use Rattle.mega_cause_laws.specs.of_run_laws.of_tape_laws.of_promises.of_transcr
 use Rattle.mega_cause_laws.specs.of_run_laws.of_tape_laws.of_promises.Causes.{HasCause, HasProposed, IsCause}
 use Rattle.mega_cause_laws.specs.of_run_laws.of_tape_laws.of_promises.Items.{number, shown}
 use Rattle.mega_cause_laws.specs.of_run_laws.of_tape_laws.of_promises.Messages.{is_unsafe}
-use Rattle.mega_cause_laws.specs.of_run_laws.of_tape_laws.of_promises.Moments.{began_on, clock_on, open_on}
+use Rattle.mega_cause_laws.specs.of_run_laws.of_tape_laws.of_promises.Moments.{applied_on, before_step, began_on, clock_on, open_on}
 use Rattle.mega_cause_laws.specs.of_run_laws.of_tape_laws.of_promises.Promises.{Stands, asked_for}
 use Rattle.mega_cause_laws.specs.of_run_laws.of_tape_laws.of_promises.Runs.{breaks, setting, with_item, with_items}
 use Rattle.mega_cause_laws.specs.of_run_laws.of_tape_laws.of_promises.of_rules.Finding.{refreshed_marks}
@@ -41,13 +41,14 @@ use Rattle.mega_cause_laws.proofs.of_run_laws.Silent.{IsSilent, then_answers}
 use Rattle.mega_cause_laws.proofs.of_run_laws.Stepping.{OtherThan}
 use Rattle.mega_cause_laws.proofs.of_run_laws.Turns.{IsApart, each_on}
 use Rattle.mega_answer_laws.proofs.Applied.{applied_rises, apply_told}
-use Rattle.mega_answer_laws.proofs.Causes.{Knowing, cause_met}
+use Rattle.mega_answer_laws.proofs.Causes.{Knowing, Spans, cause_met}
+use Rattle.mega_answer_laws.proofs.InStep.{notes_stay}
 use Rattle.mega_answer_laws.proofs.Reasons.{IsMet, Within}
-use Rattle.mega_answer_laws.proofs.Notes.{IsApplied, IsQuiet, applied_leaves, applied_mine, applied_silent, quiet_applied, quiet_leaves, quiet_mine, quiet_silent, valid_quiet}
+use Rattle.mega_answer_laws.proofs.Notes.{IsApplied, IsQuiet, applied_leaves, applied_mine, applied_rest, applied_silent, quiet_applied, quiet_leaves, quiet_mine, quiet_rest, quiet_silent, valid_quiet}
 use Rattle.mega_answer_laws.proofs.Ops.{Beside, Leaves, beside_then, notes_beside, notes_unsent, sends_beside, stands_among}
 use Rattle.mega_answer_laws.proofs.Since.{IsQuiet as IsQuietItem, Since, quiet_holds, since_more, since_none, since_notes, since_sent, since_then}
 use Rattle.mega_answer_laws.proofs.OnTape.{IsNoDecide, NodeTold, NoteMarks, OpenOn, Spoken, marks_after, other_told, same_each, within_more}
-use Rattle.mega_answer_laws.proofs.Views.{Agrees, IsMine, LeavesApplied, View, after, after_append, agrees_after, agrees_one, agrees_sent, applied_after, next, notes_told, sends_told, view}
+use Rattle.mega_answer_laws.proofs.Views.{Agrees, IsMine, LeavesApplied, LeavesRest, View, after, after_append, agrees_after, agrees_one, agrees_sent, applied_after, next, notes_told, sends_told, view}
 use Rattle.mega_answer_laws.proofs.Walk.{Acting, IsValid, OpenBelow, Said, SaidBelow, Spoken as SpokenAt, each_both}
 
 -- ---- what is lawful of a longer tape is of a shorter one
@@ -89,6 +90,7 @@ pub record OwnTold (me : ℕ) (tape : List Item) (item : Item) (own : Met) : Typ
   pub marks : (base : List Met) → NoteMarks base own
   pub undecided : IsNoDecide own
   pub quiet : IsQuietItem item
+  pub steps : before_step (item ∷ tape) ≡ tape
 
 -- what is answered has its cause
 abbrev pub Caused : Cluster → Usage → Meanings → List Item → OpId → Answer → Type 0
@@ -181,7 +183,7 @@ module _ (c : Cluster) (usage : Usage) (h : Meanings) (me : ℕ) (tape : List It
         (each_on IsValid P (λ one' valid. quiet one' (valid_quiet one' valid)) s.acc.valid f.acting.valid)
 
     abbrev SaidAt : Met → Type 0
-    SaidAt = SaidBelow (setting c h me) base first Of Spoke Other k
+    SaidAt = SaidBelow (setting c h me) base first Of Spoke Other s.acc.stored k
 
     said_mine : (one : Met) → SaidAt one → IsMine me one
     said_mine (Answers op answer) said = (said.of).node
@@ -269,74 +271,7 @@ module _ (c : Cluster) (usage : Usage) (h : Meanings) (me : ℕ) (tape : List It
     pub beside_mid : (v : ℕ) (x : OpId) → Beside v x begun_tape mid
     beside_mid v x = notes_beside c nodes' me v x silent begun_tape (each_silent (Leaves me v x) (quiet_leaves me v x) (applied_leaves me v x))
 
-    -- the tape so far, as the operations' answers come
-    pub record Amid (before : List Item) : Type 0 where
-      pub knowing : Knowing c me base before
-      pub asked : (x : OpId) → asked_for usage.meaning before x ≡ asked_for usage.meaning begun_tape x
-      pub began : (x : OpId) → began_on before x ≡ began_on begun_tape x
-      pub clock : clock_on before (number me) ≡ clock_on mid (number me)
-      pub stood : (item : Item) → Stands item begun_tape → Stands item before
-      pub unsent : (j : ℕ) (m : Message) → Stands (Sent j m) before → Stands (Sent j m) begun_tape
-
-    pub amid_first : Amid mid
-    amid_first = record {
-      knowing = knowing_mid;
-      asked = λ x. (beside_mid me x).asked usage.meaning;
-      began = λ x. (beside_mid me x).began;
-      clock = refl;
-      stood = (beside_mid me (record { node = number me; start = 0; number = 0 })).stood;
-      unsent = λ j m stands. notes_unsent c nodes' me j m silent begun_tape stands;
-    }
-
-    amid_on : (before : List Item) (op : OpId) (answer : Answer) → Amid before → Amid (AnswerItem op answer ∷ before)
-    amid_on before op answer a = record {
-      knowing = record { lawful = (tt, (a.knowing).lawful); known = λ group n e d. inr ((a.knowing).known group n e d) };
-      asked = a.asked;
-      began = a.began;
-      clock = a.clock;
-      stood = λ item stands. inr (a.stood item stands);
-      unsent = λ j m stands. a.unsent j m (behind j m stands);
-    }
-      where
-        behind : (j : ℕ) (m : Message) → Stands (Sent j m) (AnswerItem op answer ∷ before) → Stands (Sent j m) before
-        behind j m (inl same) = absurd (let clash = same in cc)
-        behind j m (inr there) = there
-
-    abbrev Q : OpId → Answer → Type 0
-    Q op answer = Said (setting c h me) base first Of Spoke Other k op answer
-
-    -- with causes of answers that are given where an operation does not act
-    pub caused_by : ((before : List Item) → Amid before → (op : OpId) (request : Request) (began : ℕ) (answer : Answer) → Of op request began → Other op request began answer → IsCause c h before op request answer)
-        → Since (Caused c usage h) mid (with_answers c nodes' me s.acc.answers mid)
-    caused_by other = answers_since c usage h nodes' me Amid Q one amid_on s.acc.answers mid (given s.acc.answers f.acting.answers) amid_first lawful_noted
-      where
-        given : (answers : List Met) → Each SaidAt answers → Each (Given Q) answers
-        given [] said = tt
-        given (Answers op answer ∷ answers) said = (said.0, given answers said.1)
-        given (_ ∷ answers) said = absurd said.0
-
-        one : (before : List Item) (op : OpId) (answer : Answer) → Amid before → Q op answer → LawfulAnswers c usage (AnswerItem op answer ∷ before) → Caused c usage h before op answer
-        one before op answer a said l = record { request = said.request; asked = asked; cause = by said.cause }
-          where
-            asked : asked_for usage.meaning before op ≡ Some said.request
-            asked = a.asked op ∙ (said.of).asked
-
-            by : IsMet (setting c h me) base op said.request answer ⊎ Other op said.request said.began answer → IsCause c h before op said.request answer
-            by (inl met) = cause_met c usage h me base before a.knowing op answer l said.request asked met
-            by (inr why) = other before a op said.request said.began answer said.of why
-
-    -- ---- the whole step on the tape
-
-    pub step_since : Since (Caused c usage h) mid (with_answers c nodes' me s.acc.answers mid) → Since (Caused c usage h) tape final
-    step_since answers = since_then (Caused c usage h) tape begun_tape final
-        (since_more (Caused c usage h) tape tape s.item (since_none (Caused c usage h) tape) (quiet_holds (Caused c usage h) tape s.item f.own.quiet))
-        (since_then (Caused c usage h) begun_tape noted final
-        (subst (Since (Caused c usage h) begun_tape) (sym (then_answers c nodes' me silent s.acc.answers begun_tape))
-        (since_then (Caused c usage h) begun_tape mid (with_answers c nodes' me s.acc.answers mid)
-        (since_notes (Caused c usage h) c nodes' me silent begun_tape (each_silent IsSilent quiet_silent applied_silent)) answers))
-        (since_sent (Caused c usage h) count s.sends noted))
-
-    -- ---- the node then
+    -- ---- how the node stands on the tape then
 
     here : (x y : View) → cond (me == me) x y ≡ x
     here x y = ap (λ t. cond t x y) (number_self me)
@@ -347,17 +282,8 @@ module _ (c : Cluster) (usage : Usage) (h : Meanings) (me : ℕ) (tape : List It
     begun_view : view begun_tape me ≡ first_view
     begun_view = f.own.seen me ∙ here first_view (view tape me)
 
-    final_view : view final me ≡ after (silent ++ s.acc.answers) first_view
-    final_view = sends_told count s.sends noted me ∙ notes_told c nodes' me me (silent ++ s.acc.answers) begun_tape notes_mine ∙ here (after (silent ++ s.acc.answers) (view begun_tape me)) (view begun_tape me)
-        ∙ ap (after (silent ++ s.acc.answers)) begun_view
-
     pub mid_view : view mid me ≡ after silent first_view
     mid_view = notes_told c nodes' me me silent begun_tape (each_silent (IsMine me) (quiet_mine me) (applied_mine me)) ∙ here (after silent (view begun_tape me)) (view begun_tape me) ∙ ap (after silent) begun_view
-
-    agrees_end : Agrees (view final me) (made.node).met
-    agrees_end = subst (λ x. Agrees x (made.node).met) (sym final_view)
-        (agrees_sent s.sends (after (silent ++ s.acc.answers) first_view) (onto (silent ++ s.acc.answers) (s.own ∷ (nodes me).met))
-        (agrees_after (silent ++ s.acc.answers) first_view (s.own ∷ (nodes me).met) (agrees_one s.own (view tape me) (nodes me).met f.told.agrees)))
 
     -- what is applied
     pub grown : (group : GroupId) → (more : List Content) × (log_of base group ≡ log_of (nodes me).met group ++ more)
@@ -380,6 +306,107 @@ module _ (c : Cluster) (usage : Usage) (h : Meanings) (me : ℕ) (tape : List It
 
     pub applied_mid : has_rows c me ≡ true → (group : GroupId) → (view mid me).applied group ≡ applied_at s.acc.met s.acc.stored group
     applied_mid rows group = ap (λ (x : View). x.applied group) mid_view ∙ applied_silent_end rows group
+
+    -- the step began on the tape before it
+    step_mid : before_step mid ≡ tape
+    step_mid = notes_stay c nodes' me silent begun_tape (each_silent LeavesRest quiet_rest applied_rest) ∙ f.own.steps
+
+    -- the tape so far, as the operations' answers come
+    pub record Amid (before : List Item) : Type 0 where
+      pub knowing : Knowing c me base before
+      pub asked : (x : OpId) → asked_for usage.meaning before x ≡ asked_for usage.meaning begun_tape x
+      pub began : (x : OpId) → began_on before x ≡ began_on begun_tape x
+      pub clock : clock_on before (number me) ≡ clock_on mid (number me)
+      pub stood : (item : Item) → Stands item begun_tape → Stands item before
+      pub unsent : (j : ℕ) (m : Message) → Stands (Sent j m) before → Stands (Sent j m) begun_tape
+      pub step : before_step before ≡ tape
+      pub applied : has_rows c me ≡ true → (group : GroupId) → applied_on before (number me) group ≡ applied_at s.acc.met s.acc.stored group
+
+    pub amid_first : Amid mid
+    amid_first = record {
+      knowing = knowing_mid;
+      asked = λ x. (beside_mid me x).asked usage.meaning;
+      began = λ x. (beside_mid me x).began;
+      clock = refl;
+      stood = (beside_mid me (record { node = number me; start = 0; number = 0 })).stood;
+      unsent = λ j m stands. notes_unsent c nodes' me j m silent begun_tape stands;
+      step = step_mid;
+      applied = applied_mid;
+    }
+
+    amid_on : (before : List Item) (op : OpId) (answer : Answer) → Amid before → Amid (AnswerItem op answer ∷ before)
+    amid_on before op answer a = record {
+      knowing = record { lawful = (tt, (a.knowing).lawful); known = λ group n e d. inr ((a.knowing).known group n e d) };
+      asked = a.asked;
+      began = a.began;
+      clock = a.clock;
+      stood = λ item stands. inr (a.stood item stands);
+      unsent = λ j m stands. a.unsent j m (behind j m stands);
+      step = a.step;
+      applied = a.applied;
+    }
+      where
+        behind : (j : ℕ) (m : Message) → Stands (Sent j m) (AnswerItem op answer ∷ before) → Stands (Sent j m) before
+        behind j m (inl same) = absurd (let clash = same in cc)
+        behind j m (inr there) = there
+
+    -- what its groups were applied through, before the step and then
+    spans : (before : List Item) → Amid before → Spans c me base first s.acc.stored before (number me)
+    spans before a = record {
+      from = λ rows group. subst (λ t. applied_on t (number me) group ≤ applied (log_of base group) (first group)) (sym a.step)
+          (subst (λ n. n ≤ applied (log_of base group) (first group)) (sym (f.told.applies rows group))
+          (applied_rises (log_of (nodes me).met group) (log_of base group) (grown group).0 ((nodes me).stored group) (first group) (grown group).1 (f.more rows group)));
+      through = λ rows group. subst (λ n. applied (log_of base group) (s.acc.stored group) ≤ n) (sym (a.applied rows group ∙ ap (λ log. applied log (s.acc.stored group)) (f.acting.same.logs group)))
+          (let same : applied (log_of base group) (s.acc.stored group) ≤ applied (log_of base group) (s.acc.stored group) = omega arith in same);
+    }
+
+    abbrev Q : OpId → Answer → Type 0
+    Q op answer = Said (setting c h me) base first Of Spoke Other s.acc.stored k op answer
+
+    -- with causes of answers that are given where an operation does not act
+    pub caused_by : ((before : List Item) → Amid before → (op : OpId) (request : Request) (began : ℕ) (answer : Answer) → Of op request began → Other op request began answer → IsCause c h before op request answer)
+        → Since (Caused c usage h) mid (with_answers c nodes' me s.acc.answers mid)
+    caused_by other = answers_since c usage h nodes' me Amid Q one amid_on s.acc.answers mid (given s.acc.answers f.acting.answers) amid_first lawful_noted
+      where
+        given : (answers : List Met) → Each SaidAt answers → Each (Given Q) answers
+        given [] said = tt
+        given (Answers op answer ∷ answers) said = (said.0, given answers said.1)
+        given (_ ∷ answers) said = absurd said.0
+
+        one : (before : List Item) (op : OpId) (answer : Answer) → Amid before → Q op answer → LawfulAnswers c usage (AnswerItem op answer ∷ before) → Caused c usage h before op answer
+        one before op answer a said l = record { request = said.request; asked = asked; cause = by said.cause }
+          where
+            asked : asked_for usage.meaning before op ≡ Some said.request
+            asked = a.asked op ∙ (said.of).asked
+
+            mine : op.node ≡ number me
+            mine = λ i. record { 0 = (said.of).node i }
+
+            by : IsMet (setting c h me) base first s.acc.stored op said.request answer ⊎ Other op said.request said.began answer → IsCause c h before op said.request answer
+            by (inl met) = cause_met c usage h me base first s.acc.stored before a.knowing op answer (subst (Spans c me base first s.acc.stored before) (sym mine) (spans before a)) l said.request asked met
+            by (inr why) = other before a op said.request said.began answer said.of why
+
+    -- ---- the whole step on the tape
+
+    pub step_since : Since (Caused c usage h) mid (with_answers c nodes' me s.acc.answers mid) → Since (Caused c usage h) tape final
+    step_since answers = since_then (Caused c usage h) tape begun_tape final
+        (since_more (Caused c usage h) tape tape s.item (since_none (Caused c usage h) tape) (quiet_holds (Caused c usage h) tape s.item f.own.quiet))
+        (since_then (Caused c usage h) begun_tape noted final
+        (subst (Since (Caused c usage h) begun_tape) (sym (then_answers c nodes' me silent s.acc.answers begun_tape))
+        (since_then (Caused c usage h) begun_tape mid (with_answers c nodes' me s.acc.answers mid)
+        (since_notes (Caused c usage h) c nodes' me silent begun_tape (each_silent IsSilent quiet_silent applied_silent)) answers))
+        (since_sent (Caused c usage h) count s.sends noted))
+
+    -- ---- the node then
+
+    final_view : view final me ≡ after (silent ++ s.acc.answers) first_view
+    final_view = sends_told count s.sends noted me ∙ notes_told c nodes' me me (silent ++ s.acc.answers) begun_tape notes_mine ∙ here (after (silent ++ s.acc.answers) (view begun_tape me)) (view begun_tape me)
+        ∙ ap (after (silent ++ s.acc.answers)) begun_view
+
+    agrees_end : Agrees (view final me) (made.node).met
+    agrees_end = subst (λ x. Agrees x (made.node).met) (sym final_view)
+        (agrees_sent s.sends (after (silent ++ s.acc.answers) first_view) (onto (silent ++ s.acc.answers) (s.own ∷ (nodes me).met))
+        (agrees_after (silent ++ s.acc.answers) first_view (s.own ∷ (nodes me).met) (agrees_one s.own (view tape me) (nodes me).met f.told.agrees)))
 
     answers_leave : Each LeavesApplied s.acc.answers
     answers_leave = each_on SaidAt LeavesApplied by s.acc.answers f.acting.answers
@@ -420,9 +447,10 @@ module _ (c : Cluster) (usage : Usage) (h : Meanings) (me : ℕ) (tape : List It
     speaks o (Proposes group n asked proposal promised) b (inr says) =
         let there = stands_among _ count s.sends noted (f.among _ says.among) in record { number = there.0; to = says.to; group = says.group; n = says.n; own = says.own; is_own = says.is_own; stands = there.1 }
 
-    opens_end : (o : Operation) → OpenBelow (setting c h me) base first Of Spoke Other k s.acc.sends s.acc.answers o → OpenOn final me o
+    opens_end : (o : Operation) → OpenBelow (setting c h me) base first Of Spoke Other k s.acc.sends s.acc.answers o → OpenOn c final me o
     opens_end o kept = let b = beside_final me o.id kept.apart in record {
       node = (kept.of).node;
+      serves = kept.served;
       sound = kept.sound;
       spoke = speaks o o.phase b kept.spoke;
       began = b.began ∙ (kept.of).begins;
@@ -431,7 +459,7 @@ module _ (c : Cluster) (usage : Usage) (h : Meanings) (me : ℕ) (tape : List It
 
     pub node_end : NodeTold c final me made.node
     node_end = record {
-      opens = each_on (OpenBelow (setting c h me) base first Of Spoke Other k s.acc.sends s.acc.answers) (OpenOn final me) opens_end s.acc.kept f.acting.kept;
+      opens = each_on (OpenBelow (setting c h me) base first Of Spoke Other k s.acc.sends s.acc.answers) (OpenOn c final me) opens_end s.acc.kept f.acting.kept;
       agrees = agrees_end;
       applies = applies_end;
       stored = λ group. subst (λ log. s.acc.stored group ≤ length (writes_of log)) (sym (same_end.logs group)) (f.acting.stored.within group);

@@ -17,8 +17,9 @@ use Rattle.mega_index.specs.Fitted.{most_bytes}
 use Rattle.mega_handler.specs.Named.{effect_by, has, meaning}
 use Rattle.mega_index.specs.Rows.{Listed, after, list_after, no_rows}
 use Rattle.mega_outcome.specs.declared.answer.Answer.{Answer}
-use Rattle.mega_outcome.specs.declared.answer.Answer.TheVariants.{AllTurned, Conflict, LogFull, NoHandler, NothingToDo, Read as ReadAnswer, Turned as TurnedAnswer}
+use Rattle.mega_outcome.specs.declared.answer.Answer.TheVariants.{AllTurned, Committed, Conflict, LogFull, NoHandler, NothingToDo, Read as ReadAnswer, Turned as TurnedAnswer}
 use Rattle.mega_outcome.specs.declared.answer.Done.{Done}
+use Rattle.mega_outcome.specs.declared.answer.Mark.{Mark}
 use Rattle.mega_outcome.specs.declared.answer.Turn.{Turn as Turned}
 use Rattle.mega_outcome.specs.declared.request.ReadRequest.{ReadRequest}
 use Rattle.mega_outcome.specs.declared.request.Request.{Request}
@@ -26,6 +27,7 @@ use Rattle.mega_outcome.specs.declared.request.Request.TheVariants.{Txn, Batch a
 use Rattle.mega_outcome.specs.declared.transaction.RowRef.{RowRef}
 use Rattle.mega_outcome.specs.Outcome.{batch_outcome, entry_of_batch, entry_of_done, outcome}
 use Rattle.mega_outcome.specs.Reads.{all_rows, read_rows}
+use Rattle.mega_cause_laws.specs.of_run_laws.of_tape_laws.of_promises.Causes.{marked_at}
 use Rattle.mega_cause_laws.specs.of_run_laws.of_tape_laws.of_promises.Fresh.{read_over}
 use Rattle.mega_cause_laws.specs.of_run_laws.of_tape_laws.of_promises.Promises.{MayPropose, rows_shown}
 use Rattle.mega_cause_laws.specs.of_run_laws.of_tape_laws.of_promises.of_rules.of_read.of_propose.Rounds.{asks}
@@ -41,19 +43,20 @@ use Rattle.mega_cause_laws.specs.of_run_laws.of_tape_laws.of_promises.of_rules.M
 use Rattle.mega_cause_laws.specs.of_run_laws.of_tape_laws.of_promises.of_rules.Queues.{Posted, enter_entry, is_named, names_entered, next_to_enter, next_to_handle, oldest_unhandled}
 use Rattle.mega_cause_laws.specs.of_run_laws.of_tape_laws.of_promises.of_rules.Operations.{Now, Operation, Phase, Promised, Proposes, Reads, Replies, Results, Setting}
 use Rattle.mega_cause_laws.specs.of_run_laws.of_tape_laws.of_promises.of_rules.Acting.{ActsAgain, Next, Rests, acts, applied_logs, applied_marks, begins_read, committed, completes_read, ends, enters, finishes, goes_on, handles, handling, in_phase, keeps, leader_after, listed_at, picks_group, picks_message, picks_to_enter, picks_to_handle, proposes, proposes_by, read_answer, read_begun, reader_of, reads_on, rests_within, rows_answer, rows_at, sealed, sends_more, stored_with, table_rows, unless_decided, unless_full, validated_by, validates, verdict}
-use Rattle.mega_cause_laws.specs.of_run_laws.of_tape_laws.of_promises.of_rules.of_replica.Applying.{after_read, writes_of}
+use Rattle.mega_cause_laws.specs.of_run_laws.of_tape_laws.of_promises.of_rules.of_replica.Applying.{after_read, applied, writes_of}
 use Rattle.mega_wal.specs.Same.{same_group, same_op, same_option}
 use Rattle.mega_wal.proofs.Sames.{same_group_equal, same_op_equal}
 use Rattle.mega_wire.specs.declared.message.Message.{Message}
 use Rattle.mega_wire.specs.declared.message.Body.TheVariants.{Accept}
 use Rattle.mega_node_laws.specs.Deciding.{SameLogs}
-use Rattle.mega_node_laws.proofs.Applied.{read_keeps, read_within}
+use Rattle.mega_node_laws.proofs.Applied.{applied_more, read_keeps, read_within}
 use Rattle.mega_node_laws.proofs.Logs.{same_more}
 use Rattle.mega_cause_laws.specs.of_run_laws.of_tape_laws.Places.{In}
 use Rattle.mega_cause_laws.specs.of_run_laws.Justified.{Each}
 use Rattle.mega_cause_laws.proofs.of_run_laws.Turns.{IsApart, each_on, each_push, other_number}
 use Rattle.mega_cause_laws.proofs.of_run_laws.Whole.{in_left}
-use Rattle.mega_answer_laws.proofs.Reasons.{At, FullAt, IsMet, IsSound, SoundPromise, SoundReads}
+use Rattle.mega_answer_laws.proofs.Marks.{marked_is}
+use Rattle.mega_answer_laws.proofs.Reasons.{At, FullAt, IsMet, IsSound, KeepsRows, NothingAt, PumpMet, Reached, SoundPromise, SoundReads}
 use Rattle.mega_answer_laws.proofs.Nothing.{nothing_to_enter, nothing_to_handle}
 
 -- ---- lists
@@ -123,19 +126,19 @@ answer_is s request p log = by request.rows
 -- `base` is what the node met and `first` what it had stored as its operations begin to act, `Of` is what holds of each by its name, request and begin, `Spoke` of one that proposed before,
 -- and `Other` are causes of answers that are given where an operation does not act
 module _ (s : Setting) (base : List Met) (first : GroupId → ℕ) (Of : OpId → Request → ℕ → Type 0) (Spoke : OpId → Type 0) (Other : OpId → Request → ℕ → Answer → Type 0) where
-  abbrev pub Cause : OpId → Request → ℕ → Answer → Type 0
-  Cause op request began answer = IsMet s base op request answer ⊎ Other op request began answer
+  abbrev pub Cause : (GroupId → ℕ) → OpId → Request → ℕ → Answer → Type 0
+  Cause stored op request began answer = IsMet s base first stored op request answer ⊎ Other op request began answer
 
-  pub record Said (k : ℕ) (op : OpId) (answer : Answer) : Type 0 where
+  pub record Said (stored : GroupId → ℕ) (k : ℕ) (op : OpId) (answer : Answer) : Type 0 where
     pub request : Request
     pub began : ℕ
     pub of : Of op request began
     pub below : op.number < k
-    pub cause : Cause op request began answer
+    pub cause : Cause stored op request began answer
 
-  abbrev pub SaidBelow : ℕ → Met → Type 0
-  SaidBelow k (Answers op answer) = Said k op answer
-  SaidBelow k _ = ⊥
+  abbrev pub SaidBelow : (GroupId → ℕ) → ℕ → Met → Type 0
+  SaidBelow stored k (Answers op answer) = Said stored k op answer
+  SaidBelow stored k _ = ⊥
 
   abbrev pub Spoken : List Message → OpId → Phase → Type 0
   Spoken sends op (Reads group r) = Unit {0}
@@ -143,6 +146,7 @@ module _ (s : Setting) (base : List Met) (first : GroupId → ℕ) (Of : OpId �
 
   pub record OpenBelow (k : ℕ) (sends : List Message) (answers : List Met) (o : Operation) : Type 0 where
     pub of : Of o.id o.request o.began
+    pub served : KeepsRows s
     pub sound : IsSound o.request o.phase
     pub spoke : Spoken sends o.id o.phase
     pub below : (o.id).number < k
@@ -157,13 +161,14 @@ module _ (s : Setting) (base : List Met) (first : GroupId → ℕ) (Of : OpId �
     pub same : SameLogs base now.met
     pub stored : Holds now.stored
     pub valid : Each IsValid now.valid
-    pub answers : Each (SaidBelow k) now.answers
+    pub answers : Each (SaidBelow now.stored k) now.answers
     pub kept : Each (OpenBelow k now.sends now.answers) now.kept
 
   -- an operation that acts
   pub record Turn (now : Now) (o : Operation) : Type 0 where
     pub acting : Acting (o.id).number now
     pub of : Of o.id o.request o.began
+    pub served : KeepsRows s
     pub sound : IsSound o.request o.phase
     pub spoke : Spoken now.sends o.id o.phase
 
@@ -172,25 +177,25 @@ module _ (s : Setting) (base : List Met) (first : GroupId → ℕ) (Of : OpId �
 
   -- ---- numbers
 
-  said_up : (k l : ℕ) → k ≤ l → (one : Met) → SaidBelow k one → SaidBelow l one
-  said_up k l le (Answers op answer) h = record { request = h.request; began = h.began; of = h.of; below = (let less = h.below in omega (arith, less, le)); cause = h.cause }
-  said_up k l le _ h = absurd h
+  said_up : (stored : GroupId → ℕ) (k l : ℕ) → k ≤ l → (one : Met) → SaidBelow stored k one → SaidBelow stored l one
+  said_up stored k l le (Answers op answer) h = record { request = h.request; began = h.began; of = h.of; below = (let less = h.below in omega (arith, less, le)); cause = h.cause }
+  said_up stored k l le _ h = absurd h
 
   kept_up : (k l : ℕ) (sends : List Message) (answers : List Met) → k ≤ l → (o : Operation) → OpenBelow k sends answers o → OpenBelow l sends answers o
-  kept_up k l sends answers le o h = record { of = h.of; sound = h.sound; spoke = h.spoke; below = (let less = h.below in omega (arith, less, le)); apart = h.apart }
+  kept_up k l sends answers le o h = record { of = h.of; served = h.served; sound = h.sound; spoke = h.spoke; below = (let less = h.below in omega (arith, less, le)); apart = h.apart }
 
   pub acting_up : (k l : ℕ) (now : Now) → k ≤ l → Acting k now → Acting l now
   acting_up k l now le a = record {
     same = a.same;
     stored = a.stored;
     valid = a.valid;
-    answers = each_on (SaidBelow k) (SaidBelow l) (said_up k l le) now.answers a.answers;
+    answers = each_on (SaidBelow now.stored k) (SaidBelow now.stored l) (said_up now.stored k l le) now.answers a.answers;
     kept = each_on (OpenBelow k now.sends now.answers) (OpenBelow l now.sends now.answers) (kept_up k l now.sends now.answers le) now.kept a.kept;
   }
 
-  said_apart : (x : OpId) (one : Met) → SaidBelow x.number one → IsApart x one
-  said_apart x (Answers op answer) h = less_apart op x h.below
-  said_apart x _ h = absurd h
+  said_apart : (stored : GroupId → ℕ) (x : OpId) (one : Met) → SaidBelow stored x.number one → IsApart x one
+  said_apart stored x (Answers op answer) h = less_apart op x h.below
+  said_apart stored x _ h = absurd h
 
   -- ---- what is sent
 
@@ -200,7 +205,7 @@ module _ (s : Setting) (base : List Met) (first : GroupId → ℕ) (Of : OpId �
   spoken_more sends more op (Proposes group n asked proposal promised) (inr says) = inr (says_more sends more op says)
 
   kept_sends : (k : ℕ) (sends more : List Message) (answers : List Met) (o : Operation) → OpenBelow k sends answers o → OpenBelow k (sends ++ more) answers o
-  kept_sends k sends more answers o h = record { of = h.of; sound = h.sound; spoke = spoken_more sends more o.id o.phase h.spoke; below = h.below; apart = h.apart }
+  kept_sends k sends more answers o h = record { of = h.of; served = h.served; sound = h.sound; spoke = spoken_more sends more o.id o.phase h.spoke; below = h.below; apart = h.apart }
 
   pub acting_sends : (k : ℕ) (now : Now) (ms : List Message) → Acting k now → Acting k (sends_more now ms)
   acting_sends k now ms a = record {
@@ -227,16 +232,18 @@ module _ (s : Setting) (base : List Met) (first : GroupId → ℕ) (Of : OpId �
     answers = a.answers;
     kept = each_push (OpenBelow ((o.id).number + 1) now.sends now.answers) now.kept o a.kept (record {
       of = t.of;
+      served = t.served;
       sound = t.sound;
       spoke = t.spoke;
       below = next_of (o.id).number;
-      apart = each_on (SaidBelow (o.id).number) (IsApart o.id) (said_apart o.id) now.answers (t.acting).answers;
+      apart = each_on (SaidBelow now.stored (o.id).number) (IsApart o.id) (said_apart now.stored o.id) now.answers (t.acting).answers;
     });
   }
 
   kept_ends : (op : OpId) (answer : Answer) (sends : List Message) (answers : List Met) (o : Operation) → OpenBelow op.number sends answers o → OpenBelow (op.number + 1) sends (answers ++ Answers op answer ∷ []) o
   kept_ends op answer sends answers o h = record {
     of = h.of;
+    served = h.served;
     sound = h.sound;
     spoke = h.spoke;
     below = (let less = h.below in omega (arith, less));
@@ -246,25 +253,26 @@ module _ (s : Setting) (base : List Met) (first : GroupId → ℕ) (Of : OpId �
       more_apart : (a b : OpId) → b.number < a.number → same_op a b ≡ false
       more_apart a b less = other_number a b less
 
-  pub ends_at : (now : Now) (op : OpId) (request : Request) (began : ℕ) (answer : Answer) → Acting op.number now → Of op request began → Cause op request began answer → P op (ends now op answer)
+  pub ends_at : (now : Now) (op : OpId) (request : Request) (began : ℕ) (answer : Answer) → Acting op.number now → Of op request began → Cause now.stored op request began answer → P op (ends now op answer)
   ends_at now op request began answer a of cause = record {
     same = a.same;
     stored = a.stored;
     valid = a.valid;
-    answers = each_both (SaidBelow (op.number + 1)) now.answers (Answers op answer ∷ []) (each_on (SaidBelow op.number) (SaidBelow (op.number + 1)) (said_up op.number (op.number + 1) (next_up op.number)) now.answers a.answers)
+    answers = each_both (SaidBelow now.stored (op.number + 1)) now.answers (Answers op answer ∷ [])
+        (each_on (SaidBelow now.stored op.number) (SaidBelow now.stored (op.number + 1)) (said_up now.stored op.number (op.number + 1) (next_up op.number)) now.answers a.answers)
         (record { request = request; began = began; of = of; below = next_of op.number; cause = cause }, tt);
     kept = each_on (OpenBelow op.number now.sends now.answers) (OpenBelow (op.number + 1) now.sends (now.answers ++ Answers op answer ∷ [])) (kept_ends op answer now.sends now.answers) now.kept a.kept;
   }
 
-  ends_it : (now : Now) (o : Operation) (answer : Answer) → Turn now o → IsMet s base o.id o.request answer → P o.id (ends now o.id answer)
+  ends_it : (now : Now) (o : Operation) (answer : Answer) → Turn now o → IsMet s base first now.stored o.id o.request answer → P o.id (ends now o.id answer)
   ends_it now o answer t cause = ends_at now o.id o.request o.began answer t.acting t.of (inl cause)
 
   -- ---- its position is decided
 
-  verdict_met : (op x : OpId) (request : Request) (n : ℕ) (promised : Promised) (entry : Content) → SoundPromise request promised → IsMet s base op request (verdict x n promised entry)
-  verdict_met op x request n promised entry h = by (same_option same_op entry.id (Some x)) request promised h
+  verdict_met : (stored : GroupId → ℕ) (op x : OpId) (request : Request) (n : ℕ) (promised : Promised) (entry : Content) → SoundPromise request promised → IsMet s base first stored op request (verdict x n promised entry)
+  verdict_met stored op x request n promised entry h = by (same_option same_op entry.id (Some x)) request promised h
     where
-      by : (t : Bool) (asked : Request) (what : Promised) → SoundPromise asked what → IsMet s base op asked (cond t (committed n what) (Conflict (record { 0 = n }) entry.id))
+      by : (t : Bool) (asked : Request) (what : Promised) → SoundPromise asked what → IsMet s base first stored op asked (cond t (committed n what) (Conflict (record { 0 = n }) entry.id))
       by true (Txn transaction) (Replies replies) k = tt
       by false (Txn transaction) (Replies replies) k = tt
       by true (BatchRequest own transactions) (Results results) k = tt
@@ -283,7 +291,7 @@ module _ (s : Setting) (base : List Met) (first : GroupId → ℕ) (Of : OpId �
 
   unless_decided_it : (now : Now) (o : Operation) (n : ℕ) (promised : Promised) (d : Option Content) → Turn now o → SoundPromise o.request promised → P o.id (unless_decided now o n promised d)
   unless_decided_it now o n promised None t h = keeps_it now o t
-  unless_decided_it now o n promised (Some entry) t h = ends_it now o (verdict o.id n promised entry) t (verdict_met o.id o.id o.request n promised entry h)
+  unless_decided_it now o n promised (Some entry) t h = ends_it now o (verdict o.id n promised entry) t (verdict_met now.stored o.id o.id o.request n promised entry h)
 
   -- ---- it proposes
 
@@ -297,6 +305,7 @@ module _ (s : Setting) (base : List Met) (first : GroupId → ℕ) (Of : OpId �
       (record {
         acting = acting_sends (o.id).number now (asks (site (reader_of s o.id group) (asked_by r) (p + 1)) leader own (clock_of now.met)).sends t.acting;
         of = t.of;
+        served = t.served;
         sound = h;
         spoke = inr (record { to = leader; group = group; n = record { 0 = p + 1 }; own = own; is_own = mine; among = in_behind _ now.sends _ (inl refl) });
       }) h
@@ -318,6 +327,46 @@ module _ (s : Setting) (base : List Met) (first : GroupId → ℕ) (Of : OpId �
   either_so id true one other h k = h refl
   either_so id false one other h k = k refl
 
+  -- ---- more is stored
+
+  reached_up : (low high : GroupId → ℕ) → ((group : GroupId) → low group ≤ high group) → (marks : List Mark) → Reached base first low marks → Reached base first high marks
+  reached_up low high le marks h group = ((h group).0, (let one = (h group).1 in let two = applied_more (log_of base group) (low group) (high group) (le group) in omega (arith, one, two)))
+
+  pump_up : (low high : GroupId → ℕ) → ((group : GroupId) → low group ≤ high group) → (op : OpId) (request : Request) (answer : Answer) → PumpMet s base first low op request answer → PumpMet s base first high op request answer
+  pump_up low high le op request (NothingToDo marks) met = record { rows = met.rows; within = met.within; none = met.none; reached = reached_up low high le marks met.reached }
+  pump_up low high le op request (Committed n replies) met = met
+  pump_up low high le op request (Conflict n other) met = met
+  pump_up low high le op request (LogFull n) met = met
+  pump_up low high le op request (NoHandler queue) met = met
+  pump_up low high le op request _ met = absurd met
+
+  met_up : (low high : GroupId → ℕ) → ((group : GroupId) → low group ≤ high group) → (op : OpId) (request : Request) (answer : Answer) → IsMet s base first low op request answer → IsMet s base first high op request answer
+  met_up low high le op (Txn transaction) answer met = met
+  met_up low high le op (BatchRequest group transactions) answer met = met
+  met_up low high le op (ReadRequested request) answer met = met
+  met_up low high le op (Find request) answer met = met
+  met_up low high le op PumpEnter answer met = pump_up low high le op PumpEnter answer met
+  met_up low high le op PumpHandle answer met = pump_up low high le op PumpHandle answer met
+  met_up low high le op Refresh answer met = absurd met
+
+  said_stored : (low high : GroupId → ℕ) → ((group : GroupId) → low group ≤ high group) → (k : ℕ) (one : Met) → SaidBelow low k one → SaidBelow high k one
+  said_stored low high le k (Answers op answer) h = record { request = h.request; began = h.began; of = h.of; below = h.below; cause = by h.cause }
+    where
+      by : Cause low op h.request h.began answer → Cause high op h.request h.began answer
+      by (inl met) = inl (met_up low high le op h.request answer met)
+      by (inr other) = inr other
+  said_stored low high le k _ h = absurd h
+
+  -- the marks of a moment
+  reached_now : (k : ℕ) (now : Now) → Acting k now → Reached base first now.stored (applied_marks now)
+  reached_now k now a group = (
+    subst (λ n. applied (log_of base group) (first group) ≤ n) (sym shown) (applied_more (log_of base group) (first group) (now.stored group) (a.stored.more group)),
+    subst (λ n. n ≤ applied (log_of base group) (now.stored group)) (sym shown) (let same : applied (log_of base group) (now.stored group) ≤ applied (log_of base group) (now.stored group) = omega arith in same),
+  )
+    where
+      shown : marked_at (applied_marks now) group ≡ applied (log_of base group) (now.stored group)
+      shown = marked_is now group ∙ ap (λ log. applied log (now.stored group)) (a.same.logs group)
+
   -- ---- a read that is complete
 
   validated_acts : (k : ℕ) (now : Now) (group : GroupId) (p : ℕ) (refusal : Option NotValid) → Acting k now → Acting k (validated_by now group p refusal)
@@ -336,8 +385,15 @@ module _ (s : Setting) (base : List Met) (first : GroupId → ℕ) (Of : OpId �
 
   completes_it : (now : Now) (o : Operation) (group : GroupId) (r : Reading) (p : ℕ) → Turn now o → Turn (completes_read s now group r p) o
   completes_it now o group r p t = record {
-    acting = validates_acts (o.id).number stored group p r.noted (record { same = (t.acting).same; stored = read_holds; valid = (t.acting).valid; answers = (t.acting).answers; kept = (t.acting).kept });
+    acting = validates_acts (o.id).number stored group p r.noted (record {
+      same = (t.acting).same;
+      stored = read_holds;
+      valid = (t.acting).valid;
+      answers = each_on (SaidBelow now.stored (o.id).number) (SaidBelow stored.stored (o.id).number) (said_stored now.stored stored.stored stores_more (o.id).number) now.answers (t.acting).answers;
+      kept = (t.acting).kept;
+    });
     of = t.of;
+    served = t.served;
     sound = t.sound;
     spoke = spoke_on r.noted;
   }
@@ -347,6 +403,13 @@ module _ (s : Setting) (base : List Met) (first : GroupId → ℕ) (Of : OpId �
 
       log : List Content
       log = log_of now.met group
+
+      stores_more : (other : GroupId) → now.stored other ≤ stored.stored other
+      stores_more other = by (same_group group other) refl
+        where
+          by : (t' : Bool) → same_group group other ≡ t' → now.stored other ≤ cond t' (after_read p log (now.stored group)) (now.stored other)
+          by true e = subst (λ g. now.stored g ≤ after_read p log (now.stored group)) (same_group_equal group other e) (read_keeps p log (now.stored group))
+          by false e = let same : now.stored other ≤ now.stored other = omega arith in same
 
       read_holds : Holds stored.stored
       read_holds = record {
@@ -378,29 +441,36 @@ module _ (s : Setting) (base : List Met) (first : GroupId → ℕ) (Of : OpId �
   pub record Ready (now : Now) (o : Operation) : Type 0 where
     pub acting : Acting (o.id).number now
     pub of : Of o.id o.request o.began
+    pub served : KeepsRows s
 
   pub begins_read_it : (now : Now) (o : Operation) (group : GroupId) (message : Option Enter) (asked : List ℕ) → Ready now o → SoundReads o.request group → Leads o.id (begins_read s now o group message asked)
-  begins_read_it now o group message asked t h = (refl, record { acting = acting_sends (o.id).number now (read_begun s now o group asked).sends t.acting; of = t.of; sound = h; spoke = tt })
+  begins_read_it now o group message asked t h = (refl, record { acting = acting_sends (o.id).number now (read_begun s now o group asked).sends t.acting; of = t.of; served = t.served; sound = h; spoke = tt })
 
-  nothing_it : (now : Now) (o : Operation) → Ready now o → IsMet s base o.id o.request (NothingToDo (applied_marks now)) → P o.id (ends now o.id (NothingToDo (applied_marks now)))
+  nothing_it : (now : Now) (o : Operation) → Ready now o → IsMet s base first now.stored o.id o.request (NothingToDo (applied_marks now)) → P o.id (ends now o.id (NothingToDo (applied_marks now)))
   nothing_it now o t h = ends_at now o.id o.request o.began (NothingToDo (applied_marks now)) t.acting t.of (inl h)
 
   pub picks_message_it : (now : Now) (o : Operation) (asked : List ℕ) → Ready now o → o.request ≡ PumpEnter → Leads o.id (picks_to_enter s now o asked)
   picks_message_it now o asked t is = by (next_to_enter o.id (applied_logs now)) refl
     where
+      nothing : next_to_enter o.id (applied_logs now) ≡ None → NothingAt s base first now.stored o.id PumpEnter (applied_marks now)
+      nothing none = let found = nothing_to_enter base now (t.acting).same o.id none in record { rows = t.served; within = found.0; none = found.1; reached = reached_now (o.id).number now t.acting }
+
       by : (one : Option Posted) → next_to_enter o.id (applied_logs now) ≡ one → Leads o.id (picks_message s now o asked one)
-      by None none = nothing_it now o t (subst (λ (r : Request). IsMet s base o.id r (NothingToDo (applied_marks now))) (sym is) (nothing_to_enter base now (t.acting).same o.id none))
+      by None none = nothing_it now o t (subst (λ (r : Request). IsMet s base first now.stored o.id r (NothingToDo (applied_marks now))) (sym is) (nothing none))
       by (Some one) e = begins_read_it now o one.to (Some one.message) asked t (subst (λ (r : Request). SoundReads r one.to) (sym is) tt)
 
   pub picks_group_it : (now : Now) (o : Operation) (asked : List ℕ) → Ready now o → o.request ≡ PumpHandle → Leads o.id (picks_to_handle s now o asked)
   picks_group_it now o asked t is = by (next_to_handle (applied_logs now)) refl
     where
+      nothing : next_to_handle (applied_logs now) ≡ None → NothingAt s base first now.stored o.id PumpHandle (applied_marks now)
+      nothing none = let found = nothing_to_handle base now (t.acting).same none in record { rows = t.served; within = found.0; none = found.1; reached = reached_now (o.id).number now t.acting }
+
       by : (one : Option GroupId) → next_to_handle (applied_logs now) ≡ one → Leads o.id (picks_group s now o asked one)
-      by None none = nothing_it now o t (subst (λ (r : Request). IsMet s base o.id r (NothingToDo (applied_marks now))) (sym is) (nothing_to_handle base now (t.acting).same none))
+      by None none = nothing_it now o t (subst (λ (r : Request). IsMet s base first now.stored o.id r (NothingToDo (applied_marks now))) (sym is) (nothing none))
       by (Some group) e = begins_read_it now o group None asked t (subst (λ (r : Request). SoundReads r group) (sym is) tt)
 
   ready : (now : Now) (o : Operation) → Turn now o → Ready now o
-  ready now o t = record { acting = t.acting; of = t.of }
+  ready now o t = record { acting = t.acting; of = t.of; served = t.served }
 
   -- ---- what it does whose read is complete
 
@@ -412,11 +482,11 @@ module _ (s : Setting) (base : List Met) (first : GroupId → ℕ) (Of : OpId �
         → FullAt s base request (record { 0 = p })
     full_met now request group r p le t home full = (le_is (s.cluster.limit).0 p full, group, subst (λ n. p ≤ n) ((t.acting).same.prefixes group) le, home)
 
-    unless_full_it : (now : Now) (request : Request) (group : GroupId) (r : Reading) (p : ℕ) (next : Next) → Turn now (one request (Reads group r)) → (nat_le (s.cluster.limit).0 p ≡ true → IsMet s base id request (LogFull (record { 0 = p })))
+    unless_full_it : (now : Now) (request : Request) (group : GroupId) (r : Reading) (p : ℕ) (next : Next) → Turn now (one request (Reads group r)) → (nat_le (s.cluster.limit).0 p ≡ true → IsMet s base first now.stored id request (LogFull (record { 0 = p })))
         → Leads id next → Leads id (unless_full s now (one request (Reads group r)) p next)
     unless_full_it now request group r p next t h k = either_so id (nat_le (s.cluster.limit).0 p) _ next (λ full. ends_it now (one request (Reads group r)) (LogFull (record { 0 = p })) t (h full)) (λ room. k)
 
-    sealed_it : (now : Now) (request : Request) (group : GroupId) (r : Reading) (p : ℕ) (result : Result Done Turned) → Turn now (one request (Reads group r)) → ((turn : Turned) → IsMet s base id request (TurnedAnswer turn))
+    sealed_it : (now : Now) (request : Request) (group : GroupId) (r : Reading) (p : ℕ) (result : Result Done Turned) → Turn now (one request (Reads group r)) → ((turn : Turned) → IsMet s base first now.stored id request (TurnedAnswer turn))
         → ((done : Done) → SoundPromise request (Replies done.replies)) → P id (sealed s now (one request (Reads group r)) group r p result)
     sealed_it now request group r p (Err turn) t h k = ends_it now (one request (Reads group r)) (TurnedAnswer turn) t (h turn)
     sealed_it now request group r p (Ok done) t h k = proposes_it now (one request (Reads group r)) group r p (entry_of_done id done) (Replies done.replies) t refl (k done)
@@ -461,7 +531,7 @@ module _ (s : Setting) (base : List Met) (first : GroupId → ℕ) (Of : OpId �
         (λ enough. finishes_by (completes_read s now group r p) request group r p (subst (λ n. p ≤ n) (sym (completed.acting.same.prefixes group ∙ sym ((t.acting).same.prefixes group))) (le_is p (prefix_of now.met group) enough)) completed)
         (λ short. keeps_it (sends_more now (seeks (reader_of s id group) r (prefix_of now.met group + 1) (clock_of now.met)).sends)
         (one request (Reads group (seeks (reader_of s id group) r (prefix_of now.met group + 1) (clock_of now.met)).reading))
-        (record { acting = acting_sends id.number now (seeks (reader_of s id group) r (prefix_of now.met group + 1) (clock_of now.met)).sends t.acting; of = t.of; sound = t.sound; spoke = tt }))
+        (record { acting = acting_sends id.number now (seeks (reader_of s id group) r (prefix_of now.met group + 1) (clock_of now.met)).sends t.acting; of = t.of; served = t.served; sound = t.sound; spoke = tt }))
       where
         r : Reading
         r = record { noted = noted; asked = asked; stage = Catching p search }

@@ -1,6 +1,7 @@
 -- The cause of each answer: what the tape before it shows wherever an operation is answered so.
 use Rattle.std.specs.Prelude.{◌≡◌, ◌≢◌, ℕ, ◌+◌, ◌-◌, ◌≤◌, ◌==◌, Bool, true, false, if◌then◌else◌, List, [], ◌∷◌, take, length, map, flat_map, min, Option, Some, None, Result, Ok, Err}
 use Rattle.mega_base.specs.declared.names.GroupId.{GroupId}
+use Rattle.mega_base.specs.declared.names.NodeId.{NodeId}
 use Rattle.mega_base.specs.declared.names.OpId.{OpId}
 use Rattle.mega_base.specs.declared.names.Position.{Position}
 use Rattle.mega_base.specs.declared.values.NodeKind.{NodeKind}
@@ -35,7 +36,7 @@ use Rattle.mega_rules.specs.Members.{kind_of}
 use Rattle.mega_rules.specs.Queues.{Log, next_to_enter, next_to_handle}
 use Rattle.mega_rules.specs.Steps.{missing_kind}
 use Rattle.mega_promises.specs.Fresh.{find_over, proposes, read_over}
-use Rattle.mega_promises.specs.Moments.{StoodOn, applied_on, began_on, begun_on, clock_on, open_on, refreshed_on}
+use Rattle.mega_promises.specs.Moments.{StoodOn, applied_on, before_step, began_on, begun_on, clock_on, open_on, refreshed_on}
 use Rattle.mega_promises.specs.Promises.{MayPropose, Stands, asked_for, log_of}
 use Rattle.mega_promises.specs.Runs.{setting}
 
@@ -127,15 +128,15 @@ pub record HasProposed (before : List Item) (op : OpId) : Type 0 where
 abbrev pub log_through : List Item → Mark → Log
 log_through before mark = record { group = mark.group; entries = front before mark.group (mark.position).0 }
 
-abbrev pub HasNothing : List Item → OpId → Request → List Mark → Type 0
-HasNothing before op PumpEnter marks = next_to_enter op (map (log_through before) marks) ≡ None
-HasNothing before op PumpHandle marks = next_to_handle (map (log_through before) marks) ≡ None
-HasNothing before op _ marks = ⊥
-
 -- marks show each group's applied position, where it is not 0
 abbrev pub marked_at : List Mark → GroupId → ℕ
 marked_at [] group = 0
 marked_at (mark ∷ marks) group = if same_group mark.group group then (mark.position).0 else marked_at marks group
+
+-- they are what a node had applied at some time of its step: no less than before it, and no more than it shows now
+abbrev pub AreReached : List Item → NodeId → List Mark → Type 0
+AreReached before node marks =
+    (group : GroupId) → (applied_on (before_step before) node group ≤ marked_at marks group) × (marked_at marks group ≤ applied_on before node group)
 
 -- ---- each answer
 
@@ -158,7 +159,8 @@ IsCause c h before op request (LogFull n) = ((c.limit).0 ≤ n.0) × (group : Gr
 IsCause c h before op request (Busy count) = (count ≡ 64) × (count + 1 ≤ length (open_on before op.node))
 IsCause c h before op request Worn = last_number ≤ begun_on before op.node
 IsCause c h before op request (NotHere kind) = missing_kind request (kind_of c op.node.0) ≡ Some kind
-IsCause c h before op request (NothingToDo marks) = HasNothing before op request marks
+IsCause c h before op PumpEnter (NothingToDo marks) = AreReached before op.node marks × (next_to_enter op (map (log_through before) marks) ≡ None)
+IsCause c h before op PumpHandle (NothingToDo marks) = AreReached before op.node marks × (next_to_handle (map (log_through before) marks) ≡ None)
 IsCause c h before op request (NoHandler queue) = (request ≡ PumpHandle) × (has h queue ≡ false)
 IsCause c h before op request _ = ⊥
 

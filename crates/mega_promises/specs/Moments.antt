@@ -5,7 +5,7 @@ use Rattle.mega_base.specs.declared.names.NodeId.{NodeId}
 use Rattle.mega_base.specs.declared.names.OpId.{OpId}
 use Rattle.mega_outcome.specs.declared.answer.Mark.{Mark}
 use Rattle.mega_transcript.specs.declared.item.Item.{Item}
-use Rattle.mega_transcript.specs.declared.item.Item.TheVariants.{Answer, Apply, Begin, Crash, Start, Tick}
+use Rattle.mega_transcript.specs.declared.item.Item.TheVariants.{Answer, Apply, Begin, Crash, Start, Taken, Tick}
 use Rattle.mega_wal.specs.Same.{same_group, same_op}
 use Rattle.mega_rules.specs.Finding.{marks_shown}
 
@@ -13,6 +13,14 @@ use Rattle.mega_rules.specs.Finding.{marks_shown}
 pub record StoodOn (item : Item) (before tape : List Item) : Type 0 where
   pub later : List Item
   pub is : tape ≡ later ++ item ∷ before
+
+-- the tape before the step whose items stand last on it
+abbrev pub before_step : List Item → List Item
+before_step [] = []
+before_step (Tick node now ∷ before) = before
+before_step (Taken number ∷ before) = before
+before_step (Begin op text ∷ before) = before
+before_step (_ ∷ before) = before_step before
 
 abbrev pub is_same_node : NodeId → NodeId → Bool
 is_same_node a b = a.0 == b.0
