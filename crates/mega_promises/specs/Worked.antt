@@ -86,6 +86,10 @@ run_on c fate events = reverse (goes_on c (λ now me calls. fate) (opening c [])
 abbrev pub run : List WorldEvent → List Item
 run events = run_on cluster Whole events
 
+-- as a tape, with the newest item first
+abbrev pub tape_of : List WorldEvent → List Item
+tape_of events = (goes_on cluster (λ now me calls. Whole) (opening cluster []) (map happens events)).tape
+
 -- the same under fuses that fail at the append which they name
 abbrev pub run_by_fuse : List WorldEvent → List Item
 run_by_fuse events = reverse (goes_on cluster by_fuse (opening cluster []) (map happens events)).tape

@@ -1,7 +1,7 @@
 //! Worked runs: what the definition of a run gives for schedules whose transcripts are known, as contracts of functions that do
 //! nothing.
 
-ghost use Rattle.std.specs.Prelude.{◌≡◌, [], ◌∷◌, ◌++◌, codes, decimal, map, is_ok, length, reverse, take, true, false, Ok, Err, None, Some};
+ghost use Rattle.std.specs.Prelude.{◌≡◌, [], ◌∷◌, ◌++◌, codes, decimal, map, is_ok, is_some, length, reverse, take, true, false, Ok, Err, None, Some};
 ghost use Rattle.std.specs.List.{range_with_len};
 ghost use Rattle.mega_base.specs.declared.values.NodeKind.TheVariants.{Witness, Read as ReadOnly};
 ghost use Rattle.mega_outcome.specs.declared.answer.Answer.TheVariants.{Batched, Found as FoundAnswer, LogFull, NotHere, NothingToDo, Read as ReadAnswer, Refreshed, Turned, Unknown};
@@ -9,21 +9,25 @@ ghost use Rattle.mega_outcome.specs.declared.answer.Turn.TheVariants.{CheckFaile
 ghost use Rattle.mega_outcome.specs.declared.request.Request.TheVariants.{PumpEnter, PumpHandle, Refresh, Txn};
 ghost use Rattle.mega_outcome.specs.Outcome.{outcome};
 ghost use Rattle.mega_index.specs.Rows.{after, no_rows};
-ghost use Rattle.mega_outcome.specs.declared.request.Mode.TheVariants.{Current, Snapshot};
+ghost use Rattle.mega_outcome.specs.declared.request.Mode.TheVariants.{Current, Inconsistent, Snapshot};
 ghost use Rattle.mega_schedule.specs.declared.world_event.WorldEvent.TheVariants.{Deliver, Drain, Drop};
 ghost use Rattle.mega_ballot.specs.Order.{zero_ballot};
 ghost use Rattle.mega_wire.specs.declared.message.Body.TheVariants.{Accept, Accepted, Acquire, Reply, Top, Where};
 ghost use Rattle.mega_wire.specs.Messages.{message_text};
 ghost use Rattle.mega_transcript.specs.declared.item.Item.TheVariants.{Serving as ServingItem, Start as StartItem, Tick as TickItem};
 ghost use Rattle.mega_transcript.specs.Answers.{answer_words};
+ghost use Rattle.mega_transcript.specs.Counts.{prefix_of};
 ghost use Rattle.mega_transcript.specs.Lines.{line};
 ghost use Rattle.mega_promises.specs.Items.{number};
 ghost use Rattle.mega_promises.specs.Served.{Got, Noted, OfClient, OfNode, Put, joined};
 ghost use Rattle.mega_promises.specs.Records.{record_line};
 ghost use Rattle.hex.specs.Hex.{encode_lower};
 ghost use Rattle.mega_rules.specs.Examples.{cluster, entry_of, from_to, group, schema};
+ghost use Rattle.mega_rules.specs.Queues.{next_to_enter};
+ghost use Rattle.mega_promises.specs.Causes.{log_through};
+ghost use Rattle.mega_promises.specs.Moments.{applied_on, before_step};
 ghost use Rattle.mega_promises.specs.Runs.{AsItWas, Compacted, CutByData, CutByLog, Recorded, Whole};
-ghost use Rattle.mega_promises.specs.Worked.{Asked, Lapses, Learned, Loses, Proposed, Serves, Unsafe, Unsent, Valid, answers, asked_by, begin, changing, find_john, first_mark, front_of, gone, indexed, john, old_answers, second, sends_decided, story, committed_at, conflict_at, crash, drain, fuse_log, epoch, filling, forged, crashes, compacting, due_after, fuse_data, ids_decided, lines_given, lines_of, marks, mixed, op, own, put_at, quiet, read_at, read_through, replies, run, run_by_fuse, run_on, short_log, start, strange, three, tick, told};
+ghost use Rattle.mega_promises.specs.Worked.{Asked, Lapses, Learned, Loses, Proposed, Serves, Unsafe, Unsent, Valid, answers, asked_by, begin, changing, find_john, first_mark, front_of, gone, indexed, john, old_answers, second, sending, sends_decided, story, tape_of, committed_at, conflict_at, crash, drain, fuse_log, epoch, filling, forged, crashes, compacting, due_after, fuse_data, ids_decided, lines_given, lines_of, marks, mixed, op, own, put_at, quiet, read_at, read_through, replies, run, run_by_fuse, run_on, short_log, start, strange, three, tick, told};
 
 /// One put, and the delivery of its fourteen messages in order: three starts, and 36 items more.
 #[tactic(auto, unfolding(mega_base::specs::Codec::number_text))]
@@ -163,6 +167,24 @@ pub fn a_batch_of_three()
 #[tactic(auto, unfolding(mega_base::specs::Codec::number_text))]
 pub fn pumps_and_a_refresh()
     ensures { answers (run (put_at 1 ∷ drain ∷ begin 2 PumpEnter ∷ begin 3 PumpHandle ∷ begin 1 Refresh ∷ [])) ≡ told (op 1 1 1) (committed_at 1) ∷ told (op 2 1 1) (NothingToDo ((record { group = group; position = record { 0 = 1 } }) ∷ [])) ∷ told (op 3 1 1) (NothingToDo ((record { group = group; position = record { 0 = 1 } }) ∷ [])) ∷ told (op 1 1 2) (Refreshed ((record { group = group; position = record { 0 = 1 } }) ∷ [])) ∷ [] }
+{}
+
+/// What a pump shows as it finds nothing is what its node has applied: here it applied the group through 1 before the step and in it, so no other mark has a cause, and
+/// none where a message waits that the node applied.
+#[tactic(auto, unfolding(mega_base::specs::Codec::number_text, mega_keys::specs::Reading::key_at, mega_keys::specs::Reading::key_front_at, mega_keys::specs::Reading::root_at, mega_keys::specs::Reading::marks_at, mega_keys::specs::Reading::byte_at, mega_keys::specs::Reading::values_at, mega_keys::specs::Reading::int64_at, mega_keys::specs::Reading::agree))]
+pub fn nothing_is_what_is_applied()
+    ensures earlier { applied_on (before_step (tape_of (put_at 1 ∷ drain ∷ begin 2 PumpEnter ∷ []))) (number 2) group ≡ 1 }
+    ensures by_then { applied_on (tape_of (put_at 1 ∷ drain ∷ begin 2 PumpEnter ∷ [])) (number 2) group ≡ 1 }
+    ensures waits { is_some (next_to_enter (op 2 1 1) (map (log_through (tape_of (begin 1 sending ∷ drain ∷ []))) (first_mark ∷ []))) ≡ true }
+    ensures applied { applied_on (tape_of (begin 1 sending ∷ drain ∷ [])) (number 2) group ≡ 1 }
+{}
+
+/// An inconsistent read shows nothing of a position that its node did not decide, whoever else did.
+#[tactic(auto, unfolding(mega_base::specs::Codec::number_text))]
+pub fn what_is_stored_was_decided()
+    ensures shown { answers (run (put_at 1 ∷ Drain 12 ∷ read_at 3 Inconsistent ∷ [])) ≡ told (op 1 1 1) (committed_at 1) ∷ told (op 3 1 1) (ReadAnswer (record { 0 = 0 }) (None ∷ [])) ∷ [] }
+    ensures decided { prefix_of (tape_of (put_at 1 ∷ Drain 12 ∷ [])) group 1 ≡ 1 }
+    ensures unheard { prefix_of (tape_of (put_at 1 ∷ Drain 12 ∷ [])) group 3 ≡ 0 }
 {}
 
 /// What cells said of a node while an operation completed one position is not believed at its next: the third node completes the entry of the
