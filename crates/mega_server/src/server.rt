@@ -7,12 +7,13 @@ ghost use Rattle.mega_wal.specs.declared.item.JournalItem.{JournalItem};
 ghost use Rattle.mega_rules.specs.Operations.{Node as RuleNode};
 ghost use Rattle.mega_rules.specs.Steps.{step};
 ghost use Rattle.mega_replica.specs.Used.{StoreUsed};
+ghost use Rattle.mega_disk.specs.Images.{LeavesOnly};
 ghost use Rattle.mega_wal.specs.Same.{same_op};
 ghost use Rattle.mega_durable.specs.of_core.of_step_parts.Notes.{met_of};
 ghost use Rattle.mega_promises.specs.Runs.{appends};
-ghost use Rattle.mega_durable.specs.Compacting.{AtEachUp, IsToCompact};
-ghost use Rattle.mega_durable.specs.Cut.{LogProceeds, failed_by, log_failed_by};
-ghost use Rattle.mega_durable.specs.Spilling.{AreSpilled, marks_of, rows_in};
+ghost use Rattle.mega_durable.specs.Compacting.{AtEachUp, HoldsAll, IsToCompact};
+ghost use Rattle.mega_durable.specs.Cut.{LogProceeds, MayLeave, failed_by, log_failed_by};
+ghost use Rattle.mega_durable.specs.Spilling.{AreSpilled, MaySpill, marks_of, rows_in};
 ghost use Rattle.mega_durable.specs.Standing.{IsUp, records_in};
 ghost use Rattle.mega_durable.specs.Stepped.{AtEach};
 ghost use Rattle.mega_serve.specs.Causes.{HaveGone, IsDueTo};
@@ -47,6 +48,8 @@ fn readied<R: Records, V: Versions>(alloc: Global, up: &mut Up<R, V>) -> Result<
     ensures counted { OnOk result (IsToCompact R.Records up.old.node.replica.voter.logs → R.count_of (records_in up.new.node) ≡ 1) }
     ensures room { OnOk result (V.is_full (rows_in up.new.node) ≡ false) }
     ensures spilled { V.is_full (rows_in up.old.node) ≡ true → OnOk result (AtEachUp R.Records V.version up.old.node (λ h node. AreSpilled V.Versions (marks_of node.met node.stored) (rows_in up.old.node) (rows_in up.new.node))) }
+    ensures cut { R.is_told ≡ true → AtEachUp R.Records V.version up.old.node (λ h node. LeavesOnly R.moment R.opened_since (records_in up.old.node) (records_in up.new.node) (HoldsAll node.met)) }
+    ensures cut_rows { V.is_told ≡ true → AtEachUp R.Records V.version up.old.node (λ h node. LeavesOnly V.moment V.opened_since (rows_in up.old.node) (rows_in up.new.node) (MaySpill V.Versions (rows_in up.old.node) (marks_of node.met node.stored))) }
     ensures cause { IfErr result (λ fault. IsDueTo (fault_of fault) (devices_of R.Records V.Versions up.old.node) (devices_of R.Records V.Versions up.new.node)) }
     ensures later { HaveGone (devices_of R.Records V.Versions up.old.node) (devices_of R.Records V.Versions up.new.node) }
     ensures members { up.new.node.replica.members ≡ up.old.node.replica.members }
@@ -69,6 +72,7 @@ impl<R: Records, V: Versions, H: QueueHandlers> Server<R, V, H> {
         ensures sends { V.is_told ≡ true → IfOk result (λ made. AtEach R.Records V.version (H.meant self.old.handlers) self.old.up.node (event_of event) (λ h s node. made.sends ≡ (step s node (event_of event)).sends)) }
         ensures state { V.is_told ≡ true → OnOk result (AtEach R.Records V.version (H.meant self.old.handlers) self.old.up.node (event_of event) (λ h s node. IsUp R.Records V.version h self.new.up.node (step s node (event_of event)).node)) }
         ensures appended { V.is_told ≡ true → OnOk result (AtEach R.Records V.version (H.meant self.old.handlers) self.old.up.node (event_of event) (λ h s node. R.count_of (records_in self.new.up.node) ≡ R.count_of (records_in self.old.up.node) + (if appends (step s node (event_of event)) then 1 else 0))) }
+        ensures cut { V.is_told ≡ true → R.is_told ≡ true → AtEach R.Records V.version (H.meant self.old.handlers) self.old.up.node (event_of event) (λ h s node. LeavesOnly R.moment R.opened_since (records_in self.old.up.node) (records_in self.new.up.node) (MayLeave s node (event_of event))) }
         ensures handlers { H.meant self.new.handlers ≡ H.meant self.old.handlers }
         ensures proceeds { LogProceeds R.Records (log_failed_by result) (records_in self.old.up.node) (records_in self.new.up.node) }
         ensures used { StoreUsed V.Versions (failed_by result) self.old.up.node.replica.rows.rows self.new.up.node.replica.rows.rows }
@@ -101,6 +105,11 @@ impl<R: Records, V: Versions, H: QueueHandlers> Server<R, V, H> {
 
         // Rows that were full then have the marks of that moment, and so does all that a crash leaves of them.
         ensures marks { V.is_full (rows_in self.old.up.node) ≡ true → OnOk result (AtEachUp R.Records V.version self.old.up.node (λ h node. AreSpilled V.Versions (marks_of node.met node.stored) (rows_in self.old.up.node) (rows_in self.new.up.node))) }
+
+        // A crash at any moment leaves a log that holds what the node met, as it was or compacted, or that with the record of the step; and the rows
+        // that it might have left before, or these with the marks.
+        ensures cut { V.is_told ≡ true → V.cleaned (rows_in self.old.up.node) ≡ [] → R.is_told ≡ true → AtEach R.Records V.version (H.meant self.old.handlers) self.old.up.node (event_of event) (λ h s node. LeavesOnly R.moment R.opened_since (records_in self.old.up.node) (records_in self.new.up.node) (MayLeave s node (event_of event))) }
+        ensures cut_rows { V.is_told ≡ true → AtEachUp R.Records V.version self.old.up.node (λ h node. LeavesOnly V.moment V.opened_since (rows_in self.old.up.node) (rows_in self.new.up.node) (MaySpill V.Versions (rows_in self.old.up.node) (marks_of node.met node.stored))) }
 
         ensures handlers { H.meant self.new.handlers ≡ H.meant self.old.handlers }
         ensures cause { IfErr result (λ fault. IsDueTo (fault_of fault) (devices_of R.Records V.Versions self.old.up.node) (devices_of R.Records V.Versions self.new.up.node)) }

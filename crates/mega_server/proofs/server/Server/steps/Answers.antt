@@ -2,10 +2,14 @@ use Rattle.std.proofs.Common.{◌≡◌, ◌+◌, ◌≤◌, if◌then◌else◌
 use Rattle.mega_rules.specs.Steps.{step}
 use Rattle.mega_durable.specs.of_core.of_step_parts.Notes.{met_of}
 use Rattle.mega_promises.specs.Runs.{appends}
-use Rattle.mega_durable.specs.Standing.{IsUp, records_in}
+use Rattle.mega_disk.proofs.Leaves.{weaker_leaves}
+use Rattle.mega_durable.specs.Compacting.{HoldsAll}
+use Rattle.mega_durable.specs.Cut.{MayLeave}
+use Rattle.mega_durable.specs.Standing.{IsUp, records_in, setting_of}
 use Rattle.mega_serve.specs.Stepping.{event_of}
-use Rattle.mega_durable.specs.Spilling.{marks_of, rows_in}
-use Rattle.mega_server.proofs.Compacted.{at_compacted, at_most_two, still_spilled}
+use Rattle.mega_durable.specs.Spilling.{MaySpill, marks_of, rows_in}
+use Rattle.mega_durable.proofs.Upheld.{as_it_was}
+use Rattle.mega_server.proofs.Compacted.{at_compacted, at_most_two, cut_behind, spill_behind, still_spilled}
 use Rattle.mega_server.proofs.server.Server.steps.Goals as goal
 
 pub returns-in-Ok-acts-clause-notes : goal.returns-in-Ok-acts-clause-notes
@@ -35,3 +39,32 @@ pub returns-in-Ok-acts-clause-marks : goal.returns-in-Ok-acts-clause-marks
 returns-in-Ok-acts-clause-marks g c = λ full h node up.
     still_spilled g.V.Versions (marks_of node.met node.stored) (rows_in c.args.self.now.up.node) (rows_in c.readied.new.up.node) (rows_in c.acts.new.self.up.node)
     (c.in-Ok.ensures.spilled full h node up) c.in-Ok-acts.ensures.used.unspilled
+
+pub returns-in-Err-clause-cut : goal.returns-in-Err-clause-cut
+returns-in-Err-clause-cut g c = λ told whole seen h node is may.
+    let old = c.args.self.now.up.node in
+    let event = event_of c.args.event in
+    weaker_leaves g.R.Records.moment g.R.Records.opened_since (records_in old) (records_in c.readied.new.up.node) (HoldsAll node.met) (MayLeave (setting_of old h) node event) (c.in-Err.ensures.cut seen h node is)
+    (λ found holds. as_it_was (setting_of old h) node event found holds)
+
+pub returns-in-Ok-acts-clause-cut : goal.returns-in-Ok-acts-clause-cut
+returns-in-Ok-acts-clause-cut g c = λ told whole seen.
+    cut_behind g.R.Records g.V.Versions.version (g.H.QueueHandlers.meant c.args.self.now.handlers) c.args.self.now.up.node c.readied.new.up.node c.acts.new.self.up.node (event_of c.args.event)
+    (c.in-Ok.ensures.state told whole) c.in-Ok.ensures.members c.in-Ok.ensures.me (c.in-Ok.ensures.cut seen) (c.in-Ok-acts.ensures.cut told seen)
+
+pub returns-in-Err-acts-clause-cut : goal.returns-in-Err-acts-clause-cut
+returns-in-Err-acts-clause-cut g c = λ told whole seen.
+    cut_behind g.R.Records g.V.Versions.version (g.H.QueueHandlers.meant c.args.self.now.handlers) c.args.self.now.up.node c.readied.new.up.node c.acts.new.self.up.node (event_of c.args.event)
+    (c.in-Ok.ensures.state told whole) c.in-Ok.ensures.members c.in-Ok.ensures.me (c.in-Ok.ensures.cut seen) (c.in-Err-acts.ensures.cut told seen)
+
+pub returns-in-Ok-acts-clause-cut_rows : goal.returns-in-Ok-acts-clause-cut_rows
+returns-in-Ok-acts-clause-cut_rows g c = λ told h node up.
+    let mid = rows_in c.readied.new.up.node in
+    spill_behind g.V.Versions (rows_in c.args.self.now.up.node) mid (rows_in c.acts.new.self.up.node) (MaySpill g.V.Versions (rows_in c.args.self.now.up.node) (marks_of node.met node.stored))
+    (g.met.V.Versions.counts_now mid) (c.in-Ok.ensures.cut_rows told h node up) c.in-Ok-acts.ensures.used.unspilled
+
+pub returns-in-Err-acts-clause-cut_rows : goal.returns-in-Err-acts-clause-cut_rows
+returns-in-Err-acts-clause-cut_rows g c = λ told h node up.
+    let mid = rows_in c.readied.new.up.node in
+    spill_behind g.V.Versions (rows_in c.args.self.now.up.node) mid (rows_in c.acts.new.self.up.node) (MaySpill g.V.Versions (rows_in c.args.self.now.up.node) (marks_of node.met node.stored))
+    (g.met.V.Versions.counts_now mid) (c.in-Ok.ensures.cut_rows told h node up) c.in-Err-acts.ensures.used.unspilled
