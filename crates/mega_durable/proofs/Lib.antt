@@ -12,3 +12,4 @@ pub mod Burning
 pub mod Refusing
 pub mod Summing
 pub mod AfterSpill
+pub mod Rooms

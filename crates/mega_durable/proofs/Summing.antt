@@ -47,7 +47,7 @@ Says kept text = length text < 2 ^ 32 → (told : List JournalItem) → Represen
 abbrev Reads : List ℕ → Type 0
 Reads text = length text < 2 ^ 32 → first_bad (text ∷ []) ≡ None
 
-long_or_short : (n : ℕ) → (n < 2 ^ 32) ⊎ (2 ^ 32 ≤ n)
+pub long_or_short : (n : ℕ) → (n < 2 ^ 32) ⊎ (2 ^ 32 ≤ n)
 long_or_short n = by (nat_lt n (2 ^ 32)) refl
   where
     by : (test : Bool) → nat_lt n (2 ^ 32) ≡ test → (n < 2 ^ 32) ⊎ (2 ^ 32 ≤ n)

@@ -1,6 +1,7 @@
 pub mod Granted
 pub mod Standing
 pub mod Replying
+pub mod Rooms
 pub mod Cut
 pub mod Stepped
 pub mod Starting

@@ -6,7 +6,7 @@ use Rattle.mega_disk.specs.Images.{LeavesOnly}
 use Rattle.mega_disk.specs.VersionMaps.{Versions}
 use Rattle.mega_handler.specs.Named.{Meanings}
 use Rattle.mega_wal.specs.declared.answers.LogFault.{LogFault}
-use Rattle.mega_wal.specs.declared.answers.LogFault.TheVariants.{DiskFault}
+use Rattle.mega_wal.specs.declared.answers.LogFault.TheVariants.{DiskFault, Full}
 use Rattle.mega_rules.specs.Met.{Met}
 use Rattle.mega_voter.specs.declared.voter.Voter.{Voter}
 use Rattle.mega_voter.specs.Holding.{HoldsMet}
@@ -14,6 +14,7 @@ use Rattle.mega_durable.specs.declared.down.Down.{Down}
 use Rattle.mega_durable.specs.declared.starting.NotStarted.{NotStarted}
 use Rattle.mega_durable.specs.declared.starting.NotStarted.TheVariants.{Cut, Log, NoMemory, StartsFull}
 use Rattle.mega_durable.specs.Cut.{IsCutStart, LogProceeds, MayLeaveStart, is_cut}
+use Rattle.mega_durable.specs.Rooms.{HasNoRoom}
 use Rattle.mega_durable.specs.Standing.{MayStart}
 
 -- of each history over which the node may start
@@ -34,6 +35,13 @@ IsRefused store voter (StartsFull records) = (voter.logs.kept.starts ≡ 4294967
 IsRefused store voter (Cut records) = LogProceeds store (Some DiskFault) voter.logs.records records
 IsRefused store voter (Log fault records) = (fault ≢ DiskFault) × LogProceeds store (Some fault) voter.logs.records records
 IsRefused store voter NoMemory = Unit {0}
+
+-- where the log was full, it has no room for the record of the start
+abbrev pub LacksRoom : {R : Type 0} → Ghosts R → NotStarted R → Type 0
+LacksRoom store (StartsFull records) = Unit {0}
+LacksRoom store (Cut records) = Unit {0}
+LacksRoom store (Log fault records) = (n : ℕ) → fault ≡ Full n → HasNoRoom store store.length_with records n
+LacksRoom store NoMemory = Unit {0}
 
 -- where the log's fuse cut the start, the records hold what the node met and owes
 abbrev pub IsCutOff : {R : Type 0} → Ghosts R → ℕ → List Met → R → NotStarted R → Type 0

@@ -1,10 +1,12 @@
 //! One record in place of all, where a node's log is due for it: nothing else of the node changes.
-ghost use Rattle.std.specs.Prelude.{◌≡◌, ◌<◌, ◌^◌, [], true, false, length, Err, Some, IsOk, IfErr, OnOk};
+ghost use Rattle.std.specs.Prelude.{◌≡◌, ◌<◌, ◌^◌, ℕ, [], true, false, length, Err, Some, IsOk, IfErr, OnOk};
 ghost use Rattle.mega_disk.specs.Images.{LeavesOnly};
 ghost use Rattle.mega_wal.specs.Compaction.{compacted_text};
-ghost use Rattle.mega_durable.specs.declared.fault.UpFault.TheVariants.{Unformed};
+ghost use Rattle.mega_wal.specs.declared.answers.LogFault.TheVariants.{Full};
+ghost use Rattle.mega_durable.specs.declared.fault.UpFault.TheVariants.{Log, Unformed};
 ghost use Rattle.mega_durable.specs.Compacting.{AtEachHeld, AtEachUp, HoldsAll, IsToCompact, LogCompacts, OwesNothing};
 ghost use Rattle.mega_durable.specs.Cut.{log_failed_by, log_fault_in};
+ghost use Rattle.mega_durable.specs.Rooms.{HasNoRoom};
 ghost use Rattle.mega_durable.specs.Standing.{IsUp, records_in};
 
 use crate::cut::Cut;
@@ -44,6 +46,7 @@ fn summed<R: Records>(alloc: Global, logs: &mut Logs<R>) -> Result<(), UpFault>
     ensures still_open { OnOk result (R.is_spent logs.new.records ≡ R.is_spent logs.old.records) }
     ensures formed { result ≡ Err Unformed → AtEachHeld R.Records logs.old (λ met. ⊥) }
     ensures owed { IfErr result (λ refused. OwesNothing refused) }
+    ensures full { (n : ℕ) → result ≡ Err (Log (Full n)) → HasNoRoom R.Records R.length_replaced logs.new.records n }
     ensures proceeds { LogCompacts R.Records (log_failed_by result) logs.old.records logs.new.records }
 {
     let items = match logs.summary(alloc) {
@@ -70,6 +73,7 @@ fn compacted<R: Records>(alloc: Global, logs: &mut Logs<R>) -> Result<(), UpFaul
     ensures still_open { OnOk result (R.is_spent logs.new.records ≡ R.is_spent logs.old.records) }
     ensures formed { result ≡ Err Unformed → AtEachHeld R.Records logs.old (λ met. ⊥) }
     ensures owed { IfErr result (λ refused. OwesNothing refused) }
+    ensures full { (n : ℕ) → result ≡ Err (Log (Full n)) → HasNoRoom R.Records R.length_replaced logs.new.records n }
     ensures proceeds { LogCompacts R.Records (log_failed_by result) logs.old.records logs.new.records }
 {
     if !is_to_compact(logs) {
@@ -96,6 +100,10 @@ impl<R: Records, V: Versions> Up<R, V> {
         ensures formed { R.is_told ≡ true → result ≡ Err Unformed → AtEachUp R.Records V.version self.old.node (λ h node. ⊥) }
 
         ensures owed { IfErr result (λ refused. OwesNothing refused) }
+
+        // A log that is full has no room for some record of the format in place of all.
+        ensures full { (n : ℕ) → result ≡ Err (Log (Full n)) → HasNoRoom R.Records R.length_replaced (records_in self.new.node) n }
+
         ensures proceeds { LogCompacts R.Records (log_failed_by result) (records_in self.old.node) (records_in self.new.node) }
 
         // Nothing of the node changes but the records of its log.

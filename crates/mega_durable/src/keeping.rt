@@ -1,11 +1,13 @@
 //! One record of what a step staged, before anything of the step is given out.
-ghost use Rattle.std.specs.Prelude.{◌≡◌, ◌≤◌, ◌+◌, ◌↔◌, if◌then◌else◌, true, All, Err, Some, IfOk, IfErr, IsTrue, OnOk, length};
+ghost use Rattle.std.specs.Prelude.{◌≡◌, ◌≤◌, ◌+◌, ◌↔◌, if◌then◌else◌, ℕ, true, All, Err, Some, IfOk, IfErr, IsTrue, OnOk, length};
 ghost use Rattle.mega_disk.specs.Images.{LeavesOnly};
 ghost use Rattle.mega_wal.specs.Items.{IsItem};
+ghost use Rattle.mega_wal.specs.declared.answers.LogFault.TheVariants.{Full};
 ghost use Rattle.mega_rules.specs.Steps.{step};
 ghost use Rattle.mega_promises.specs.Runs.{appends};
-ghost use Rattle.mega_durable.specs.declared.fault.UpFault.TheVariants.{Unformed};
+ghost use Rattle.mega_durable.specs.declared.fault.UpFault.TheVariants.{Log, Unformed};
 ghost use Rattle.mega_durable.specs.Cut.{IsCutBy, IsTakenFrom, IsWhole, LogProceeds, MayLeave, is_cut, log_failed_by, log_fault_in};
+ghost use Rattle.mega_durable.specs.Rooms.{HasNoRoom};
 ghost use Rattle.mega_durable.specs.Standing.{IsUp, records_in};
 ghost use Rattle.mega_durable.specs.Stepped.{AtStep};
 
@@ -64,6 +66,7 @@ pub(crate) fn keep<R: Records, V: Versions>(
     ensures burnt { R.is_told ≡ true → R.by_four ≡ true → IfErr result (λ refused. AtStep R.Records V.version node.old (λ h s ruled event was. IsCutBy R.Records s ruled event was (records_in node.new) refused)) }
     ensures owed { IfErr result (λ refused. IsTakenFrom made replies refused) }
     ensures formed { result ≡ Err Unformed → AtStep R.Records V.version node.old (λ h s ruled event was. ⊥) }
+    ensures full { (n : ℕ) → result ≡ Err (Log (Full n)) → HasNoRoom R.Records R.length_with (records_in node.new) n }
     ensures proceeds { LogProceeds R.Records (log_failed_by result) (records_in node.old) (records_in node.new) }
     ensures rows { node.new.replica.rows ≡ node.old.replica.rows }
     ensures members { node.new.replica.members ≡ node.old.replica.members }

@@ -8,15 +8,16 @@ ghost use Rattle.mega_rules.specs.Met.{Crashes, Met, Starts};
 ghost use Rattle.mega_rules.specs.Steps.{onto, start, start_notes};
 ghost use Rattle.mega_rules.specs.Operations.{Node as RuleNode};
 ghost use Rattle.mega_voter.specs.Holding.{GoesOn, HoldsMet, starts_after};
-ghost use Rattle.mega_wal.specs.declared.answers.LogFault.TheVariants.{DiskFault};
+ghost use Rattle.mega_wal.specs.declared.answers.LogFault.TheVariants.{DiskFault, Full};
 ghost use Rattle.mega_wal.specs.declared.item.JournalItem.TheVariants.{Start as StartItem};
 ghost use Rattle.mega_core.specs.of_actions.of_step_work.Settings.{setting};
 ghost use Rattle.mega_core.specs.of_step_parts.Notes.{met_of};
 ghost use Rattle.mega_core.specs.Served.{IsServed};
 ghost use Rattle.mega_core.specs.Standing.{StandsFor};
 ghost use Rattle.mega_durable.specs.Cut.{IsCutStart, IsWhole, LogProceeds, MayLeaveStart};
+ghost use Rattle.mega_durable.specs.Rooms.{HasNoRoom};
 ghost use Rattle.mega_durable.specs.Standing.{IsUp, MayStart, records_in};
-ghost use Rattle.mega_durable.specs.Starting.{AtEachStart, AtStarts, IsCutOff, IsRefused, LeavesStart, refused_by};
+ghost use Rattle.mega_durable.specs.Starting.{AtEachStart, AtStarts, IsCutOff, IsRefused, LacksRoom, LeavesStart, refused_by};
 
 use crate::down::Down;
 use crate::keeping::is_cut;
@@ -76,6 +77,7 @@ fn kept<R: Records + Drop, V: Versions + Drop>(
         (λ refused. AtStarts R.Records (records_in made.node) (λ starts met. LeavesOnly R.moment R.opened_since (records_in made.node) refused.1 (MayLeaveStart starts met))) }
     ensures whole { R.by_four ≡ true → IfOk result (λ started. IsWhole R.Records true (records_in made.node) (records_in started.up.node)) }
     ensures burnt { R.is_told ≡ true → R.by_four ≡ true → IfErr result (λ refused. refused.0 ≡ DiskFault → AtStarts R.Records (records_in made.node) (λ starts met. IsCutStart R.Records starts met (records_in made.node) refused.1)) }
+    ensures full { IfErr result (λ refused. (n : ℕ) → refused.0 ≡ Full n → HasNoRoom R.Records R.length_with refused.1 n) }
     ensures proceeds { MatchResult result (λ started. LogProceeds R.Records None (records_in made.node) (records_in started.up.node)) (λ refused. LogProceeds R.Records (Some refused.0) (records_in made.node) refused.1) }
     ensures start { IfOk result (λ started. started.start ≡ made.start) }
     ensures notes { IfOk result (λ started. started.notes ≡ made.notes) }
@@ -132,6 +134,7 @@ impl<R: Records + Drop, V: Versions + Drop> Up<R, V> {
         ensures whole { R.by_four ≡ true → IfOk result (λ made. IsWhole R.Records true down.voter.logs.records (records_in made.up.node)) }
         ensures burnt { R.is_told ≡ true → R.by_four ≡ true → IfErr result (λ refused. AtEachStart R.Records V.version cluster me down (λ h starts met owed. IsCutOff R.Records starts (onto owed met) down.voter.logs.records refused)) }
 
+        ensures full { IfErr result (λ refused. LacksRoom R.Records refused) }
         ensures proceeds { MatchResult result (λ made. LogProceeds R.Records None down.voter.logs.records (records_in made.up.node)) (λ refused. IsRefused R.Records down.voter refused) }
         ensures members { IfOk result (λ made. made.up.node.replica.members ≡ cluster) }
         ensures me { IfOk result (λ made. made.up.node.replica.me ≡ me) }

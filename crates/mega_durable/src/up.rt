@@ -1,5 +1,5 @@
 //! A node that is up: each step is kept by one record before anything of it is given out.
-ghost use Rattle.std.specs.Prelude.{◌≡◌, ◌≢◌, ◌+◌, if◌then◌else◌, map, true, false, IfOk, IfErr, OnOk, Err};
+ghost use Rattle.std.specs.Prelude.{◌≡◌, ◌≢◌, ◌+◌, if◌then◌else◌, ℕ, map, true, false, IfOk, IfErr, OnOk, Err};
 ghost use Rattle.mega_disk.specs.Fuse.{set_to};
 ghost use Rattle.mega_disk.specs.Images.{LeavesOnly, SameImages};
 ghost use Rattle.mega_handler.specs.Named.{Meanings};
@@ -11,9 +11,11 @@ ghost use Rattle.mega_core.specs.of_step_parts.Events.{event_of};
 ghost use Rattle.mega_core.specs.of_node_events.declared.fault.StepFault.TheVariants.{Late, Stranger, Unserved};
 ghost use Rattle.mega_core.specs.of_step_parts.Notes.{met_of};
 ghost use Rattle.mega_promises.specs.Runs.{appends};
-ghost use Rattle.mega_durable.specs.declared.fault.UpFault.TheVariants.{Step as Failed, Unformed};
+ghost use Rattle.mega_wal.specs.declared.answers.LogFault.TheVariants.{Full};
+ghost use Rattle.mega_durable.specs.declared.fault.UpFault.TheVariants.{Log, Step as Failed, Unformed};
 ghost use Rattle.mega_durable.specs.Cut.{IsCutBy, IsOwedBy, IsWhole, LogProceeds, MayLeave, failed_by, log_failed_by};
 ghost use Rattle.mega_durable.specs.Fusing.{FusesRows};
+ghost use Rattle.mega_durable.specs.Rooms.{HasNoRoom};
 ghost use Rattle.mega_durable.specs.Spilling.{rows_in};
 ghost use Rattle.mega_durable.specs.Standing.{IsUp, records_in};
 ghost use Rattle.mega_durable.specs.Stepped.{AtEach};
@@ -62,6 +64,10 @@ impl<R: Records, V: Versions> Up<R, V> {
         ensures stranger { result ≡ Err (Failed Stranger) → IsStrange (event_of event.entry) }
         ensures late { result ≡ Err (Failed Late) → IsTooLate (λ h node. IsUp R.Records V.version h self.old.node node) self.old.node.replica.members (event_of event.entry) }
         ensures handlers { H.meant handlers.new ≡ H.meant handlers.old }
+
+        // A log that is full has no room for some record of the format behind those that it holds.
+        ensures full { (n : ℕ) → result ≡ Err (Log (Full n)) → HasNoRoom R.Records R.length_with (records_in self.new.node) n }
+
         ensures proceeds { LogProceeds R.Records (log_failed_by result) (records_in self.old.node) (records_in self.new.node) }
         ensures used { StoreUsed V.Versions (failed_by result) self.old.node.replica.rows.rows self.new.node.replica.rows.rows }
         ensures members { self.new.node.replica.members ≡ self.old.node.replica.members }

@@ -3,9 +3,11 @@ use Rattle.std.proofs.lemmas.Bool.{false≢true}
 use Rattle.mega_disk.specs.Images.{LeavesOnly}
 use Rattle.mega_disk.specs.Fuse.{keeps_record}
 use Rattle.mega_wal.specs.declared.answers.LogFault.{LogFault}
+use Rattle.mega_wal.specs.declared.answers.LogFault.TheVariants.{Full}
 use Rattle.mega_wal.specs.declared.item.JournalItem.{JournalItem}
 use Rattle.mega_wal.specs.declared.kept.Kept.{Kept}
 use Rattle.mega_wal.specs.Items.{record_text}
+use Rattle.mega_wal.proofs.Flushed.{short_record}
 use Rattle.mega_rules.specs.Met.{Crashes}
 use Rattle.mega_rules.specs.Clock.{start_of}
 use Rattle.mega_rules.specs.Steps.{onto, step}
@@ -15,11 +17,13 @@ use Rattle.mega_core.specs.of_node_laws.Acted.{own_item}
 use Rattle.mega_core.specs.of_actions.of_step_work.Settings.{setting}
 use Rattle.mega_core.specs.Represents.{Represents}
 use Rattle.mega_promises.specs.Runs.{appends, owes, replies_in}
+use Rattle.mega_durable.specs.declared.fault.UpFault.TheVariants.{Log}
 use Rattle.mega_durable.specs.Cut.{IsCut, IsWhole, LogProceeds, MayLeave}
 use Rattle.mega_durable.specs.Standing.{records_in}
 use Rattle.mega_durable.proofs.Appending.{step_appends}
 use Rattle.mega_durable.proofs.Burning.{burnt_is, cut_holds, whole_is}
 use Rattle.mega_durable.proofs.Refusing.{cut_by}
+use Rattle.mega_durable.proofs.Rooms.{full_is, no_room}
 use Rattle.mega_durable.proofs.Upheld.{as_it_was, leaves_same, leaves_weaker, left_by_record, step_cut, step_each, step_few, step_goes, step_holds}
 use Rattle.mega_durable.proofs.keeping.keep.Goals as goal
 
@@ -113,3 +117,11 @@ returns-in-Err-clause-burnt g c = λ seen four h s node event was stepped.
           (c.in-Err.ensures.cut four seen (ap Err is) (start_of node.met) node.met (onto (owes (step s node event) (replies_in s.cluster s.me node.met event)) (Crashes ∷ own_item s node event ∷ node.met)) before
           (step_cut s node event staged stepped.stages stepped.stands.within.tells.honest));
     }))
+
+pub returns-in-Err-clause-full : goal.returns-in-Err-clause-full
+returns-in-Err-clause-full g c n is =
+    let staged = c.args.node.now.replica.voter.logs.staged.items in
+    let formed = c.is_formed.ensures.0 c.if-not-is_formed.false in
+    let same : c.not_kept.result ≡ Log (Full n) = cc in
+    no_room g.R.Records g.R.Records.length_with staged c.in-Err.fault (records_in c.args.node.now) c.flush.new.self.logs.records n formed.1 (short_record staged formed.1 formed.0) c.in-Err.ensures.used
+    (full_is c.not_kept.result c.in-Err.fault n c.not_kept.ensures.cause same)

@@ -10,14 +10,17 @@ use Rattle.mega_wal.specs.declared.item.JournalItem.TheVariants.{Start}
 use Rattle.mega_wal.specs.declared.kept.Kept.{Kept}
 use Rattle.mega_wal.specs.Items.{IsItem, record_text}
 use Rattle.mega_wal.specs.Records.{flushed}
+use Rattle.mega_wal.proofs.Flushed.{short_record}
 use Rattle.mega_replica.specs.Following.{progress_at}
 use Rattle.mega_voter.specs.Holding.{GoesOn, HoldsMet, starts_after}
 use Rattle.mega_core.specs.of_actions.of_step_work.Settings.{setting}
 use Rattle.mega_core.specs.Represents.{Represents}
 use Rattle.mega_durable.specs.Cut.{IsCutStart, IsWhole, LogProceeds, MayLeaveStart}
+use Rattle.mega_durable.specs.Rooms.{HasNoRoom}
 use Rattle.mega_durable.specs.Standing.{records_in}
 use Rattle.mega_durable.proofs.AtStart.{left_by_start, same_goes}
 use Rattle.mega_durable.proofs.Burning.{burnt_is, cut_start_holds, whole_is}
+use Rattle.mega_durable.proofs.Rooms.{no_room}
 use Rattle.mega_durable.proofs.Upheld.{leaves_weaker}
 use Rattle.mega_durable.proofs.starting.kept.Goals as goal
 
@@ -79,3 +82,11 @@ returns-in-Err-clause-burnt g c = λ seen four is starts met few holds.
       holds = cut_start_holds starts met staged (g.R.Records.list new) (keeps_record (g.R.Records.fuse_left old) (g.R.Records.fuse_image old)) c.requires.one few
           (c.in-Err.ensures.cut four seen (ap Err is) starts met met holds (same_goes starts met staged c.requires.one few holds.later holds.honest));
     })
+
+pub returns-in-Err-clause-full : goal.returns-in-Err-clause-full
+returns-in-Err-clause-full g c = λ n is.
+    let staged = c.args.made.node.replica.voter.logs.staged.items in
+    let few = subst (λ (items : List JournalItem). length items ≤ 1000) (sym c.requires.one) (omega arith) in
+    let each = subst (All IsItem) (sym c.requires.one) (All-cons IsItem Start [] tt (All-nil IsItem)) in
+    subst (λ (one : _). HasNoRoom g.R.Records g.R.Records.length_with one n) (sym c.into_records.ensures)
+    (no_room g.R.Records g.R.Records.length_with staged c.in-Err.fault (records_in c.args.made.node) c.flush.new.self.logs.records n each (short_record staged each few) c.in-Err.ensures.used is)

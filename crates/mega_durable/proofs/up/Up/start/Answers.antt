@@ -11,12 +11,13 @@ use Rattle.mega_core.specs.of_step_parts.declared.note.Note.{Note}
 use Rattle.mega_core.specs.of_step_parts.Notes.{met_of}
 use Rattle.mega_core.proofs.Anew.{owed_no_start}
 use Rattle.mega_durable.specs.Cut.{IsCutStart, IsWhole, LogProceeds, MayLeaveStart}
-use Rattle.mega_durable.specs.Starting.{IsCutOff, IsRefused, LeavesStart}
+use Rattle.mega_durable.specs.Starting.{IsCutOff, IsRefused, LacksRoom, LeavesStart}
 use Rattle.mega_durable.specs.Granted.{KeepsGrants}
 use Rattle.mega_durable.specs.Standing.{records_in}
 use Rattle.mega_durable.proofs.AtStart.{started_holds}
 use Rattle.mega_durable.proofs.Refusing.{start_cut, start_leaves, start_proceeds}
 use Rattle.mega_durable.proofs.Owing.{start_keeps}
+use Rattle.mega_durable.proofs.Rooms.{start_room}
 use Rattle.mega_durable.proofs.up.Up.start.Goals as goal
 
 pub kept-requires : goal.kept-requires
@@ -77,3 +78,6 @@ returns-in-Err-kept-clause-proceeds g c =
     subst (IsRefused g.R.Records c.args.down.voter) (sym c.refused.ensures)
     (start_proceeds g.R.Records c.args.down.voter c.in-Err-kept.records c.in-Err-kept.fault
     (subst (λ (one : _). LogProceeds g.R.Records (Some c.in-Err-kept.fault) one c.in-Err-kept.records) c.in-Ok.ensures.records c.in-Err-kept.ensures.proceeds))
+
+pub returns-in-Err-kept-clause-full : goal.returns-in-Err-kept-clause-full
+returns-in-Err-kept-clause-full g c = subst (LacksRoom g.R.Records) (sym c.refused.ensures) (start_room g.R.Records c.in-Err-kept.records c.in-Err-kept.fault c.in-Err-kept.ensures.full)

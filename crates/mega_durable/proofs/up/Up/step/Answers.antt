@@ -96,3 +96,6 @@ returns-in-Err-keep-clause-formed g c = λ told is h node up may.
     let old = c.args.self.now.node in
     let stepped = stepped_now g.R.Records g.V.Versions.version h old c.step.new.self node (event_of c.args.event) up may (c.in-Ok.ensures.state told h node may.means) (λ stands owned placed. c.in-Ok.ensures.staged told h node may.means stands owned placed node.met) c.in-Ok.ensures.records c.in-Ok.ensures.members c.in-Ok.ensures.me in
     c.in-Err-keep.ensures.formed is h (setting_of old h) node (event_of c.args.event) (records_in old) stepped
+
+pub returns-in-Err-keep-clause-full : goal.returns-in-Err-keep-clause-full
+returns-in-Err-keep-clause-full g c = c.in-Err-keep.ensures.full
