@@ -1,9 +1,10 @@
 //! A page: what a step puts into the record and onto the link, gathered before either has it.
-ghost use Rattle.std.specs.Prelude.{◌≡◌, ◌≤◌, ◌++◌, ◌∷◌, [], ℕ, List, All, IfErr, OnErr, OnOk};
+ghost use Rattle.std.specs.Prelude.{◌≡◌, ◌≢◌, ◌≤◌, ◌++◌, ◌∷◌, [], ℕ, List, All, Err, IfErr, OnErr, OnOk};
 ghost use Rattle.mega_wire.specs.Messages.{IsMessage, message_text};
 ghost use Rattle.mega_transcript.specs.Lines.{HasLine, line};
 ghost use Rattle.mega_transcript.specs.Recorded.{Got, Line, Noted, Put, put_out};
 ghost use Rattle.mega_page.specs.Lines.{peer_of};
+ghost use Rattle.mega_page.specs.declared.fault.NodeFault.{NodeFault as Fault};
 ghost use Rattle.mega_page.specs.Causes.{Devices, IsCaused};
 ghost use Rattle.mega_page.specs.Pages.{GoesOn, IsPage, Stops};
 
@@ -106,6 +107,7 @@ impl Page {
         ensures gone { OnOk result ((schema : _) (lines : List Line) → IsPage schema self.now lines → GoesOn schema (O.held out.old) (O.held out.new) (L.sent link.old) (L.sent link.new) lines) }
         ensures front { OnErr result ((schema : _) (lines : List Line) → IsPage schema self.now lines → Stops schema (O.held out.old) (O.held out.new) (L.sent link.old) (L.sent link.new) lines) }
         ensures cause { IfErr result (λ fault. (devices : Devices) → IsCaused fault devices devices (O.faults out.old) (O.faults out.new)) }
+        ensures own { (fault : Fault) → result ≢ Err (ServeFault.Node fault) }
         ensures count { O.faults out.old ≤ O.faults out.new }
         ensures taken { L.taken link.new ≡ L.taken link.old }
     {

@@ -1,5 +1,5 @@
 //! What a client asks for: its operation begins, or it is told why not.
-ghost use Rattle.std.specs.Prelude.{◌≡◌, ◌≤◌, ◌++◌, ◌∷◌, [], List, decimal, false, Err, IfErr, IfOk, OnErr, OnOk};
+ghost use Rattle.std.specs.Prelude.{◌≡◌, ◌≤◌, ◌++◌, ◌∷◌, [], ℕ, List, decimal, false, Err, IfErr, IfOk, OnErr, OnOk};
 ghost use Rattle.mega_handler.specs.Named.{Meanings};
 ghost use Rattle.mega_transcript.specs.declared.item.Item.TheVariants.{Begin as BeginItem};
 ghost use Rattle.mega_rules.specs.Steps.{Begin};
@@ -7,6 +7,8 @@ ghost use Rattle.mega_promises.specs.Runs.{names_nothing};
 ghost use Rattle.mega_promises.specs.Served.{Asks, Line, Noted, Served, refused_by, wished};
 ghost use Rattle.mega_serve.specs.declared.waiting.Waiting.{Waiting as Waits};
 ghost use Rattle.mega_page.specs.Pages.{IsPage};
+ghost use Rattle.mega_page.specs.declared.fault.NodeFault.TheVariants.{Full};
+ghost use Rattle.mega_page.specs.declared.fault.ServeFault.TheVariants.{Node};
 ghost use Rattle.mega_page.specs.Causes.{HaveGone, IsCaused};
 ghost use Rattle.mega_serve.specs.Turns.{Ended, IfSome, IsServing, Proceeds, schema_of, setting_of, wished_event};
 ghost use Rattle.mega_serve.specs.Wishes.{wish_of};
@@ -88,6 +90,7 @@ fn refuse<S: Steps, L: Link, O: Sink>(
     ensures front { OnErr result ((h : Meanings) (now : Served) (waiting : List Waits) (got : List Line) → IsServing S.Steps h node.now waiting now → IsPage (schema_of S.Steps node.now) page got →
         Ended (schema_of S.Steps node.now) (O.held out.old) (O.held out.new) (L.sent link.old) (L.sent link.new) now (refused_by (S.me node.now) now got client token kind.now (decimal reason))) }
     ensures cause { IfErr result (λ fault. IsCaused fault (S.devices node.now) (S.devices node.now) (O.faults out.old) (O.faults out.new)) }
+    ensures full { (n : ℕ) → result ≡ Err (Node (Full n)) → S.is_full node.now n }
     ensures count { O.faults out.old ≤ O.faults out.new }
     ensures taken { L.taken link.new ≡ L.taken link.old }
 {
@@ -119,6 +122,7 @@ fn begin<S: Steps, L: Link, O: Sink>(
         S.may_happen (setting_of S.Steps node.old h) now.node (Begin ask.request ask.text) →
         Ended (schema_of S.Steps node.old) (O.held out.old) (O.held out.new) (L.sent link.old) (L.sent link.new) now (wished (S.members node.old) (S.me node.old) h now got client token (Asks ask.request ask.text))) }
     ensures cause { IfErr result (λ fault. IsCaused fault (S.devices node.old) (S.devices node.new) (O.faults out.old) (O.faults out.new)) }
+    ensures full { (n : ℕ) → result ≡ Err (Node (Full n)) → S.is_full node.new n }
     ensures later { HaveGone (S.devices node.old) (S.devices node.new) }
     ensures count { O.faults out.old ≤ O.faults out.new }
     ensures taken { L.taken link.new ≡ L.taken link.old }
@@ -170,6 +174,7 @@ fn ask<S: Steps, L: Link, O: Sink>(
         IfSome (S.may_happen (setting_of S.Steps node.old h) now.node) (wished_event (Asks ask.request ask.text)) →
         Ended (schema_of S.Steps node.old) (O.held out.old) (O.held out.new) (L.sent link.old) (L.sent link.new) now (wished (S.members node.old) (S.me node.old) h now got client token (Asks ask.request ask.text))) }
     ensures cause { IfErr result (λ fault. IsCaused fault (S.devices node.old) (S.devices node.new) (O.faults out.old) (O.faults out.new)) }
+    ensures full { (n : ℕ) → result ≡ Err (Node (Full n)) → S.is_full node.new n }
     ensures later { HaveGone (S.devices node.old) (S.devices node.new) }
     ensures count { O.faults out.old ≤ O.faults out.new }
     ensures taken { L.taken link.new ≡ L.taken link.old }
@@ -208,6 +213,7 @@ pub(crate) fn ask_by<S: Steps, L: Link, O: Sink>(
         IfSome (S.may_happen (setting_of S.Steps node.old h) now.node) (wished_event (wish_of (schema_of S.Steps node.old) (S.me node.old) json.now)) →
         Ended (schema_of S.Steps node.old) (O.held out.old) (O.held out.new) (L.sent link.old) (L.sent link.new) now (wished (S.members node.old) (S.me node.old) h now got client token (wish_of (schema_of S.Steps node.old) (S.me node.old) json.now))) }
     ensures cause { IfErr result (λ fault. IsCaused fault (S.devices node.old) (S.devices node.new) (O.faults out.old) (O.faults out.new)) }
+    ensures full { (n : ℕ) → result ≡ Err (Node (Full n)) → S.is_full node.new n }
     ensures later { HaveGone (S.devices node.old) (S.devices node.new) }
     ensures count { O.faults out.old ≤ O.faults out.new }
     ensures taken { L.taken link.new ≡ L.taken link.old }

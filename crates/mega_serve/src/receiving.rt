@@ -1,5 +1,5 @@
 //! One receive of a served node: a datagram that is a message to it is taken, and any other is recorded alone.
-ghost use Rattle.std.specs.Prelude.{◌≡◌, ◌≤◌, ◌==◌, ◌&&◌, List, Err, Ok, IfErr, OnErr, OnOk, Some};
+ghost use Rattle.std.specs.Prelude.{◌≡◌, ◌≤◌, ◌==◌, ◌&&◌, ℕ, List, Err, Ok, IfErr, OnErr, OnOk, Some};
 ghost use Rattle.mega_base.specs.Reading.{whole_of};
 ghost use Rattle.mega_handler.specs.Named.{Meanings};
 ghost use Rattle.mega_wire.specs.Messages.{message_at};
@@ -7,6 +7,8 @@ ghost use Rattle.mega_promises.specs.Served.{Line, OfClient, Served, given, is_f
 ghost use Rattle.mega_serve.specs.declared.waiting.Waiting.{Waiting as Waits};
 ghost use Rattle.mega_page.specs.Lines.{peer_of};
 ghost use Rattle.mega_page.specs.Pages.{IsPage};
+ghost use Rattle.mega_page.specs.declared.fault.NodeFault.TheVariants.{Full};
+ghost use Rattle.mega_page.specs.declared.fault.ServeFault.TheVariants.{Node};
 ghost use Rattle.mega_page.specs.Causes.{HaveGone, IsCaused};
 ghost use Rattle.mega_serve.specs.Turns.{Ended, IfSome, IsServing, MayReceive, Proceeds, brought_by, message_event, requested_event, schema_of, setting_of};
 ghost use Rattle.mega_serve.specs.Wishes.{wish_of};
@@ -44,6 +46,7 @@ fn only_got<S: Steps, L: Link, O: Sink>(
     ensures front { OnErr result ((h : Meanings) (now : Served) (waiting : List Waits) (got : List Line) → IsServing S.Steps h node.now waiting now → IsPage (schema_of S.Steps node.now) page.now got →
         Ended (schema_of S.Steps node.now) (O.held out.old) (O.held out.new) (L.sent link.old) (L.sent link.new) now (with_lines now got)) }
     ensures cause { IfErr result (λ fault. IsCaused fault (S.devices node.now) (S.devices node.now) (O.faults out.old) (O.faults out.new)) }
+    ensures full { (n : ℕ) → result ≡ Err (Node (Full n)) → S.is_full node.now n }
     ensures count { O.faults out.old ≤ O.faults out.new }
     ensures taken { L.taken link.new ≡ L.taken link.old }
 {
@@ -72,6 +75,7 @@ fn take_of_client<S: Steps, L: Link, O: Sink>(
         IfSome (S.may_happen (setting_of S.Steps node.old h) now.node) (requested_event (wish_of (schema_of S.Steps node.old) (S.me node.old)) message.now.body) →
         Ended (schema_of S.Steps node.old) (O.held out.old) (O.held out.new) (L.sent link.old) (L.sent link.new) now (takes_message (S.members node.old) (S.me node.old) (wish_of (schema_of S.Steps node.old) (S.me node.old)) h now got (OfClient client) message.now)) }
     ensures cause { IfErr result (λ fault. IsCaused fault (S.devices node.old) (S.devices node.new) (O.faults out.old) (O.faults out.new)) }
+    ensures full { (n : ℕ) → result ≡ Err (Node (Full n)) → S.is_full node.new n }
     ensures later { HaveGone (S.devices node.old) (S.devices node.new) }
     ensures count { O.faults out.old ≤ O.faults out.new }
     ensures taken { L.taken link.new ≡ L.taken link.old }
@@ -122,6 +126,7 @@ fn take<S: Steps, L: Link, O: Sink>(
         IfSome (S.may_happen (setting_of S.Steps node.old h) now.node) (message_event (wish_of (schema_of S.Steps node.old) (S.me node.old)) (peer_of peer) message) →
         Ended (schema_of S.Steps node.old) (O.held out.old) (O.held out.new) (L.sent link.old) (L.sent link.new) now (takes_message (S.members node.old) (S.me node.old) (wish_of (schema_of S.Steps node.old) (S.me node.old)) h now got (peer_of peer) message)) }
     ensures cause { IfErr result (λ fault. IsCaused fault (S.devices node.old) (S.devices node.new) (O.faults out.old) (O.faults out.new)) }
+    ensures full { (n : ℕ) → result ≡ Err (Node (Full n)) → S.is_full node.new n }
     ensures later { HaveGone (S.devices node.old) (S.devices node.new) }
     ensures count { O.faults out.old ≤ O.faults out.new }
     ensures taken { L.taken link.new ≡ L.taken link.old }
@@ -172,6 +177,7 @@ fn take_if<S: Steps, L: Link, O: Sink>(
         IfSome (S.may_happen (setting_of S.Steps node.old h) now.node) (brought_by (S.me node.old) (wish_of (schema_of S.Steps node.old) (S.me node.old)) (peer_of peer) (Ok message)) →
         Ended (schema_of S.Steps node.old) (O.held out.old) (O.held out.new) (L.sent link.old) (L.sent link.new) now (given (S.members node.old) (S.me node.old) (wish_of (schema_of S.Steps node.old) (S.me node.old)) h now got (peer_of peer) (Ok message))) }
     ensures cause { IfErr result (λ fault. IsCaused fault (S.devices node.old) (S.devices node.new) (O.faults out.old) (O.faults out.new)) }
+    ensures full { (n : ℕ) → result ≡ Err (Node (Full n)) → S.is_full node.new n }
     ensures later { HaveGone (S.devices node.old) (S.devices node.new) }
     ensures count { O.faults out.old ≤ O.faults out.new }
     ensures taken { L.taken link.new ≡ L.taken link.old }
@@ -208,6 +214,7 @@ pub(crate) fn receive<S: Steps, L: Link, O: Sink>(
         MayReceive S.Steps (setting_of S.Steps node.old h) now (Some (peer_of peer, bytes.now)) →
         Ended (schema_of S.Steps node.old) (O.held out.old) (O.held out.new) (L.sent link.old) (L.sent link.new) now (received (S.members node.old) (S.me node.old) (wish_of (schema_of S.Steps node.old) (S.me node.old)) h now (Some (peer_of peer, bytes.now)))) }
     ensures cause { IfErr result (λ fault. IsCaused fault (S.devices node.old) (S.devices node.new) (O.faults out.old) (O.faults out.new)) }
+    ensures full { (n : ℕ) → result ≡ Err (Node (Full n)) → S.is_full node.new n }
     ensures later { HaveGone (S.devices node.old) (S.devices node.new) }
     ensures count { O.faults out.old ≤ O.faults out.new }
     ensures taken { L.taken link.new ≡ L.taken link.old }

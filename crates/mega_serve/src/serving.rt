@@ -5,6 +5,8 @@ ghost use Rattle.mega_link.specs.Datagrams.{Datagram, Gains};
 ghost use Rattle.mega_promises.specs.Served.{Served, received};
 ghost use Rattle.mega_serve.specs.declared.waiting.Waiting.{Waiting as Waits};
 ghost use Rattle.mega_page.specs.Lines.{datagram_of};
+ghost use Rattle.mega_page.specs.declared.fault.NodeFault.TheVariants.{Full};
+ghost use Rattle.mega_page.specs.declared.fault.ServeFault.TheVariants.{Node};
 ghost use Rattle.mega_page.specs.Causes.{HaveGone, IsCaused};
 ghost use Rattle.mega_serve.specs.Turns.{Ended, EndsIn, EndsOnce, HasBegun, HasTurned, IsServing, MayReceive, Runs, TurnsOnce, Proceeds, schema_of, setting_of};
 ghost use Rattle.mega_serve.specs.Wishes.{wish_of};
@@ -56,6 +58,7 @@ fn receive_one<S: Steps, L: Link, O: Sink>(
         MayReceive S.Steps (setting_of S.Steps node.old h) now (option_map datagram_of datagram) →
         Ended (schema_of S.Steps node.old) (O.held out.old) (O.held out.new) (L.sent link.old) (L.sent link.new) now (received (S.members node.old) (S.me node.old) (wish_of (schema_of S.Steps node.old) (S.me node.old)) h now (option_map datagram_of datagram))))) }
     ensures cause { IfErr result (λ fault. IsCaused fault (S.devices node.old) (S.devices node.new) (O.faults out.old) (O.faults out.new)) }
+    ensures full { (n : ℕ) → result ≡ Err (Node (Full n)) → S.is_full node.new n }
     ensures later { HaveGone (S.devices node.old) (S.devices node.new) }
     ensures count { O.faults out.old ≤ O.faults out.new }
     ensures members { S.members node.new ≡ S.members node.old }
@@ -90,6 +93,7 @@ fn turn<S: Steps, L: Link, C: Clock, O: Sink>(
     ensures front { OnErr result ((one : ℕ × Option Datagram) × (HasBegun (C.readings clock.old) (C.readings clock.new) (L.taken link.old) (L.taken link.new) (one ∷ []) ×
         EndsOnce S.Steps node.old waiting.old.items (O.held out.old) (O.held out.new) (L.sent link.old) (L.sent link.new) one)) }
     ensures cause { IfErr result (λ fault. IsCaused fault (S.devices node.old) (S.devices node.new) (O.faults out.old) (O.faults out.new)) }
+    ensures full { (n : ℕ) → result ≡ Err (Node (Full n)) → S.is_full node.new n }
     ensures later { HaveGone (S.devices node.old) (S.devices node.new) }
     ensures count { O.faults out.old ≤ O.faults out.new }
     ensures members { S.members node.new ≡ S.members node.old }
@@ -123,6 +127,7 @@ fn turn_often<S: Steps, L: Link, C: Clock, O: Sink>(
     ensures front { OnErr result ((given : List (ℕ × Option Datagram)) × (HasBegun (C.readings clock.old) (C.readings clock.new) (L.taken link.old) (L.taken link.new) given ×
         EndsIn S.Steps node.old waiting.old.items (O.held out.old) (O.held out.new) (L.sent link.old) (L.sent link.new) given)) }
     ensures cause { IfErr result (λ fault. IsCaused fault (S.devices node.old) (S.devices node.new) (O.faults out.old) (O.faults out.new)) }
+    ensures full { (n : ℕ) → result ≡ Err (Node (Full n)) → S.is_full node.new n }
     ensures later { HaveGone (S.devices node.old) (S.devices node.new) }
     ensures count { O.faults out.old ≤ O.faults out.new }
     ensures members { S.members node.new ≡ S.members node.old }
@@ -152,6 +157,7 @@ pub fn serve<S: Steps, L: Link, C: Clock, O: Sink>(
     ensures front { OnErr result ((given : List (ℕ × Option Datagram)) × (HasBegun (C.readings clock.old) (C.readings clock.new) (L.taken link.old) (L.taken link.new) given ×
         EndsIn S.Steps node.old [] (O.held out.old) (O.held out.new) (L.sent link.old) (L.sent link.new) given)) }
     ensures cause { IfErr result (λ fault. IsCaused fault (S.devices node.old) (S.devices node.new) (O.faults out.old) (O.faults out.new)) }
+    ensures full { (n : ℕ) → result ≡ Err (Node (Full n)) → S.is_full node.new n }
     ensures later { HaveGone (S.devices node.old) (S.devices node.new) }
     ensures count { O.faults out.old ≤ O.faults out.new }
     ensures members { S.members node.new ≡ S.members node.old }

@@ -1,6 +1,6 @@
 //! A node that is served: it steps whatever it is given, keeps what it promises before it gives anything out, and gives out only
 //! what is of the formats.
-ghost use Rattle.std.specs.Prelude.{◌≡◌, ◌≤◌, ◌++◌, ℕ, Bool, List, All, reverse, IfErr, IfOk, OnOk};
+ghost use Rattle.std.specs.Prelude.{◌≡◌, ◌≤◌, ◌++◌, ℕ, Bool, List, All, reverse, Err, IfErr, IfOk, OnOk};
 ghost use Rattle.mega_base.specs.declared.names.OpId.{OpId as Op};
 ghost use Rattle.mega_cluster.specs.declared.cluster.Cluster.{Cluster as Members};
 ghost use Rattle.mega_handler.specs.Named.{Meanings};
@@ -53,6 +53,9 @@ pub trait Steps {
     /// How often the device of its log failed, and that of its rows.
     ghost devices: { Self → Devices };
 
+    /// That a file of its devices has no room for what it is to take, with which it would have this length.
+    ghost is_full: { Self → ℕ → Type 0 };
+
     /// Where an event may happen at a node of the rules.
     ghost may_happen: { Setting → RuleNode → RuleEvent → Type 0 };
 
@@ -88,6 +91,7 @@ pub trait Steps {
         ensures lines { IfOk result (λ made. All HasLine made.items) }
         ensures messages { IfOk result (λ made. All IsMessage made.sends) }
         ensures cause { IfErr result (λ fault. IsDueTo fault (devices self.old) (devices self.new)) }
+        ensures full { (n : ℕ) → result ≡ Err (NodeFault.Full n) → is_full self.new n }
         ensures later { HaveGone (devices self.old) (devices self.new) }
         ensures members { members self.new ≡ members self.old }
         ensures me { me self.new ≡ me self.old };

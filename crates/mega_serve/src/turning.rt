@@ -1,5 +1,5 @@
 //! One step of a served node: what it shows goes into the record, what it sends onto the link, and its answers to the clients.
-ghost use Rattle.std.specs.Prelude.{◌≡◌, ◌≤◌, ◌++◌, ◌∷◌, [], List, map, All, Err, IfErr, OnErr, OnOk};
+ghost use Rattle.std.specs.Prelude.{◌≡◌, ◌≤◌, ◌++◌, ◌∷◌, [], ℕ, List, map, All, Err, IfErr, OnErr, OnOk};
 ghost use Rattle.std.specs.List.{flat_map};
 ghost use Rattle.mega_wire.specs.Messages.{IsMessage};
 ghost use Rattle.mega_transcript.specs.Lines.{HasLine};
@@ -10,6 +10,8 @@ ghost use Rattle.mega_rules.specs.Steps.{Tick, step};
 ghost use Rattle.mega_promises.specs.Served.{Line, Noted, Served, put_out, recorded, ticked};
 ghost use Rattle.mega_page.specs.Pages.{IsPage};
 ghost use Rattle.mega_serve.specs.Replies.{item_reply, waiting_of};
+ghost use Rattle.mega_page.specs.declared.fault.NodeFault.TheVariants.{Full};
+ghost use Rattle.mega_page.specs.declared.fault.ServeFault.TheVariants.{Node};
 ghost use Rattle.mega_page.specs.Causes.{HaveGone, IsCaused};
 ghost use Rattle.mega_serve.specs.Stepping.{event_of};
 ghost use Rattle.mega_serve.specs.Turns.{Ended, IsServing, Proceeds, schema_of, setting_of};
@@ -74,6 +76,7 @@ pub(crate) fn step<S: Steps, L: Link, O: Sink>(
         Ended (schema_of S.Steps node.old) (O.held out.old) (O.held out.new) (L.sent link.old) (L.sent link.new) now
         (recorded (S.members node.old) (S.me node.old) now own (map waiting_of waiting.old.items) (step (setting_of S.Steps node.old h) now.node (event_of event)))) }
     ensures cause { IfErr result (λ fault. IsCaused fault (S.devices node.old) (S.devices node.new) (O.faults out.old) (O.faults out.new)) }
+    ensures full { (n : ℕ) → result ≡ Err (Node (Full n)) → S.is_full node.new n }
     ensures later { HaveGone (S.devices node.old) (S.devices node.new) }
     ensures count { O.faults out.old ≤ O.faults out.new }
     ensures taken { L.taken link.new ≡ L.taken link.old }
@@ -145,6 +148,7 @@ pub(crate) fn tick<S: Steps, L: Link, O: Sink>(
     ensures front { OnErr result ((h : Meanings) (was : Served) → IsServing S.Steps h node.old waiting.old.items was → S.may_happen (setting_of S.Steps node.old h) was.node (Tick now) →
         Ended (schema_of S.Steps node.old) (O.held out.old) (O.held out.new) (L.sent link.old) (L.sent link.new) was (ticked (S.members node.old) (S.me node.old) h now was)) }
     ensures cause { IfErr result (λ fault. IsCaused fault (S.devices node.old) (S.devices node.new) (O.faults out.old) (O.faults out.new)) }
+    ensures full { (n : ℕ) → result ≡ Err (Node (Full n)) → S.is_full node.new n }
     ensures later { HaveGone (S.devices node.old) (S.devices node.new) }
     ensures count { O.faults out.old ≤ O.faults out.new }
     ensures taken { L.taken link.new ≡ L.taken link.old }

@@ -1,5 +1,5 @@
 -- What a served node over its devices is, and where an event may happen at it.
-use Rattle.std.specs.Prelude.{◌≡◌, ℕ, true, Bool, List, [], All, Option}
+use Rattle.std.specs.Prelude.{◌≡◌, ◌⊎◌, ℕ, true, Bool, List, [], All, Option}
 use Rattle.std.specs.List.{list_any}
 use Rattle.mega_base.specs.declared.names.OpId.{OpId}
 use Rattle.mega_disk.specs.declared.records.Records.{Ghosts}
@@ -16,6 +16,7 @@ use Rattle.mega_wal.specs.Items.{IsItem}
 use Rattle.mega_wal.specs.Same.{same_op}
 use Rattle.mega_durable.specs.of_core.declared.node.Node.{Node}
 use Rattle.mega_durable.specs.of_core.Stepping.{IsPlacedAt}
+use Rattle.mega_durable.specs.Rooms.{HasNoRoom}
 use Rattle.mega_durable.specs.Standing.{IsUp, records_in}
 
 -- a node of this number that is up as this node of the rules, over rows that tell what they hold and of which nothing is cleaned, and handlers that
@@ -41,3 +42,11 @@ opens_at one op = list_any (λ (o : Operation). same_op o.id op) one.open
 -- how often its devices failed
 abbrev pub devices_of : {R V : Type 0} → Ghosts R → VersionGhosts V → Node R V → ℕ × ℕ
 devices_of store rows one = (store.faults (records_in one), rows.faults one.replica.rows.rows)
+
+-- a log has no room for some record of the format, behind those that it holds or in place of all
+abbrev pub LogIsFull : {R : Type 0} → Ghosts R → R → ℕ → Type 0
+LogIsFull store records total = HasNoRoom store store.length_with records total ⊎ HasNoRoom store store.length_replaced records total
+
+-- so a file of its devices would have this length: that of its log, or that of its rows, which are then of a kind that can be full and is spilled
+pub record IsFull {R V : Type 0} (store : Ghosts R) (rows : VersionGhosts V) (one : Node R V) (total : ℕ) : Type 0 where
+  pub of_devices : LogIsFull store (records_in one) total ⊎ ((kept : V) × (rows.is_full kept ≡ true))

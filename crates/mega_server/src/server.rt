@@ -1,5 +1,5 @@
 //! A node over its devices, with the handlers of its queues, as one that is served.
-ghost use Rattle.std.specs.Prelude.{◌≡◌, ◌≤◌, ◌+◌, if◌then◌else◌, ℕ, List, [], map, true, false, IfErr, IfOk, OnOk};
+ghost use Rattle.std.specs.Prelude.{◌≡◌, ◌≤◌, ◌+◌, if◌then◌else◌, ℕ, List, [], map, true, false, Err, IfErr, IfOk, OnOk};
 ghost use Rattle.std.specs.List.{list_any};
 ghost use Rattle.mega_base.specs.declared.names.OpId.{OpId as Op};
 ghost use Rattle.mega_handler.specs.Named.{Meanings};
@@ -16,10 +16,14 @@ ghost use Rattle.mega_durable.specs.Cut.{LogProceeds, MayLeave, failed_by, log_f
 ghost use Rattle.mega_durable.specs.Spilling.{AreSpilled, MaySpill, marks_of, rows_in};
 ghost use Rattle.mega_durable.specs.Standing.{IsUp, records_in};
 ghost use Rattle.mega_durable.specs.Stepped.{AtEach};
+ghost use Rattle.mega_durable.specs.Rooms.{HasNoRoom};
+ghost use Rattle.mega_durable.specs.declared.fault.UpFault.TheVariants.{Log};
+ghost use Rattle.mega_wal.specs.declared.answers.LogFault.TheVariants.{Full as LogFull};
+ghost use Rattle.mega_serve.specs.of_page.declared.fault.NodeFault.TheVariants.{Full};
 ghost use Rattle.mega_serve.specs.Causes.{HaveGone, IsDueTo};
 ghost use Rattle.mega_serve.specs.Stepping.{event_of};
 ghost use Rattle.mega_server.specs.Causes.{fault_of};
-ghost use Rattle.mega_server.specs.Serving.{devices_of};
+ghost use Rattle.mega_server.specs.Serving.{IsFull, devices_of};
 
 use crate::faults::fault_of;
 use crate::forming::formed;
@@ -51,6 +55,7 @@ fn readied<R: Records, V: Versions>(alloc: Global, up: &mut Up<R, V>) -> Result<
     ensures cut { R.is_told ≡ true → AtEachUp R.Records V.version up.old.node (λ h node. LeavesOnly R.moment R.opened_since (records_in up.old.node) (records_in up.new.node) (HoldsAll node.met)) }
     ensures cut_rows { V.is_told ≡ true → AtEachUp R.Records V.version up.old.node (λ h node. LeavesOnly V.moment V.opened_since (rows_in up.old.node) (rows_in up.new.node) (MaySpill V.Versions (rows_in up.old.node) (marks_of node.met node.stored))) }
     ensures cause { IfErr result (λ fault. IsDueTo (fault_of fault) (devices_of R.Records V.Versions up.old.node) (devices_of R.Records V.Versions up.new.node)) }
+    ensures full { IfErr result (λ fault. (n : ℕ) → fault_of fault ≡ Full n → IsFull R.Records V.Versions up.new.node n) }
     ensures later { HaveGone (devices_of R.Records V.Versions up.old.node) (devices_of R.Records V.Versions up.new.node) }
     ensures members { up.new.node.replica.members ≡ up.old.node.replica.members }
     ensures me { up.new.node.replica.me ≡ up.old.node.replica.me }
@@ -74,6 +79,7 @@ impl<R: Records, V: Versions, H: QueueHandlers> Server<R, V, H> {
         ensures appended { V.is_told ≡ true → OnOk result (AtEach R.Records V.version (H.meant self.old.handlers) self.old.up.node (event_of event) (λ h s node. R.count_of (records_in self.new.up.node) ≡ R.count_of (records_in self.old.up.node) + (if appends (step s node (event_of event)) then 1 else 0))) }
         ensures cut { V.is_told ≡ true → R.is_told ≡ true → AtEach R.Records V.version (H.meant self.old.handlers) self.old.up.node (event_of event) (λ h s node. LeavesOnly R.moment R.opened_since (records_in self.old.up.node) (records_in self.new.up.node) (MayLeave s node (event_of event))) }
         ensures handlers { H.meant self.new.handlers ≡ H.meant self.old.handlers }
+        ensures full { (n : ℕ) → result ≡ Err (Log (LogFull n)) → HasNoRoom R.Records R.length_with (records_in self.new.up.node) n }
         ensures proceeds { LogProceeds R.Records (log_failed_by result) (records_in self.old.up.node) (records_in self.new.up.node) }
         ensures used { StoreUsed V.Versions (failed_by result) self.old.up.node.replica.rows.rows self.new.up.node.replica.rows.rows }
         ensures members { self.new.up.node.replica.members ≡ self.old.up.node.replica.members }
@@ -113,6 +119,7 @@ impl<R: Records, V: Versions, H: QueueHandlers> Server<R, V, H> {
 
         ensures handlers { H.meant self.new.handlers ≡ H.meant self.old.handlers }
         ensures cause { IfErr result (λ fault. IsDueTo (fault_of fault) (devices_of R.Records V.Versions self.old.up.node) (devices_of R.Records V.Versions self.new.up.node)) }
+        ensures full { IfErr result (λ fault. (n : ℕ) → fault_of fault ≡ Full n → IsFull R.Records V.Versions self.new.up.node n) }
         ensures later { HaveGone (devices_of R.Records V.Versions self.old.up.node) (devices_of R.Records V.Versions self.new.up.node) }
         ensures members { self.new.up.node.replica.members ≡ self.old.up.node.replica.members }
         ensures number { self.new.number ≡ self.old.number }
@@ -143,6 +150,8 @@ impl<R: Records, V: Versions, H: QueueHandlers> Steps for Server<R, V, H> {
     ghost me = { λ s. s.number.of };
 
     ghost devices = { λ s. devices_of R.Records V.Versions s.up.node };
+
+    ghost is_full = { λ s n. IsFull R.Records V.Versions s.up.node n };
 
     ghost may_happen = { MayStep };
 

@@ -1,5 +1,6 @@
 use Rattle.std.proofs.Common.{◌∷◌, ◌++◌, [], codes, decimal}
 use Rattle.mega_promises.specs.Served.{refused_by, reply_line}
+use Rattle.mega_page.specs.declared.fault.NodeFault.TheVariants.{Full}
 use Rattle.mega_serve.specs.Turns.{Ended, Proceeds, schema_of}
 use Rattle.mega_serve.proofs.Ending.{lines_partly, no_lines}
 use Rattle.mega_page.proofs.Outcomes.{however}
@@ -25,3 +26,6 @@ returns-clause-front g c = λ h now waiting got serving page.
     coe 0 1 (i. Ended (schema_of g.S.Steps node) (g.O.Sink.held c.args.out.now) (g.O.Sink.held c.give.new.out) (g.L.Link.sent c.args.link.now) (g.L.Link.sent c.give.new.link) now
     (refused_by (c.number.ensures.number i) now got c.args.client c.args.token c.args.kind.now (decimal c.args.reason)))
     (lines_partly (schema_of g.S.Steps node) _ _ _ _ now (got ++ line ∷ []) (c.in-Err.ensures.front (schema_of g.S.Steps node) _ (c.in_ok-refuse.ensures (schema_of g.S.Steps node) got page)))
+
+pub returns-clause-full : goal.returns-clause-full
+returns-clause-full g c n is = absurd (c.in-Err.ensures.own (Full n) is)

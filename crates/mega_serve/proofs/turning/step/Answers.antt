@@ -1,9 +1,10 @@
-use Rattle.std.proofs.Common.{◌≡◌, ◌++◌, ◌∙◌, ap, arith, map, subst, sym}
+use Rattle.std.proofs.Common.{◌≡◌, ◌++◌, ◌∙◌, Err, ap, arith, map, subst, sym}
 use Rattle.std.specs.List.{flat_map}
 use Rattle.mega_cluster.specs.declared.cluster.Cluster.{Cluster}
 use Rattle.mega_schema.specs.declared.schema.Schema.{Schema}
 use Rattle.mega_rules.specs.Steps.{step}
 use Rattle.mega_promises.specs.Served.{Noted, put_out}
+use Rattle.mega_page.specs.declared.fault.NodeFault.TheVariants.{Full}
 use Rattle.mega_page.specs.Pages.{IsPage}
 use Rattle.mega_serve.specs.Replies.{item_reply, waiting_of}
 use Rattle.mega_serve.specs.Stepping.{event_of}
@@ -56,3 +57,9 @@ pub returns-clause-cause : goal.returns-clause-cause
 returns-clause-cause g c =
     caused_later c.in-Err-give.fault (g.S.Steps.devices c.args.node.now) (g.S.Steps.devices c.step.new.self) (g.S.Steps.devices c.step.new.self) (g.O.Sink.faults c.args.out.now) (g.O.Sink.faults c.args.out.now) (g.O.Sink.faults c.give.new.out)
     c.in-Ok.ensures.later (omega (arith)) (c.in-Err-give.ensures.cause (g.S.Steps.devices c.step.new.self))
+
+pub returns-in-Err-clause-full : goal.returns-in-Err-clause-full
+returns-in-Err-clause-full g c n is = let same : c.in-Err.fault ≡ Full n = cc in c.in-Err.ensures.full n (ap Err same)
+
+pub returns-clause-full : goal.returns-clause-full
+returns-clause-full g c n is = absurd (c.in-Err-give.ensures.own (Full n) is)

@@ -1,9 +1,11 @@
-use Rattle.std.proofs.Common.{ap, sym, ◌∙◌}
+use Rattle.std.proofs.Common.{Err, ap, inr, sym, ◌∙◌}
+use Rattle.std.proofs.lemmas.Bool.{false≢true}
 use Rattle.mega_disk.specs.Images.{LeavesOnly}
 use Rattle.mega_durable.specs.Compacting.{HoldsAll}
 use Rattle.mega_durable.specs.Spilling.{AreSpilled, MaySpill, marks_of, rows_in}
 use Rattle.mega_durable.specs.Standing.{records_in}
 use Rattle.mega_server.proofs.Compacted.{at_spilled, rows_stay}
+use Rattle.mega_server.proofs.Rooms.{compacted_full, true_unless}
 use Rattle.mega_server.proofs.server.readied.Goals as goal
 
 pub returns-in-Ok-spill-clause-state : goal.returns-in-Ok-spill-clause-state
@@ -37,3 +39,11 @@ pub returns-in-Err-spill-clause-cut_rows : goal.returns-in-Err-spill-clause-cut_
 returns-in-Err-spill-clause-cut_rows g c = λ told h node up.
     coe 0 1 (i. LeavesOnly g.V.Versions.moment g.V.Versions.opened_since (c.in-Ok.ensures.rows i).rows (rows_in c.spill.new.self.node) (MaySpill g.V.Versions (c.in-Ok.ensures.rows i).rows (marks_of node.met node.stored)))
     (c.in-Err-spill.ensures.cut told h node (c.in-Ok.ensures.state h node up))
+
+pub returns-in-Err-clause-full : goal.returns-in-Err-clause-full
+returns-in-Err-clause-full g c = λ n is. compacted_full g.R.Records g.V.Versions c.compact.new.self.node c.in-Err.fault n c.in-Err.ensures.owed (λ m same. c.in-Err.ensures.full m (ap Err same)) is
+
+pub returns-in-Err-spill-clause-full : goal.returns-in-Err-spill-clause-full
+returns-in-Err-spill-clause-full g c = λ n is.
+    let rows = rows_in c.compact.new.self.node in
+    record { of_devices = inr (rows, true_unless (g.V.Versions.is_full rows) (λ none. false≢true (c.in-Err-spill.ensures.idle none).0)) }

@@ -1,4 +1,4 @@
-use Rattle.std.proofs.Common.{◌≡◌, ◌+◌, ◌≤◌, if◌then◌else◌, map}
+use Rattle.std.proofs.Common.{◌≡◌, ◌+◌, ◌≤◌, Err, ap, if◌then◌else◌, map}
 use Rattle.mega_rules.specs.Steps.{step}
 use Rattle.mega_durable.specs.of_core.of_step_parts.Notes.{met_of}
 use Rattle.mega_promises.specs.Runs.{appends}
@@ -10,6 +10,7 @@ use Rattle.mega_serve.specs.Stepping.{event_of}
 use Rattle.mega_durable.specs.Spilling.{MaySpill, marks_of, rows_in}
 use Rattle.mega_durable.proofs.Upheld.{as_it_was}
 use Rattle.mega_server.proofs.Compacted.{at_compacted, at_most_two, cut_behind, spill_behind, still_spilled}
+use Rattle.mega_server.proofs.Rooms.{stepped_full}
 use Rattle.mega_server.proofs.server.Server.steps.Goals as goal
 
 pub returns-in-Ok-acts-clause-notes : goal.returns-in-Ok-acts-clause-notes
@@ -68,3 +69,7 @@ returns-in-Err-acts-clause-cut_rows g c = λ told h node up.
     let mid = rows_in c.readied.new.up.node in
     spill_behind g.V.Versions (rows_in c.args.self.now.up.node) mid (rows_in c.acts.new.self.up.node) (MaySpill g.V.Versions (rows_in c.args.self.now.up.node) (marks_of node.met node.stored))
     (g.met.V.Versions.counts_now mid) (c.in-Ok.ensures.cut_rows told h node up) c.in-Err-acts.ensures.used.unspilled
+
+pub returns-in-Err-acts-clause-full : goal.returns-in-Err-acts-clause-full
+returns-in-Err-acts-clause-full g c = λ n is.
+    stepped_full g.R.Records g.V.Versions c.acts.new.self.up.node c.in-Err-acts.fault n c.in-Err-acts.ensures.used.never_full (λ m same. c.in-Err-acts.ensures.full m (ap Err same)) is

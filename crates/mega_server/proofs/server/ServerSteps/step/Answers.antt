@@ -1,4 +1,5 @@
-use Rattle.std.proofs.Common.{◌∙◌, ap, sym, subst, ℕ, List, Option}
+use Rattle.std.proofs.Common.{◌≡◌, ◌∙◌, ap, sym, subst, ℕ, List, Option}
+use Rattle.mega_serve.specs.of_page.declared.fault.NodeFault.TheVariants.{Full}
 use Rattle.mega_serve.specs.Stepping.{event_of}
 use Rattle.mega_promises.specs.Runs.{setting}
 use Rattle.mega_handler.specs.Named.{Meaning}
@@ -34,3 +35,9 @@ returns-in-Ok-formed-clause-state g c = λ h node journal at may.
       whole = at.whole;
       numbered = c.in-Ok.ensures.me ∙ at.numbered ∙ sym (ap (λ (number : Number). number.of) c.in-Ok.ensures.number);
     }
+
+pub returns-in-Err-clause-full : goal.returns-in-Err-clause-full
+returns-in-Err-clause-full g c n is = let same : c.fault_of.result ≡ Full n = cc in c.in-Err.ensures.full n (sym c.fault_of.ensures ∙ same)
+
+pub returns-in-Err-formed-clause-full : goal.returns-in-Err-formed-clause-full
+returns-in-Err-formed-clause-full g c n is = absurd (c.in-Err-formed.ensures.full n is)
