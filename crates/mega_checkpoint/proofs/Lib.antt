@@ -4,6 +4,7 @@ mod Ended
 mod Fresh
 mod Fronts
 mod Joined
+pub mod Lengths
 mod Plain
 mod Rooms
 mod Swapped

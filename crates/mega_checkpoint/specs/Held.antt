@@ -1,14 +1,15 @@
 -- A file of records between two calls.
-use Rattle.std.specs.Prelude.{◌≡◌, ℕ, ◌-◌, ◌^◌, Bool, true, false, ◌&&◌, nat_le, nat_lt, if◌then◌else◌, List, length, get_or}
+use Rattle.std.specs.Prelude.{◌≡◌, ℕ, ◌+◌, ◌-◌, ◌^◌, max, Bool, true, false, ◌&&◌, nat_le, nat_lt, if◌then◌else◌, List, length, get_or}
 use denote.Struct.Props as logic
 use Rattle.std.specs.List.{AllByRecursion-prop}
 use Rattle.mega_disk.specs.Images.{Only}
+use Rattle.mega_journal.specs.Chain.{chain_of}
 use Rattle.mega_journal.specs.Rest.{IsAtRest, IsSettled}
 use Rattle.mega_areas.specs.declared.area.Area.TheVariants.{Odd, Even}
 use Rattle.mega_areas.specs.declared.area.Areas.{Areas}
 use Rattle.mega_areas.specs.declared.area.Form.{Form}
 use Rattle.mega_areas.specs.declared.area.Form.TheVariants.{Chain, InAreas}
-use Rattle.mega_areas.specs.Pages.{other_of, length_of_pages, is_open, generation_of, chain_in, counts, is_marked, is_areas}
+use Rattle.mega_areas.specs.Pages.{other_of, pages_in, length_of_pages, pages_for, is_open, generation_of, chain_in, counts, is_marked, is_areas}
 use Rattle.mega_areas.specs.Forms.{behind_replacement}
 use Rattle.mega_checkpoint.specs.Format.{list_of}
 
@@ -47,6 +48,17 @@ generation_in file = if counts Odd file then generation_of Odd file else generat
 -- the same of a file: of areas, with so many records, and a next generation
 abbrev pub due_of : List ℕ → Bool
 due_of file = is_areas file && (nat_lt (generation_in file) (2 ^ 64 - 1) && nat_le 4096 (behind_replacement (generation_in file) (length (list_of file))))
+
+-- where the records of a file end
+abbrev pub end_of : List ℕ → ℕ
+end_of file = length (chain_of (list_of file))
+
+-- the length that the file would have with a body of so many bytes behind its records, and with one in place of all
+abbrev pub length_with_of : List ℕ → ℕ → ℕ
+length_with_of file size = if is_areas file then length_of_pages (max (pages_in (length file)) (pages_for (end_of file + 15 + size))) else end_of file + 6 + size
+
+abbrev pub length_replaced_of : List ℕ → ℕ → ℕ
+length_replaced_of file size = if is_areas file then length_of_pages (max (pages_in (length file)) (pages_for (15 + size))) else 0
 
 -- with the gate of the other area closed
 abbrev pub shut : Areas → Areas

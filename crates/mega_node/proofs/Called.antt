@@ -16,10 +16,10 @@ use Rattle.mega_node.specs.Stops.{IsNoRule}
 use Rattle.mega_node.proofs.Turned.{ok_then}
 
 -- the log device with that of the rows
-abbrev beside : {D : Type 0} → D → D → Pair D
+abbrev pub beside : {D : Type 0} → D → D → Pair D
 beside runs log = record { log = log; runs = runs }
 
-paired : {D : Type 0} (X : D → Type 0) (devices : Option (Pair D)) (left : Option D) (runs : D) → devices ≡ option_map (beside runs) left → (log : D) × (left ≡ Some log) × X log
+pub paired : {D : Type 0} (X : D → Type 0) (devices : Option (Pair D)) (left : Option D) (runs : D) → devices ≡ option_map (beside runs) left → (log : D) × (left ≡ Some log) × X log
     → (both : Pair D) × (devices ≡ Some both) × X both.log
 paired X devices left runs same found = (beside runs found.0, same ∙ ap (option_map (beside runs)) found.1, found.2)
 

@@ -7,3 +7,4 @@ mod Refusing
 mod Turned
 mod Over
 mod Called
+mod Rooms

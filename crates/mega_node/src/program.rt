@@ -11,6 +11,7 @@ ghost use Rattle.mega_wal.specs.History.{starts_of};
 ghost use Rattle.mega_wal.specs.Records.{first_bad, history_of};
 ghost use Rattle.mega_node.specs.Calls.{AtHandlers, HasRun, IsCut};
 ghost use Rattle.mega_node.specs.Headers.{IsBroken, IsHeaded, header_line};
+ghost use Rattle.mega_node.specs.Logs.{IsFullFile};
 ghost use Rattle.mega_node.specs.Outside.{OnlyWrites, told_by};
 ghost use Rattle.mega_node.specs.Stops.{IsBeforeOpening, IsBehindHeader, IsHeaderStop, IsNoRule, IsTellingStop};
 
@@ -115,6 +116,7 @@ pub fn run_node<I: Source, O: Sink, D: Disk + Drop, L: Link, C: Clock, H: QueueH
     ensures device { result.ended ≡ Err Stop.Device → (left : Devices D) × (result.devices ≡ Some left) × Rose (D.faults devices.log) (D.faults left.log) }
     ensures link { result.ended ≡ Err Stop.Link → Rose (L.faults link.old) (L.faults link.new) }
     ensures full { (length : ℕ) → result.ended ≡ Err (Stop.Full length) → 2 ^ 40 < length }
+    ensures room { (n : ℕ) → result.ended ≡ Err (Stop.Full n) → D.is_told ≡ true → (left : Devices D) × (result.devices ≡ Some left) × IsFullFile (D.seen left.log) n }
     ensures starts { result.ended ≡ Err Stop.StartsFull → D.is_told ≡ true → starts_of (history_of (list_of (D.seen devices.log))) ≡ 4294967295 }
     ensures bad { (n : ℕ) → result.ended ≡ Err (Stop.BadRecord n) → D.is_told ≡ true → first_bad (list_of (D.seen devices.log)) ≡ Some n }
 

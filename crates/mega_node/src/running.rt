@@ -10,7 +10,7 @@ ghost use Rattle.mega_wal.specs.Records.{first_bad, history_of};
 ghost use Rattle.mega_cluster.specs.declared.cluster.Cluster.{Cluster as Members};
 ghost use Rattle.mega_handler.specs.Named.{Meaning};
 ghost use Rattle.mega_node.specs.Calls.{AtHandlers, Halted, Ran};
-ghost use Rattle.mega_node.specs.Logs.{AreFound};
+ghost use Rattle.mega_node.specs.Logs.{AreFound, IsFullFile};
 ghost use Rattle.mega_node.specs.Outside.{told_by};
 ghost use Rattle.mega_node.specs.Serving.{HasTurnedOff, HasTurnedOn, IsDue};
 ghost use Rattle.mega_node.specs.Starting.{HandsBack, HasStarted};
@@ -49,6 +49,7 @@ fn record_and_turn<S: Steps, L: Link, C: Clock, O: Sink>(
     ensures on { OnOk result (HasTurnedOn S.Steps node.old node.new start notes turns (told_by L.Link C.Clock O.Sink link.old clock.old out.old) (told_by L.Link C.Clock O.Sink link.new clock.new out.new)) }
     ensures off { OnErr result (HasTurnedOff S.Steps node.old start notes (told_by L.Link C.Clock O.Sink link.old clock.old out.old) (told_by L.Link C.Clock O.Sink link.new clock.new out.new)) }
     ensures cause { IfErr result (λ stop. IsDue stop (S.devices node.old) (S.devices node.new) (O.faults out.old) (O.faults out.new)) }
+    ensures full { (n : ℕ) → result ≡ Err (Stop.Full n) → S.is_full node.new n }
     ensures later { HaveGone (S.devices node.old) (S.devices node.new) }
     ensures count { O.faults out.old ≤ O.faults out.new }
 {
@@ -86,6 +87,7 @@ fn serve_begun<O: Sink, D: Disk + Drop, L: Link, C: Clock, H: QueueHandlers + Dr
         HasStarted ⟦<Server<Checkpoint<D>, VersionedRows, H> as Steps>⟧ makes c me found begun.server begun.start begun.notes →
         AtHandlers makes (λ h. Halted D.Disk h c me log (told_by L.Link C.Clock O.Sink link.old clock.old out.old) (told_by L.Link C.Clock O.Sink link.new clock.new out.new))) }
     ensures cause { IfErr result.0 (λ stop. IsDue stop (D.faults (disk_of begun.server.up.node.replica.voter.logs.records), 0) (D.faults result.1, 0) (O.faults out.old) (O.faults out.new)) }
+    ensures full { (n : ℕ) → result.0 ≡ Err (Stop.Full n) → D.is_told ≡ true → IsFullFile (D.seen result.1) n }
     ensures later { D.faults (disk_of begun.server.up.node.replica.voter.logs.records) ≤ D.faults result.1 }
     ensures count { O.faults out.old ≤ O.faults out.new }
 {
@@ -117,6 +119,7 @@ pub(crate) fn run_over<O: Sink, D: Disk + Drop, L: Link, C: Clock, H: QueueHandl
     ensures cut { OnErr result.0 ((told_by L.Link C.Clock O.Sink link.new clock.new out.new ≡ told_by L.Link C.Clock O.Sink link.old clock.old out.old)
         ⊎ AtHandlers (H.meant handlers) (λ h. Halted D.Disk h cluster number.of log (told_by L.Link C.Clock O.Sink link.old clock.old out.old) (told_by L.Link C.Clock O.Sink link.new clock.new out.new))) }
     ensures back { IfErr result.0 (λ stop. HandsBack D.faults (D.faults log) stop result.1) }
+    ensures full { (n : ℕ) → result.0 ≡ Err (Stop.Full n) → D.is_told ≡ true → (left : D) × (result.1 ≡ Some left) × IsFullFile (D.seen left) n }
     ensures later { (left : D) → result.1 ≡ Some left → D.faults log ≤ D.faults left }
     ensures sink { result.0 ≡ Err Stop.Sink → Rose (O.faults out.old) (O.faults out.new) }
     ensures starts { result.0 ≡ Err Stop.StartsFull → D.is_told ≡ true → starts_of (history_of (list_of (D.seen log))) ≡ 4294967295 }

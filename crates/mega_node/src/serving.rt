@@ -51,6 +51,7 @@ pub(crate) fn make_turns<S: Steps, L: Link, C: Clock, O: Sink>(
     ensures front { OnErr result ((given : List (ℕ × Option Datagram)) × (HasBegun (C.readings clock.old) (C.readings clock.new) (L.taken link.old) (L.taken link.new) given ×
         EndsIn S.Steps node.old [] (O.held out.old) (O.held out.new) (L.sent link.old) (L.sent link.new) given)) }
     ensures cause { IfErr result (λ stop. IsDue stop (S.devices node.old) (S.devices node.new) (O.faults out.old) (O.faults out.new)) }
+    ensures full { (n : ℕ) → result ≡ Err (Stop.Full n) → S.is_full node.new n }
     ensures later { HaveGone (S.devices node.old) (S.devices node.new) }
     ensures count { O.faults out.old ≤ O.faults out.new }
 {

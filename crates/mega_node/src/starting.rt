@@ -1,9 +1,9 @@
 //! A node starts over what its log holds, and stands ready to be served.
-ghost use Rattle.std.specs.Prelude.{◌≡◌, ◌≤◌, ◌<◌, ◌^◌, ℕ, [], List, true, option_map, IfErr, IfOk};
+ghost use Rattle.std.specs.Prelude.{◌≡◌, ◌≤◌, ◌<◌, ◌^◌, ℕ, [], List, Some, true, option_map, IfErr, IfOk};
 ghost use Rattle.mega_server.specs.of_core.Served.{IsServed};
 ghost use Rattle.mega_checkpoint.specs.Opened.{disk_of};
 ghost use Rattle.mega_rules.specs.Members.{is_node};
-ghost use Rattle.mega_node.specs.Logs.{AreOpened};
+ghost use Rattle.mega_node.specs.Logs.{AreOpened, IsFullFile};
 ghost use Rattle.mega_node.specs.Starting.{HandsBack, HasStarted, fault_stop, left_of, start_stop};
 ghost use Rattle.mega_node.specs.Stops.{IsStartStop};
 
@@ -78,6 +78,7 @@ pub(crate) fn start_node<D: Disk + Drop, H: QueueHandlers + Drop>(
     ensures handlers { IfOk result (λ begun. H.meant begun.server.handlers ≡ H.meant handlers) }
     ensures later { IfOk result (λ begun. D.faults (disk_of voter.logs.records) ≤ D.faults (disk_of begun.server.up.node.replica.voter.logs.records)) }
     ensures back { IfErr result (λ refused. HandsBack D.faults (D.faults (disk_of voter.logs.records)) refused.0 refused.1) }
+    ensures full { IfErr result (λ refused. (n : ℕ) → refused.0 ≡ Stop.Full n → D.is_told ≡ true → (left : D) × (refused.1 ≡ Some left) × IsFullFile (D.seen left) n) }
     ensures starts { IfErr result (λ refused. refused.0 ≡ Stop.StartsFull → voter.logs.kept.starts ≡ 4294967295) }
     ensures only { IfErr result (λ refused. IsStartStop refused.0) }
 {

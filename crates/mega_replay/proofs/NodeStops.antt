@@ -1,5 +1,5 @@
 -- What the status of a node's call tells of how it ended.
-use Rattle.std.proofs.Common.{◌≡◌, ◌≢◌, ℕ, ◌≤◌, inl, inr, Result, Ok, Err, refl, arith}
+use Rattle.std.proofs.Common.{◌≡◌, ◌≢◌, ◌⊎◌, ℕ, ◌≤◌, inl, inr, Result, Ok, Err, refl, arith}
 use Rattle.std.specs.Prelude.{OnOk, IfErr}
 use Rattle.mega_node.specs.declared.stop.Stop.{Stop}
 use Rattle.mega_node.specs.declared.stop.Stop.TheVariants.{BadRecord, Device, Full, Header, Link, NoMemory, Sink, Source, StartsFull, Unformed}
@@ -98,6 +98,19 @@ bad_by (Err Unformed) is = absurd (omega arith)
 bad_by (Err Link) is = absurd (omega arith)
 bad_by (Err (Full length)) is = absurd (omega arith)
 bad_by (Err StartsFull) is = absurd (omega arith)
+
+pub limit_by : (ended : Result (Unit {0}) Stop) → ended_with ended ≡ 10 → (ended ≡ Err StartsFull) ⊎ ((length : ℕ) × (ended ≡ Err (Full length)))
+limit_by (Err StartsFull) is = inl refl
+limit_by (Err (Full length)) is = inr (length, refl)
+limit_by (Ok done) is = absurd (omega arith)
+limit_by (Err (Header rule)) is = absurd (omega arith)
+limit_by (Err Source) is = absurd (omega arith)
+limit_by (Err Sink) is = absurd (omega arith)
+limit_by (Err Device) is = absurd (omega arith)
+limit_by (Err NoMemory) is = absurd (omega arith)
+limit_by (Err Unformed) is = absurd (omega arith)
+limit_by (Err Link) is = absurd (omega arith)
+limit_by (Err (BadRecord number)) is = absurd (omega arith)
 
 -- ---- whole kinds of ends
 

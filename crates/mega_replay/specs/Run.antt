@@ -13,13 +13,15 @@ use Rattle.mega_header.specs.Known.{HeaderFails, IfKnown, Passes}
 use Rattle.mega_words.specs.declared.command.Report.{Report}
 use Rattle.mega_handler.specs.Named.{Meanings}
 use Rattle.mega_checkpoint.specs.Format.{list_of}
-use Rattle.mega_wal.specs.Records.{first_bad}
+use Rattle.mega_wal.specs.History.{starts_of}
+use Rattle.mega_wal.specs.Records.{first_bad, history_of}
 use Rattle.mega_gen.specs.Generated.{generated}
 use Rattle.mega_replay_output.specs.LastLines.{header_line, limit_line, refused_line, schedule_line}
 use Rattle.mega_replay_output.specs.Statuses.{IsCutStatus}
 use Rattle.mega_replay_loop.specs.Replaying.{InputIsBroken, InputIsCut, InputIsDone, InputIsFailed, InputIsNoEvent, InputIsPastLast, InputIsRefused}
 use Rattle.mega_node.specs.Calls.{HasRun, IsCut}
 use Rattle.mega_node.specs.Headers.{IsBroken, IsHeaded, header_line as node_header_line}
+use Rattle.mega_node.specs.Logs.{IsFullFile}
 use Rattle.mega_node.specs.Outside.{OnlyWrites, Outside}
 use Rattle.mega_backup_words.specs.Backing.{BacksUp}
 use Rattle.mega_backup_words.specs.Endings.{is_cut as is_backup_cut}
@@ -58,7 +60,8 @@ pub record HasReplayed (report : Report) (input rest before after : Option (List
 
 -- `node`: the node of this number was to make so many turns, with these handlers, and ended with this status. With all turns made its record is held, what stands there was
 -- sent, and its log holds what it met; a header that breaks a rule is told of, and nothing else is done; at every other end a front of what there
--- was to write is held. Devices that fail are handed back, as are all others but where memory was wanting
+-- was to write is held. With 10 the starts that its log counts were used up, or the log that is handed back has no room for some record. Devices that fail are handed
+-- back, as are all others but where memory was wanting
 pub record HasRunNode {D : Type 0} (disks : DiskGhosts D) (h : Meanings) (number turns : ℕ) (input rest : Option (List ℕ)) (devices : Pair D) (handed : Option (Pair D)) (before after : Outside) (status : ℕ) : Type 0 where
   pub ran : status ≡ 0 → (left : Pair D) × (handed ≡ Some left) × HasRun disks h number turns input devices.log left.log before after
   pub header : status ≡ 3 → (rule : ℕ) × IsBroken number input rule × OnlyWrites before after (λ held more_held. Appends held more_held (node_header_line rule))
@@ -66,6 +69,9 @@ pub record HasRunNode {D : Type 0} (disks : DiskGhosts D) (h : Meanings) (number
   pub cut : status ≢ 0 → status ≢ 3 → IsCut disks h number input devices.log before after
   pub source : status ≡ 5 → HeaderFails input rest
   pub device : status ≡ 7 → (left : Pair D) × (handed ≡ Some left) × Rose (disks.faults devices.log) (disks.faults left.log)
+  pub limit : status ≡ 10 → disks.is_told ≡ true
+      → (starts_of (history_of (list_of (disks.seen devices.log))) ≡ 4294967295)
+      ⊎ ((left : Pair D) × (handed ≡ Some left) × ((total : ℕ) × IsFullFile (disks.seen left.log) total))
   pub bad : status ≡ 16 → disks.is_told ≡ true → (n : ℕ) × (first_bad (list_of (disks.seen devices.log)) ≡ Some n)
   pub unopened : IsBeforeOpening status → handed ≡ Some devices
   pub runs : (left : Pair D) → handed ≡ Some left → left.runs ≡ devices.runs

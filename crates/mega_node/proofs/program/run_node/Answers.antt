@@ -3,8 +3,9 @@ use Rattle.std.specs.Prelude.{option_map}
 use Rattle.mega_rules.specs.Members.{is_node}
 use Rattle.mega_node.specs.declared.stop.Stop.TheVariants.{Header}
 use Rattle.mega_node.specs.Headers.{IsBroken}
+use Rattle.mega_node.specs.Logs.{IsFullFile}
 use Rattle.mega_node.specs.Outside.{told_by}
-use Rattle.mega_node.proofs.Called.{device_back, has_run, is_cut}
+use Rattle.mega_node.proofs.Called.{device_back, has_run, is_cut, paired}
 use Rattle.mega_node.proofs.Members.{is_member, is_served}
 use Rattle.mega_node.proofs.program.run_node.Goals as goal
 use Rattle.mega_node.proofs.program.run_node.Goals.{in-None, in-Some}
@@ -45,3 +46,10 @@ returns-clause-device g c is =
     let same : c.match-left.devices ≡ option_map (λ log. record { log = log; runs = runs }) c.run_over-ended.result.1 =
     elim c.match-left.branch [ in-Some w ↦ w.devices-is ∙ ap (option_map (λ log. record { log = log; runs = runs })) (sym w.in-Some.is) | in-None w ↦ w.devices-is ∙ ap (option_map (λ log. record { log = log; runs = runs })) (sym w.in-None.is) ] in
     device_back g.D.Disk.faults (g.D.Disk.faults c.args.devices.log) c.match-left.devices c.run_over-ended.result.1 runs c.run_over-ended.result.0 same c.run_over-ended.ensures.back is
+
+pub returns-clause-room : goal.returns-clause-room
+returns-clause-room g c n is told =
+    let runs = c.args.devices.runs in
+    let same : c.match-left.devices ≡ option_map (λ log. record { log = log; runs = runs }) c.run_over-ended.result.1 =
+    elim c.match-left.branch [ in-Some w ↦ w.devices-is ∙ ap (option_map (λ log. record { log = log; runs = runs })) (sym w.in-Some.is) | in-None w ↦ w.devices-is ∙ ap (option_map (λ log. record { log = log; runs = runs })) (sym w.in-None.is) ] in
+    paired (λ log. IsFullFile (g.D.Disk.seen log) n) c.match-left.devices c.run_over-ended.result.1 runs same (c.run_over-ended.ensures.full n is told)

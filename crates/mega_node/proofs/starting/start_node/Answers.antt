@@ -1,12 +1,14 @@
 use Rattle.std.proofs.Common.{◌≡◌, ◌+◌, ℕ, ◌<◌, [], ap, refl, sym, subst, ◌∙◌, arith}
 use Rattle.mega_server.specs.of_durable.Starting.{IsRefused}
 use Rattle.mega_checkpoint.specs.Opened.{disk_of}
+use Rattle.mega_checkpoint.proofs.Lengths.{replaced_is, with_is}
 use Rattle.mega_promises.specs.NodeRuns.{met_of}
 use Rattle.mega_promises.specs.Runs.{setting}
 use Rattle.mega_wal.specs.History.{starts_of}
 use Rattle.mega_wal.specs.Records.{history_of}
 use Rattle.mega_node.specs.Starting.{HandsBack, left_of, start_stop}
 use Rattle.mega_node.proofs.Refusing.{handed, mapped}
+use Rattle.mega_node.proofs.Rooms.{handed_full, start_full}
 use Rattle.mega_node.proofs.Starts.{at_number, may_start, of_format, start_shown}
 use Rattle.mega_node.proofs.starting.start_node.Goals as goal
 
@@ -36,3 +38,10 @@ returns-in-Err-clause-back g c =
     let one = c.in-Err.refused in
     let back = mapped disk_of g.D.Disk.faults _ (start_stop one) (left_of one) (handed _ c.args.voter one (subst (λ voter. IsRefused _ voter one) c.new-down.ensures.voter c.in-Err.ensures.proceeds)) in
     coe 0 1 (i. HandsBack g.D.Disk.faults (g.D.Disk.faults (disk_of c.args.voter.logs.records)) (sym c.handed_back.ensures.stop i) (sym c.handed_back.ensures.device i)) back
+
+pub returns-in-Err-clause-full : goal.returns-in-Err-clause-full
+returns-in-Err-clause-full g c = λ n is told.
+    handed_full g.D.Disk.seen n _ _ c.handed_back.ensures.device (start_full _ c.in-Err.refused disk_of g.D.Disk.seen n c.in-Err.ensures.full (λ records. record {
+      behind = λ ready size. with_is (g.D.Disk.seen records.disk) (g.D.Disk.may_leave records.disk) records.form records.end size (records.held told ready);
+      in_place = λ ready size. replaced_is (g.D.Disk.seen records.disk) (g.D.Disk.may_leave records.disk) records.form records.end size (records.held told ready);
+    }) (sym c.handed_back.ensures.stop ∙ is))

@@ -1,8 +1,8 @@
-use Rattle.std.proofs.Common.{◌∙◌, ap, sym, subst}
+use Rattle.std.proofs.Common.{◌∙◌, ⊎_elim, inl, inr, ap, sym, subst}
 use Rattle.mega_node.specs.Statuses.{ended_with}
 use Rattle.mega_replay.specs.Statuses.{IsBeforeOpening, IsBehindHeader}
 use Rattle.mega_replay.specs.Statuses.{IsNodeStatus}
-use Rattle.mega_replay.proofs.NodeStops.{bad_by, before_by, behind_by, cut_by, device_by, header_by, link_by, ran_by, sink_by, source_by, status_known}
+use Rattle.mega_replay.proofs.NodeStops.{bad_by, before_by, behind_by, cut_by, device_by, header_by, limit_by, link_by, ran_by, sink_by, source_by, status_known}
 use Rattle.mega_replay.proofs.serving.serve_with.Goals as goal
 
 pub returns-clause-source : goal.returns-clause-source
@@ -33,6 +33,9 @@ returns-clause-node g c = λ h means handlers.
       cut = λ all broken. cut_by ended _ (λ is. all (status ∙ is)) (λ is. broken (status ∙ is)) c.run_node-outcome.ensures.cut h means handlers;
       source = λ is. (c.run_node-outcome.ensures.source (source_by ended (sym status ∙ is))).1;
       device = λ is. c.run_node-outcome.ensures.device (device_by ended (sym status ∙ is));
+      limit = λ is told.
+          ⊎_elim (λ most. inl (c.run_node-outcome.ensures.starts most told)) (λ full. inr (let room = c.run_node-outcome.ensures.room full.0 full.1 told in (room.0, room.1, (full.0, room.2))))
+          (limit_by ended (sym status ∙ is));
       bad = λ is told.
           let record_of = bad_by ended (sym status ∙ is) in
           (record_of.0, c.run_node-outcome.ensures.bad record_of.0 record_of.1 told);
