@@ -12,3 +12,4 @@ pub mod Compacted
 pub mod Decided
 pub mod Formats
 pub mod Summed
+pub mod Spelled

@@ -7,4 +7,5 @@ pub mod History
 pub mod Kept
 pub mod Records
 pub mod Compaction
+pub mod Spelling
 pub use Rattle.mega_acceptor.specs as of_acceptor

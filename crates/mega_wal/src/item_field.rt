@@ -224,7 +224,11 @@ impl JournalItem {
 
 /// Appends a group and a position.
 #[tactic(auto, using(mega_base::proofs::Keeps::keeps_front))]
-fn put_place(group: &GroupId, position: Position, out: &mut Bytes) -> Result<(), NoMemory>
+pub(crate) fn put_place(
+    group: &GroupId,
+    position: Position,
+    out: &mut Bytes,
+) -> Result<(), NoMemory>
     requires { IsGroup group.now }
     ensures ok { OnOk result (out.new ≡ out.old ++ (group_text group.now ++ position_text position)) }
     ensures err { OnErr result (take (length out.old) out.new ≡ out.old) }
@@ -247,7 +251,7 @@ fn put_vote(ballot: Ballot, entry: &Entry, out: &mut Bytes) -> Result<(), NoMemo
 
 /// Appends a node and an epoch.
 #[tactic(auto, using(mega_base::proofs::Keeps::keeps_front))]
-fn put_lock(node: NodeId, epoch: Epoch, out: &mut Bytes) -> Result<(), NoMemory>
+pub(crate) fn put_lock(node: NodeId, epoch: Epoch, out: &mut Bytes) -> Result<(), NoMemory>
     requires node { IsNode node }
     requires epoch { IsEpoch epoch }
     ensures ok { OnOk result (out.new ≡ out.old ++ (node_text node ++ epoch_text epoch)) }

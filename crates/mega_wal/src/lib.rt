@@ -13,6 +13,7 @@ mod kept;
 pub mod laws;
 mod logs;
 mod opening;
+mod spelling;
 mod summing;
 
 pub use answers::{LogFault, Promised, Voted};

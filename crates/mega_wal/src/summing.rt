@@ -6,29 +6,32 @@ ghost use Rattle.mega_disk.specs.Images.{LeavesOnly};
 ghost use Rattle.mega_disk.specs.RecordLists.{IsOldOrReplaced};
 ghost use Rattle.mega_wal.specs.declared.item.JournalItem.{JournalItem as Item};
 ghost use Rattle.mega_wal.specs.Compaction.{IsOfFormat, IsOrderedKept, compacted, compacted_text, if_short};
-ghost use Rattle.mega_wal.specs.Items.{IsItem, record_text};
+ghost use Rattle.mega_wal.specs.Items.{IsItem};
 ghost use Rattle.mega_wal.specs.Kept.{Represents};
 ghost use Rattle.mega_wal.specs.Records.{first_bad, history_of};
 
 use crate::answers::LogFault;
 use crate::compaction::compacted;
-use crate::flushing::{RECORD_LIMIT, replace, text};
+use crate::flushing::{RECORD_LIMIT, replace};
 use crate::item::JournalItem;
+use crate::kept::Kept;
 use crate::logs::Logs;
+use crate::spelling::spelled;
 use mega_base::{Bytes, Items, NoMemory};
 use mega_disk::Records;
 use std::alloc::Global;
 
-/// The text of a record of these items, where it has fewer than 2^32 bytes.
+/// The text of the record that says all that is kept, of so many items, where it has fewer than 2^32 bytes.
 #[tactic(auto, using(crate::proofs::Flushed::long_record, crate::proofs::Flushed::is_short, crate::proofs::Flushed::is_long))]
-fn short_text(alloc: Global, items: &Items<JournalItem>) -> Result<Option<Bytes>, NoMemory>
-    requires { All IsItem items.now }
-    ensures { IfOk result (λ text. text ≡ if_short (record_text items.now)) }
+fn short_text(alloc: Global, kept: &Kept, count: usize) -> Result<Option<Bytes>, NoMemory>
+    requires each { All IsItem (compacted kept.now) }
+    requires count { length (compacted kept.now) ≡ count }
+    ensures { IfOk result (λ text. text ≡ if_short (compacted_text kept.now)) }
 {
-    if items.len() as u64 >= RECORD_LIMIT {
+    if count as u64 >= RECORD_LIMIT {
         return Ok(None);
     }
-    let text = text(alloc, items)?;
+    let text = spelled(alloc, kept, count as u32)?;
     if text.len() as u64 >= RECORD_LIMIT {
         return Ok(None);
     }
@@ -77,7 +80,7 @@ impl<R: Records> Logs<R> {
         ensures by_fuse { R.fails_by_fuse self.old.records ≡ true → R.fails_by_fuse self.new.records ≡ true }
         ensures opened { R.opened self.new.records ≡ R.opened self.old.records }
     {
-        match short_text(alloc, items)? {
+        match short_text(alloc, &self.kept, items.len())? {
             Some(text) => replace(alloc, &mut self.records, text.as_slice()),
             None => Ok(()),
         }
