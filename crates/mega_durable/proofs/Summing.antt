@@ -10,10 +10,8 @@ use Rattle.mega_wal.specs.declared.answers.LogFault.{LogFault}
 use Rattle.mega_wal.specs.declared.answers.LogFault.TheVariants.{BadRecord, DiskFault, Full, NoMemory, Spent}
 use Rattle.mega_wal.specs.declared.kept.Kept.{Kept}
 use Rattle.mega_wal.specs.declared.item.JournalItem.{JournalItem}
-use Rattle.mega_wal.specs.Compaction.{IsOfFormat, compacted_text}
 use Rattle.mega_wal.specs.Kept.{Represents}
 use Rattle.mega_wal.specs.Records.{first_bad, history_of}
-use Rattle.mega_wal.proofs.Formatted.{history_fits}
 use Rattle.mega_wal.proofs.Greatest.{marks_same}
 use Rattle.mega_rules.specs.Clock.{start_of}
 use Rattle.mega_rules.specs.Met.{Met}
@@ -36,10 +34,6 @@ held_history kept records met told holds = record {
   granted = λ node. told.journal.granted node ∙ sym (holds.agrees.granted node);
   starts = told.start ∙ sym holds.counted;
 }
-
--- so it is of the format
-pub held_format : (kept : Kept) (records : List (List ℕ)) (met : List Met) → Tells kept met → HoldsMet records (start_of met) met → IsOfFormat kept
-held_format kept records met told holds = record { items = history_of records; represents = held_history kept records met told holds; each = history_fits records 1 holds.good }
 
 abbrev Says : Kept → List ℕ → Type 0
 Says kept text = length text < 2 ^ 32 → (told : List JournalItem) → Represents kept told → Represents kept (history_of (text ∷ []))

@@ -1,5 +1,5 @@
 //! One record in place of all, where a node's log is due for it: nothing else of the node changes.
-ghost use Rattle.std.specs.Prelude.{◌≡◌, ◌<◌, ◌^◌, ℕ, [], true, false, length, Err, Some, IsOk, IfErr, OnOk};
+ghost use Rattle.std.specs.Prelude.{◌≡◌, ◌≢◌, ◌<◌, ◌^◌, ℕ, [], true, false, length, Err, Some, IsOk, IfErr, OnOk};
 ghost use Rattle.mega_disk.specs.Images.{LeavesOnly};
 ghost use Rattle.mega_wal.specs.Compaction.{compacted_text};
 ghost use Rattle.mega_wal.specs.declared.answers.LogFault.TheVariants.{Full};
@@ -17,7 +17,6 @@ use mega_base::Items;
 use mega_core::mega_step_parts::is_to_compact;
 use mega_disk::{Records, Versions};
 use mega_wal::{LogFault, Logs};
-use mega_well_formed::are_items;
 use std::alloc::Global;
 
 /// Why a log was not compacted. Where the device failed nothing is owed, for no step was taken.
@@ -44,19 +43,12 @@ fn summed<R: Records>(alloc: Global, logs: &mut Logs<R>) -> Result<(), UpFault>
     ensures any_moment { R.is_told ≡ true → R.is_spent logs.old.records ≡ false → AtEachHeld R.Records logs.old (λ met. LeavesOnly R.moment R.opened_since logs.old.records logs.new.records (HoldsAll met)) }
     ensures counted { OnOk result (length (compacted_text logs.old.kept) < 2 ^ 32 → R.count_of logs.new.records ≡ 1) }
     ensures still_open { OnOk result (R.is_spent logs.new.records ≡ R.is_spent logs.old.records) }
-    ensures formed { result ≡ Err Unformed → AtEachHeld R.Records logs.old (λ met. ⊥) }
+    ensures formed { result ≢ Err Unformed }
     ensures owed { IfErr result (λ refused. OwesNothing refused) }
     ensures full { (n : ℕ) → result ≡ Err (Log (Full n)) → HasNoRoom R.Records R.length_replaced logs.new.records n }
     ensures proceeds { LogCompacts R.Records (log_failed_by result) logs.old.records logs.new.records }
 {
-    let items = match logs.summary(alloc) {
-        Ok(items) => items,
-        Err(_refused) => return Err(not_compacted(alloc, LogFault::NoMemory)),
-    };
-    if !are_items(items.as_slice()) {
-        return Err(UpFault::Unformed);
-    }
-    match logs.sum_up(alloc, &items) {
+    match logs.compact(alloc) {
         Ok(()) => Ok(()),
         Err(fault) => Err(not_compacted(alloc, fault)),
     }
@@ -71,7 +63,7 @@ fn compacted<R: Records>(alloc: Global, logs: &mut Logs<R>) -> Result<(), UpFaul
     ensures counted { OnOk result (IsToCompact R.Records logs.old → R.count_of logs.new.records ≡ 1) }
     ensures idle { R.is_due logs.old.records ≡ false → IsOk result × (logs.new.records ≡ logs.old.records) }
     ensures still_open { OnOk result (R.is_spent logs.new.records ≡ R.is_spent logs.old.records) }
-    ensures formed { result ≡ Err Unformed → AtEachHeld R.Records logs.old (λ met. ⊥) }
+    ensures formed { result ≢ Err Unformed }
     ensures owed { IfErr result (λ refused. OwesNothing refused) }
     ensures full { (n : ℕ) → result ≡ Err (Log (Full n)) → HasNoRoom R.Records R.length_replaced logs.new.records n }
     ensures proceeds { LogCompacts R.Records (log_failed_by result) logs.old.records logs.new.records }
@@ -96,8 +88,8 @@ impl<R: Records, V: Versions> Up<R, V> {
         // A crash at any moment leaves records that hold what the node met.
         ensures cut { R.is_told ≡ true → AtEachUp R.Records V.version self.old.node (λ h node. LeavesOnly R.moment R.opened_since (records_in self.old.node) (records_in self.new.node) (HoldsAll node.met)) }
 
-        // What a node that is up keeps is of the journal's format.
-        ensures formed { R.is_told ≡ true → result ≡ Err Unformed → AtEachUp R.Records V.version self.old.node (λ h node. ⊥) }
+        // What logs keep is of the journal's format where nothing is staged.
+        ensures formed { result ≢ Err Unformed }
 
         ensures owed { IfErr result (λ refused. OwesNothing refused) }
 

@@ -13,7 +13,6 @@ pub enum UpFault {
     Cut(Cut),
     /// The step's record was not kept, or the log not compacted, for another cause, and nothing of the step was given out.
     Log(LogFault),
-    /// What the step staged, or what the log keeps, is not of the journal's format, so nothing of it is on the log, and nothing was
-    /// given out.
+    /// What the step staged is not of the journal's format, so nothing of it is on the log, and nothing was given out.
     Unformed,
 }

@@ -1,17 +1,14 @@
-//! The logs of a voter over their records: opened, flushed, compacted.
+//! The logs of a voter over their records: opened and flushed.
 
-ghost use Rattle.std.specs.Prelude.{◌≡◌, ◌⊎◌, ◌+◌, ◌<◌, ◌≤◌, ◌^◌, ◌∷◌, [], ℕ, List, All, length, None, true, false, IsOk, IfOk, IfErr, OnOk, OnErr, MatchResult};
+ghost use Rattle.std.specs.Prelude.{◌≡◌, ◌⊎◌, ◌+◌, ◌<◌, ◌≤◌, [], ℕ, List, All, length, None, true, false, IsOk, IfOk, IfErr, OnOk, OnErr, MatchResult};
 ghost use Rattle.mega_disk.specs.Fuse.{LowersBy, Unset, after_append, is_short, keeps_record, set_to};
 ghost use Rattle.mega_disk.specs.Images.{LeavesOnly, SameImages};
-ghost use Rattle.mega_wal.specs.Compaction.{IsOfFormat, compacted_text};
+ghost use Rattle.mega_wal.specs.Compaction.{IsOfFormat};
 ghost use Rattle.mega_wal.specs.Items.{IsItem, record_text};
-ghost use Rattle.mega_wal.specs.Kept.{Represents};
-ghost use Rattle.mega_wal.specs.Records.{first_bad, flushed, history_of};
-ghost use Rattle.mega_rules.specs.Clock.{start_of};
+ghost use Rattle.mega_wal.specs.Records.{first_bad, flushed};
 ghost use Rattle.mega_rules.specs.Met.{Met};
 ghost use Rattle.mega_voter.specs.Used.{LogUsed, SameStore, failed_by};
 ghost use Rattle.mega_voter.specs.Holding.{GoesOn, HoldsIf, HoldsMet, Recalls, starts_after};
-ghost use Rattle.mega_voter.specs.Telling.{Tells};
 
 use crate::voter::Voter;
 use mega_disk::Records;
@@ -87,30 +84,6 @@ impl<R: Records> Voter<R> {
         ensures { result ≡ R.count_of self.now.logs.records }
     {
         self.logs.records()
-    }
-
-    /// Puts one record that says the same in place of all, where these are due for it and nothing is staged. Where it would
-    /// have 2^32 bytes or more they stay, and the call is Ok.
-    #[tactic(auto, using(crate::proofs::Holding::holds_replaced, crate::proofs::Holding::leaves_replaced))]
-    pub fn compact(&mut self, alloc: Global) -> Result<(), LogFault>
-        requires due { R.is_due self.old.logs.records ≡ true }
-        requires flushed { self.old.logs.staged.items ≡ [] }
-        requires format { IsOfFormat self.old.logs.kept }
-        ensures kept { self.new.logs.kept ≡ self.old.logs.kept }
-        ensures staged { self.new.logs.staged.items ≡ [] }
-        ensures holds { R.is_told ≡ true → OnOk result ((met : List Met) → Tells self.old.logs.kept met → HoldsMet (R.list self.old.logs.records) (start_of met) met → length (compacted_text self.old.logs.kept) < 2 ^ 32 → first_bad (compacted_text self.old.logs.kept ∷ []) ≡ None → HoldsMet (R.list self.new.logs.records) (start_of met) met) }
-        ensures long { 2 ^ 32 ≤ length (compacted_text self.old.logs.kept) → (self.new.logs.records ≡ self.old.logs.records) × (IsOk result ⊎ (result ≡ Err LogFault.NoMemory)) }
-
-        // A crash at any moment leaves the records from before, or the one record.
-        ensures any_moment { R.is_told ≡ true → R.is_spent self.old.logs.records ≡ false → Represents self.old.logs.kept (history_of (compacted_text self.old.logs.kept ∷ [])) → (met : List Met) → Tells self.old.logs.kept met → HoldsMet (R.list self.old.logs.records) (start_of met) met →
-            first_bad (compacted_text self.old.logs.kept ∷ []) ≡ None → LeavesOnly R.moment R.opened_since self.old.logs.records self.new.logs.records (λ found. HoldsMet found (start_of met) met) }
-
-        ensures counted { OnOk result (length (compacted_text self.old.logs.kept) < 2 ^ 32 → R.count_of self.new.logs.records ≡ 1) }
-        ensures not_counted { OnErr result (R.count_of self.new.logs.records ≡ R.count_of self.old.logs.records) }
-        ensures still_open { OnOk result (R.is_spent self.new.logs.records ≡ R.is_spent self.old.logs.records) }
-        ensures used { LogUsed R.Records (R.length_replaced self.old.logs.records (length (compacted_text self.old.logs.kept))) (failed_by result) self.old.logs.records self.new.logs.records }
-    {
-        self.logs.compact(alloc)
     }
 
     /// Sets a fuse on the device below the records.

@@ -374,8 +374,3 @@ compacted_represents kept items is ordered = record {
     slots : (g : GroupId) (n : ℕ) → slot_at kept.groups g n ≡ slot_of (reverse (compacted kept)) g n
     slots g n = sym (view_all (slot_step g n) (λ xs. slot_of xs g n) (slot_view g n) (compacted kept)
         ∙ (all_slots g n kept ordered ∙ (ap refill (is.groups.slots g n) ∙ (refilled items g n ∙ sym (is.groups.slots g n)))))
-
-pub compacted_same : (kept : Kept) → IsOfFormat kept → IsOrderedKept kept → length (compacted_text kept) < 2 ^ 32 → Represents kept (history_of (compacted_text kept ∷ []))
-compacted_same kept format ordered short =
-    let fewer = long_record (compacted kept) in
-    subst (λ xs. Represents kept (reverse xs)) (sym (items_read (compacted kept) (compacted_fits kept format ordered) (omega arith))) (compacted_represents kept format.items format.represents ordered)

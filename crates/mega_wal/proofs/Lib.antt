@@ -11,5 +11,7 @@ pub mod Fitting
 pub mod Compacted
 pub mod Decided
 pub mod Formats
+pub mod Certain
 pub mod Summed
 pub mod Spelled
+pub mod Counted

@@ -59,6 +59,10 @@ pub record IsOfFormat (kept : Kept) : Type 0 where
   pub represents : Represents kept items
   pub each : All IsItem items
 
+-- it is of the format where what is staged is, by a history that is left open
+pub record IsFormed (staged : List JournalItem) (kept : Kept) : Type 0 where
+  pub known : ∥ (All IsItem staged → IsOfFormat kept) ∥₁
+
 -- the maps are in the order of their keys
 abbrev pub IsOrderedLog : Log → Type 0
 IsOrderedLog log = IsStrictlySortedBy nat_cmp (keys_of log.slots.entries)

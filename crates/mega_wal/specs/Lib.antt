@@ -8,4 +8,5 @@ pub mod Kept
 pub mod Records
 pub mod Compaction
 pub mod Spelling
+pub mod Counting
 pub use Rattle.mega_acceptor.specs as of_acceptor

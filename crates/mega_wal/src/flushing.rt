@@ -1,31 +1,33 @@
 //! Makes one record of what is staged, or of all that is kept.
-ghost use Rattle.std.specs.Prelude.{◌≡◌, ◌⊎◌, ◌+◌, ◌<◌, ◌≤◌, ◌^◌, ◌++◌, ◌∷◌, [], true, false, All, length, reverse, Err, IsOk, IfOk, OnOk, OnErr};
+ghost use Rattle.std.specs.Prelude.{◌≡◌, ◌⊎◌, ◌+◌, ◌<◌, ◌≤◌, ◌^◌, ◌++◌, ◌∷◌, [], List, None, true, false, All, length, reverse, Err, IsOk, IfOk, OnOk, OnErr};
 ghost use Rattle.mega_base.specs.Causes.{Rose};
 ghost use Rattle.mega_disk.specs.Fuse.{Burns, LowersBy, MayBurn, Unset, after_append, appended_by, is_short, set_to};
 ghost use Rattle.mega_disk.specs.Images.{LeavesOnly, SameImages};
 ghost use Rattle.mega_disk.specs.RecordLists.{IsBeforeOrAfter, IsOldOrReplaced};
-ghost use Rattle.mega_wal.specs.Compaction.{IsOfFormat, compacted, compacted_text, if_short};
+ghost use Rattle.mega_wal.specs.declared.item.JournalItem.{JournalItem as Item};
+ghost use Rattle.mega_wal.specs.Compaction.{IsFormed, compacted, compacted_text, if_short};
 ghost use Rattle.mega_wal.specs.Items.{IsItem, record_text};
 ghost use Rattle.mega_wal.specs.Kept.{Represents};
-ghost use Rattle.mega_wal.specs.Records.{flushed, history_of};
+ghost use Rattle.mega_wal.specs.Records.{first_bad, flushed, history_of};
 
 use crate::answers::LogFault;
-use crate::compaction::compacted;
+use crate::counting::count_items;
 use crate::item::JournalItem;
 use crate::kept::Kept;
 use crate::logs::Logs;
+use crate::spelling::spelled;
 use mega_base::{Bytes, Items, NoMemory, put_list};
 use mega_disk::{RecordError, Records};
 use std::alloc::Global;
 
 /// The length in bytes that no record reaches.
-pub(crate) const RECORD_LIMIT: u64 = 1 << 32;
+const RECORD_LIMIT: u64 = 1 << 32;
 
 /// The room that a record gets at first: most are shorter.
 const FIRST_ROOM: usize = 256;
 
 /// The text of a record of these items.
-pub(crate) fn text(alloc: Global, items: &Items<JournalItem>) -> Result<Bytes, NoMemory>
+fn text(alloc: Global, items: &Items<JournalItem>) -> Result<Bytes, NoMemory>
     requires each { All IsItem items.now }
     requires few { length items.now < 2 ^ 32 }
     ensures { IfOk result (λ text. text ≡ record_text items.now) }
@@ -75,11 +77,7 @@ fn append<R: Records>(alloc: Global, records: &mut R, body: &[u8]) -> Result<(),
 }
 
 /// Puts a record in place of all.
-pub(crate) fn replace<R: Records>(
-    alloc: Global,
-    records: &mut R,
-    body: &[u8],
-) -> Result<(), LogFault>
+fn replace<R: Records>(alloc: Global, records: &mut R, body: &[u8]) -> Result<(), LogFault>
     requires short { length body.now < 2 ^ 32 }
     requires due { R.is_due records.old ≡ true }
     ensures replaced { R.is_told ≡ true → OnOk result (R.list records.new ≡ body.now ∷ []) }
@@ -112,17 +110,19 @@ pub(crate) fn replace<R: Records>(
 }
 
 /// The text of a record that says what is kept, where it has fewer than 2^32 bytes.
-#[tactic(auto, using(crate::proofs::Flushed::long_record, crate::proofs::Flushed::is_short, crate::proofs::Flushed::is_long, crate::proofs::Fitting::compacted_fits, crate::proofs::Compacted::compacted_same))]
+#[tactic(auto, using(crate::proofs::Flushed::long_record, crate::proofs::Flushed::is_short, crate::proofs::Flushed::is_long, crate::proofs::Certain::kept_fits, crate::proofs::Summed::summed_same, crate::proofs::Summed::summed_read))]
 fn compacted_text(alloc: Global, kept: &Kept) -> Result<Option<Bytes>, NoMemory>
-    requires { IsOfFormat kept.now }
+    requires { IsFormed [] kept.now }
     ensures text { IfOk result (λ text. text ≡ if_short (compacted_text kept.now)) }
-    ensures same { OnOk result (length (compacted_text kept.now) < 2 ^ 32 → Represents kept.now (history_of (compacted_text kept.now ∷ []))) }
+    ensures same { length (compacted_text kept.now) < 2 ^ 32 → (told : List Item) → Represents kept.now told → Represents kept.now (history_of (compacted_text kept.now ∷ [])) }
+    ensures read { length (compacted_text kept.now) < 2 ^ 32 → first_bad (compacted_text kept.now ∷ []) ≡ None }
+    ensures format { All IsItem (compacted kept.now) }
 {
-    let items = Items::from_vec(compacted(alloc, kept)?);
-    if items.len() as u64 >= RECORD_LIMIT {
+    let count = count_items(kept);
+    if count >= RECORD_LIMIT {
         return Ok(None);
     }
-    let text = text(alloc, &items)?;
+    let text = spelled(alloc, kept, count as u32)?;
     if text.len() as u64 >= RECORD_LIMIT {
         return Ok(None);
     }
@@ -152,7 +152,7 @@ impl<R: Records> Logs<R> {
 
     /// Makes one record of the items that are staged, in their order, and appends it. Where none is staged it appends
     /// nothing.
-    #[tactic(auto, using(crate::proofs::Flushed::short_record, crate::proofs::Flushed::nothing_leaves, crate::proofs::Flushed::nothing_burns, crate::proofs::Flushed::flushed_history))]
+    #[tactic(auto, using(crate::proofs::Flushed::short_record, crate::proofs::Flushed::nothing_leaves, crate::proofs::Flushed::nothing_burns, crate::proofs::Flushed::flushed_history, crate::proofs::Formats::same_formed, crate::proofs::Formats::flushed_formed))]
     pub fn flush(&mut self, alloc: Global) -> Result<(), LogFault>
         requires few { length self.old.staged.items ≤ 1000 }
         requires each { All IsItem self.old.staged.items }
@@ -198,13 +198,15 @@ impl<R: Records> Logs<R> {
 
     /// Puts one record with the same state in place of all records, where these are due for it and nothing is staged. A
     /// record of 2^32 bytes or more is not put there, and the call is Ok.
+    #[tactic(auto, using(crate::proofs::Formats::same_formed))]
     pub fn compact(&mut self, alloc: Global) -> Result<(), LogFault>
         requires due { R.is_due self.old.records ≡ true }
         requires flushed { self.old.staged.items ≡ [] }
-        requires format { IsOfFormat self.old.kept }
         ensures kept { self.new.kept ≡ self.old.kept }
         ensures staged { self.new.staged.items ≡ [] }
-        ensures same { OnOk result (length (compacted_text self.old.kept) < 2 ^ 32 → Represents self.old.kept (history_of (compacted_text self.old.kept ∷ []))) }
+        ensures same { length (compacted_text self.old.kept) < 2 ^ 32 → (told : List Item) → Represents self.old.kept told → Represents self.old.kept (history_of (compacted_text self.old.kept ∷ [])) }
+        ensures read { length (compacted_text self.old.kept) < 2 ^ 32 → first_bad (compacted_text self.old.kept ∷ []) ≡ None }
+        ensures format { All IsItem (compacted self.old.kept) }
         ensures long { 2 ^ 32 ≤ length (compacted_text self.old.kept) → (self.new.records ≡ self.old.records) × (IsOk result ⊎ (result ≡ Err LogFault.NoMemory)) }
         ensures replaced { R.is_told ≡ true → OnOk result (length (compacted_text self.old.kept) < 2 ^ 32 → R.list self.new.records ≡ compacted_text self.old.kept ∷ []) }
         ensures any_moment { R.is_told ≡ true → R.is_spent self.old.records ≡ false → LeavesOnly R.moment R.opened_since self.old.records self.new.records (IsOldOrReplaced (R.list self.old.records) (compacted_text self.old.kept)) }

@@ -4,7 +4,7 @@
 
 mod answers;
 mod beside;
-mod compaction;
+mod counting;
 mod flushing;
 mod groups;
 mod item;
@@ -14,7 +14,6 @@ pub mod laws;
 mod logs;
 mod opening;
 mod spelling;
-mod summing;
 
 pub use answers::{LogFault, Promised, Voted};
 pub use item::JournalItem;

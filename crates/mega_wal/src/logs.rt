@@ -3,7 +3,7 @@ ghost use Rattle.std.specs.Prelude.{◌≡◌, ◌≤◌, ◌<◌, ◌++◌, ◌
 ghost use Rattle.mega_wal.specs.declared.item.JournalItem.{JournalItem as Item};
 ghost use Rattle.mega_wal.specs.Acceptor.{accept_answer, best, promise_answer, shown};
 ghost use Rattle.mega_wal.specs.History.{AreDecided, acts_of, by_accept, by_decide, by_promise, decided_of, granted_of, newest_of, prefix_of, starts_of, top_of};
-ghost use Rattle.mega_wal.specs.Compaction.{IsOfFormat};
+ghost use Rattle.mega_wal.specs.Compaction.{IsFormed, IsOfFormat};
 ghost use Rattle.mega_wal.specs.Items.{IsItem};
 ghost use Rattle.mega_wal.specs.Kept.{Represents};
 
@@ -19,16 +19,18 @@ use mega_disk::Records;
 use std::alloc::Global;
 
 /// The logs of a voter, over a list of records. A call notes its change in memory and stages an item of the journal;
-/// `flush` makes one record of what is staged. After any fault the logs are to be opened anew.
+/// `flush` makes one record of what is staged. After any fault the logs are to be opened anew. What they keep is of the format
+/// where what is staged is.
 #[derive(Drop)]
 pub struct Logs<R: Records> {
     pub(crate) records: R,
     pub(crate) kept: Kept,
     pub(crate) staged: Vec<JournalItem>,
+    ghost formed: { IsFormed staged.items kept },
 }
 
 /// Notes an item and stages it. A refusal leaves what is kept and staged.
-#[tactic(auto, using(crate::proofs::Formats::more_of_format, crate::proofs::Formats::still_of_format))]
+#[tactic(auto, using(crate::proofs::Formats::more_of_format, crate::proofs::Formats::still_of_format, crate::proofs::Formats::more_formed, crate::proofs::Formats::still_formed, crate::proofs::Formats::same_formed))]
 pub(crate) fn stage(
     alloc: Global,
     kept: &mut Kept,
@@ -40,6 +42,7 @@ pub(crate) fn stage(
     ensures err { OnErr result ((items : List Item) → Represents kept.old items → Represents kept.new items) }
     ensures left { OnErr result (staged.new.items ≡ staged.old.items) }
     ensures format { IsOfFormat kept.old → IsItem item → IsOfFormat kept.new }
+    ensures formed { IsFormed staged.old.items kept.old → IsFormed staged.new.items kept.new }
 {
     staged.reserve(1)?;
     kept.note(alloc, &item)?;

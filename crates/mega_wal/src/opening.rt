@@ -83,7 +83,7 @@ fn load(alloc: Global, bodies: &[Bytes]) -> Result<Kept, LogFault>
 
 impl<R: Records> Logs<R> {
     /// Opens the logs that a list of records holds. A refusal, `BadRecord` or `NoMemory`, hands the records back.
-    #[tactic(auto, using(crate::proofs::Formats::opened_of_format))]
+    #[tactic(auto, using(crate::proofs::Formats::opened_of_format, crate::proofs::Formats::opened_formed))]
     pub fn open(alloc: Global, records: R) -> Result<Logs<R>, (LogFault, R)>
         ensures state { IfOk result (λ logs. Represents logs.kept (history_of (R.opened records))) }
         ensures format { IfOk result (λ logs. IsOfFormat logs.kept) }

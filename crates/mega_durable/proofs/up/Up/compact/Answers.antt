@@ -25,6 +25,3 @@ returns-in-Ok-clause-cut g c = λ seen h node up. c.in-Ok.ensures.any_moment see
 
 pub returns-in-Err-clause-cut : goal.returns-in-Err-clause-cut
 returns-in-Err-clause-cut g c = λ seen h node up. c.in-Err.ensures.any_moment seen up.ready node.met up.stands.within.tells (up.holds seen)
-
-pub returns-in-Err-clause-formed : goal.returns-in-Err-clause-formed
-returns-in-Err-clause-formed g c = λ seen is h node up. c.in-Err.ensures.formed is node.met up.stands.within.tells (up.holds seen)
