@@ -8,12 +8,10 @@ use Rattle.mega_wal.specs.declared.kept.Kept.{Kept}
 use Rattle.mega_wal.specs.of_acceptor.declared.slot.Slot.{Slot}
 use Rattle.mega_wal.specs.History.{decided_of, prefix_of as kept_prefix}
 use Rattle.mega_wal.specs.Kept.{is_group}
-use Rattle.mega_wal.specs.Same.{same_group}
 use Rattle.mega_wal.proofs.Orders.{is_group_equal}
-use Rattle.mega_wal.proofs.Sames.{same_group_equal}
 use Rattle.mega_replica.specs.Applying.{applied}
 use Rattle.mega_replica.specs.Stored.{entries_from}
-use Rattle.mega_rules.specs.Logs.{groups_of, log_of}
+use Rattle.mega_rules.specs.Logs.{log_of}
 use Rattle.mega_rules.specs.Met.{Met}
 use Rattle.mega_rules.specs.Steps.{onto}
 use Rattle.mega_voter.specs.Journal.{journal_of}
@@ -22,11 +20,9 @@ use Rattle.mega_node_laws.proofs.Applied.{applied_within}
 use Rattle.mega_node_laws.proofs.Logs.{log_is, log_more_after}
 use Rattle.mega_queues.specs.Boxes.{Logs}
 use Rattle.mega_queues.specs.Followed.{Represents}
-use Rattle.mega_rules.proofs.Groups.{has, no_log}
 use Rattle.mega_pumps.specs.declared.digest.Digest.{Digest}
 use Rattle.mega_pumps.specs.Reach.{fronts, through_at}
 use Rattle.mega_pumps.specs.Notes.{HasNoted, IsNoted, Notes}
-use Rattle.mega_pumps.proofs.Caught.{in_front}
 use Rattle.mega_pumps.proofs.Fronts.{take_front}
 
 -- ---- the same is kept of the same logs
@@ -88,27 +84,6 @@ anew_noted kept digest anew = record { noted = λ met tells. notes_are (log_of m
 
 pub follows_noted : (kept : Kept) (met : List Met) (stored : GroupId → ℕ) (digest : Digest) → Tells kept met → Notes (log_of met) stored digest → HasNoted kept digest
 follows_noted kept met stored digest tells is = noted_by kept met digest tells (notes_are (log_of met) stored digest is)
-
--- no more is noted of the groups that were looked at than is applied
-pub none_ahead_more : (log : Logs) (stored through : GroupId → ℕ) (group : GroupId) (groups more : List GroupId) → more ≡ groups ++ group ∷ [] → through group ≤ applied (log group) (stored group)
-    → ((other : GroupId) → has other groups ≡ true → through other ≤ applied (log other) (stored other)) → (other : GroupId) → has other more ≡ true → through other ≤ applied (log other) (stored other)
-none_ahead_more log stored through group groups more grown le before other there = go (same_group group other) refl
-  where
-    go : (t : Bool) → same_group group other ≡ t → through other ≤ applied (log other) (stored other)
-    go true same = subst (λ (one : GroupId). through one ≤ applied (log one) (stored one)) (same_group_equal group other same) le
-    go false apart = before other (in_front groups more group other grown there apart)
-
--- nor of the others, which have no entries
-pub none_ahead : (met : List Met) (stored : GroupId → ℕ) (digest : Digest) → ((other : GroupId) → has other (groups_of met) ≡ true → through_at digest.through other ≤ applied (log_of met other) (stored other))
-    → IsNoted (log_of met) digest → Notes (log_of met) stored digest
-none_ahead met stored digest before is = record { queues = is.queues; within = λ group. go group (has group (groups_of met)) refl }
-  where
-    go : (group : GroupId) (t : Bool) → has group (groups_of met) ≡ t → through_at digest.through group ≤ applied (log_of met group) (stored group)
-    go group true there = before group there
-    go group false none =
-        let size : length (log_of met group) ≡ 0 = ap (λ (entries : List Content). length entries) (no_log met group none) in
-        let le = is.within group in
-        omega (arith, size, le)
 
 -- no more than there is
 pub within_set : (bound was now : GroupId → ℕ) (group : GroupId) (n : ℕ) → n ≤ bound group → ((other : GroupId) → now other ≡ cond (is_group group other) n (was other))

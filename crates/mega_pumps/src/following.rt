@@ -1,5 +1,5 @@
 //! A digest is kept from pick to pick.
-ghost use Rattle.std.specs.Prelude.{◌≡◌, ◌≤◌, ℕ, false, OnOk};
+ghost use Rattle.std.specs.Prelude.{◌≡◌, ◌≤◌, ℕ, OnOk};
 ghost use Rattle.mega_base.specs.declared.names.GroupId.{GroupId as Group};
 ghost use Rattle.mega_queues.specs.Followed.{Represents};
 ghost use Rattle.mega_replica.specs.Following.{Follows, progress_at};
@@ -7,7 +7,7 @@ ghost use Rattle.mega_rules.specs.Logs.{groups_of, log_of, prefix_of};
 ghost use Rattle.mega_rules.specs.Met.{Met};
 ghost use Rattle.mega_voter.specs.Telling.{Tells};
 ghost use Rattle.mega_pumps.specs.Reach.{applied_fronts};
-ghost use Rattle.mega_pumps.specs.Notes.{HasNoted, Notes};
+ghost use Rattle.mega_pumps.specs.Notes.{HasNoted};
 
 use crate::digest::Digest;
 use crate::through::through_of;
@@ -18,39 +18,22 @@ use mega_voter::Voter;
 use std::alloc::Global;
 
 impl Digest {
-    /// Whether more is noted of one of these groups than is applied.
-    fn is_ahead<R: Records, V: Versions>(
-        &self,
-        voter: &Voter<R>,
-        rows: &StoredRows<V>,
-        groups: &[GroupId],
-    ) -> bool
-        ensures { (met : _) (stored : Group → ℕ) → Tells voter.now.logs.kept met → Follows (V.version rows.now.rows) (progress_at rows.now.progress) (log_of met) stored →
-            HasNoted voter.now.logs.kept self.now → groups.now ≡ groups_of met → result ≡ false → Notes (log_of met) stored self.now }
-    {
-        for group in groups {
-            let applied = rows.applied(group, &voter.logs).0;
-            if applied < through_of(&self.through, group) {
-                return true;
-            }
-        }
-        false
-    }
-
-    /// Begins anew where more is noted than is applied, which no node comes to: what its rows stored stays.
-    fn begin_if_ahead<R: Records, V: Versions>(
+    /// Begins anew, where more is noted than is applied, which no node comes to: what its rows stored stays.
+    fn begin_anew<R: Records, V: Versions>(
         &mut self,
         alloc: Global,
         voter: &Voter<R>,
         rows: &StoredRows<V>,
         groups: &[GroupId],
-    )
-        ensures { (met : _) (stored : Group → ℕ) → Tells voter.now.logs.kept met → Follows (V.version rows.now.rows) (progress_at rows.now.progress) (log_of met) stored →
-            HasNoted voter.now.logs.kept self.old → groups.now ≡ groups_of met → Notes (log_of met) stored self.new }
+    ) -> Result<(), NoMemory>
+        ensures noted { OnOk result ((met : _) (stored : Group → ℕ) → Tells voter.now.logs.kept met → Follows (V.version rows.now.rows) (progress_at rows.now.progress) (log_of met) stored →
+            HasNoted voter.now.logs.kept self.new) }
+        ensures applied { OnOk result ((met : _) (stored : Group → ℕ) → Tells voter.now.logs.kept met → Follows (V.version rows.now.rows) (progress_at rows.now.progress) (log_of met) stored →
+            groups.now ≡ groups_of met → Represents (applied_fronts (log_of met) stored) self.new.queues) }
     {
-        if self.is_ahead(voter, rows, groups) {
-            *self = Digest::new(alloc);
-        }
+        *self = Digest::new(alloc);
+        self.catch_up(alloc, voter, rows, groups)?;
+        Ok(())
     }
 
     /// Notes what was applied since the last pick, where these are the groups with a decided position. After a refusal, which
@@ -67,8 +50,14 @@ impl Digest {
         ensures applied { OnOk result ((met : _) (stored : Group → ℕ) → Tells voter.now.logs.kept met → Follows (V.version rows.now.rows) (progress_at rows.now.progress) (log_of met) stored →
             HasNoted voter.now.logs.kept self.old → groups.now ≡ groups_of met → Represents (applied_fronts (log_of met) stored) self.new.queues) }
     {
-        self.begin_if_ahead(alloc, voter, rows, groups);
-        self.catch_up(alloc, voter, rows, groups)?;
+        for group in groups {
+            let applied = rows.applied(group, &voter.logs).0;
+            if applied < through_of(&self.through, group) {
+                self.begin_anew(alloc, voter, rows, groups)?;
+                return Ok(());
+            }
+            self.catch_up_in(alloc, voter, group, applied)?;
+        }
         Ok(())
     }
 
