@@ -50,3 +50,6 @@ returns-clause-applied g c = λ met stored tells follows kept is.
     let so = c.loop-group.invariant met stored tells follows kept in
     let all : take at groups ≡ groups_of met = take_all at groups (omega (arith, test)) ∙ is in
     all_noted met stored (through_at c.loop-group.self.through) c.loop-group.self.queues (λ other there. so.1 other (ap (has other) all ∙ there)) so.0.queues
+
+pub returns-then-applied-through_of-clause-noted : goal.returns-then-applied-through_of-clause-noted
+returns-then-applied-through_of-clause-noted g c = λ met stored tells follows kept is. c.in_ok-begin_anew.ensures.noted met stored tells follows
