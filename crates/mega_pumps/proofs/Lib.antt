@@ -4,4 +4,5 @@ mod Noted
 mod Caught
 mod Marked
 mod Entered
+mod Unentered
 pub mod Lasting

@@ -11,6 +11,9 @@ returns-then-through_of-through g c = λ met tells kept within.
     c.is_entered.ensures (fronts (log_of met) (through_at c.args.self.now.through)) (kept.noted met tells).queues
     ∙ ap (λ n. is_named c.args.name.now (names_entered (take n (log_of met group)))) (sym c.through_of.ensures ∙ c.if-through_of-through.true)
 
+pub returns-then-is_unentered : goal.returns-then-is_unentered
+returns-then-is_unentered g c = λ met tells kept within. sym (c.is_unentered.ensures c.if-is_unentered.true (log_of met) (kept.noted met tells).queues)
+
 pub returns : goal.returns
 returns g c = λ met tells kept within.
     c.is_entered-2.ensures ∙ ap (λ (mail : Mail). mail.entered c.args.name.now) (c.in_ok-mailbox.ensures met tells within)
