@@ -2,5 +2,4 @@ pub mod Failing
 pub mod Replied
 pub mod Leasing
 pub mod Plain
-mod Rested
 pub mod Deciding
