@@ -20,7 +20,7 @@ fn device_stop(error: RecordError) -> Stop
 {
     match error {
         RecordError::DiskFault => Stop::Device,
-        _ => Stop::NoMemory,
+        RecordError::Full { .. } | RecordError::Spent | RecordError::NoMemory => Stop::NoMemory,
     }
 }
 
@@ -31,7 +31,9 @@ fn logs_stop(fault: LogFault) -> Stop
 {
     match fault {
         LogFault::BadRecord { number } => Stop::BadRecord { number },
-        _ => Stop::NoMemory,
+        LogFault::DiskFault | LogFault::Full { .. } | LogFault::Spent | LogFault::NoMemory => {
+            Stop::NoMemory
+        }
     }
 }
 

@@ -87,7 +87,11 @@ fn items_stop(fault: NodeFault) -> Stop
 {
     match fault {
         NodeFault::Unformed => Stop::Unformed,
-        _ => Stop::NoMemory,
+        NodeFault::DiskFault
+        | NodeFault::Full { .. }
+        | NodeFault::BadRecord { .. }
+        | NodeFault::Spent
+        | NodeFault::NoMemory => Stop::NoMemory,
     }
 }
 
