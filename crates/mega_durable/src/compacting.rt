@@ -71,10 +71,7 @@ fn compacted<R: Records>(alloc: Global, logs: &mut Logs<R>) -> Result<(), UpFaul
     if !is_to_compact(logs) {
         return Ok(());
     }
-    match summed(alloc, logs) {
-        Ok(()) => Ok(()),
-        Err(fault) => Err(fault),
-    }
+    summed(alloc, logs)
 }
 
 impl<R: Records, V: Versions> Up<R, V> {

@@ -117,10 +117,7 @@ pub(crate) fn spilled<R: Records, V: Versions>(
     if !is_to_spill(rows) {
         return Ok(());
     }
-    match spill_all(alloc, voter, rows) {
-        Ok(()) => Ok(()),
-        Err(error) => Err(error),
-    }
+    spill_all(alloc, voter, rows)
 }
 
 /// Why rows were not spilled, as the fault of a step.
