@@ -69,10 +69,7 @@ fn opened(alloc: Global, remains: Remains) -> Result<Down<MemRecords, VersionedR
 {
     match remains {
         Remains::InMemory(down) => Ok(down),
-        Remains::OnDisk(records) => match anew(alloc, records) {
-            Ok(down) => Ok(down),
-            Err(refused) => Err(refused),
-        },
+        Remains::OnDisk(records) => anew(alloc, records),
     }
 }
 
@@ -134,10 +131,7 @@ impl Fallen {
             owed,
         } = self;
         match opened(alloc, remains) {
-            Ok(down) => match started(alloc, cluster, me, down, fuse, owed) {
-                Ok(begun) => Ok(begun),
-                Err(refused) => Err(refused),
-            },
+            Ok(down) => started(alloc, cluster, me, down, fuse, owed),
             Err(_refused) => Err(NotBegun::NoMemory),
         }
     }

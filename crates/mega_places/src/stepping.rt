@@ -79,10 +79,7 @@ pub fn step_at<H: QueueHandlers>(
     match &mut places[usize::from(me) - 1] {
         Place::Up(member) => {
             let made = member.step(alloc, handlers, event);
-            match settled(alloc, places, me, made) {
-                Ok(one) => Ok(one),
-                Err(fault) => Err(fault),
-            }
+            settled(alloc, places, me, made)
         }
         Place::Down(_) => unreachable!(),
     }
