@@ -85,9 +85,7 @@ impl World {
         let mut added = Tape {
             items: Items::new(alloc),
         };
-        match self.happen(alloc, handlers, event, &mut added) {
-            Ok(()) => Ok(added),
-            Err(fault) => Err(fault),
-        }
+        self.happen(alloc, handlers, event, &mut added)?;
+        Ok(added)
     }
 }
