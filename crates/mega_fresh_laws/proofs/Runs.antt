@@ -401,7 +401,7 @@ module _ (Far : List Item → OpId → GroupId → ℕ → Type 0) (enough : Suf
       steps_far = record {
         items = sends_far c usage tape count made.sends second second_within far.sends second_far;
         opens = by_node (λ v x. Each (OpenAt c third) x.open_operations) now.node me made.node
-            (each_zip (PhaseAt c tape) (λ x. Said now.tape made.sends x.id (group_in x.phase)) (OpenAt c third) (λ x k says. record {
+            (each_zip (PhaseAt c tape) (λ (x : Operation). Said now.tape made.sends x.id (group_in x.phase)) (OpenAt c third) (λ x k says. record {
               far = phase_on Far enough c x.id tape third (third_within x.id).onward x.request x.phase ((third_within x.id).keeps (group_in x.phase)) k;
               spoken = said_spoken now.tape second x.id (group_in x.phase) count made.sends now_second says;
             }) (made.node).open_operations far.opens said)

@@ -5,7 +5,7 @@ use Rattle.std.proofs.lemmas.Bool.{and_from, and_parts, or_left, or_right}
 use Rattle.std.proofs.lemmas.Bool.Decides.{nat_tests}
 use Rattle.std.proofs.lemmas.Option.{same_Some}
 use Rattle.std.specs.List.{list_any}
-use Rattle.std.specs.Prelude.{is_some}
+use Rattle.std.specs.Prelude.{option_map}
 use Rattle.std.specs.Result.{is_ok}
 use Rattle.mega_base.specs.declared.names.Epoch.{Epoch}
 use Rattle.mega_base.specs.declared.names.GroupId.{GroupId}
@@ -18,7 +18,6 @@ use Rattle.mega_entry.specs.declared.content.Content.{Content}
 use Rattle.mega_entry.specs.declared.content.Enter.{Enter}
 use Rattle.mega_handler.specs.Named.{has}
 use Rattle.mega_outcome.specs.declared.answer.Answer.{Answer}
-use Rattle.mega_outcome.specs.declared.answer.Answer.TheVariants.{Worn}
 use Rattle.mega_outcome.specs.declared.answer.Done.{Done}
 use Rattle.mega_outcome.specs.declared.answer.Turn.{Turn as Turned}
 use Rattle.mega_outcome.specs.declared.request.FindRequest.{FindRequest}
@@ -34,28 +33,28 @@ use Rattle.mega_wal.specs.Same.{same_group, same_op}
 use Rattle.mega_wal.proofs.Sames.{same_group_equal, same_group_self, same_op_self}
 use Rattle.mega_leased_laws.specs.of_settled_laws.of_run_laws.of_tape_laws.of_promises.of_transcript.declared.item.Item.{Item}
 use Rattle.mega_leased_laws.specs.of_settled_laws.of_run_laws.of_tape_laws.of_promises.of_transcript.declared.item.Item.TheVariants.{Sent}
-use Rattle.mega_leased_laws.specs.of_settled_laws.of_run_laws.of_tape_laws.of_promises.of_rules.of_read.of_propose.Rounds.{asks}
+use Rattle.mega_leased_laws.specs.of_settled_laws.of_run_laws.of_tape_laws.of_promises.of_rules.of_read.of_propose.Rounds.{asks, next_ballot, prepare_to}
+use Rattle.mega_leased_laws.specs.of_settled_laws.of_run_laws.of_tape_laws.of_promises.of_rules.of_read.of_propose.declared.round.Round.TheVariants.{Waiting}
 use Rattle.mega_leased_laws.specs.of_settled_laws.of_run_laws.of_tape_laws.of_promises.of_rules.of_read.declared.reading.Move.{Move as ReadMove}
 use Rattle.mega_leased_laws.specs.of_settled_laws.of_run_laws.of_tape_laws.of_promises.of_rules.of_read.declared.reading.Reading.{Reading}
 use Rattle.mega_leased_laws.specs.of_settled_laws.of_run_laws.of_tape_laws.of_promises.of_rules.of_read.declared.reading.Search.{Search}
 use Rattle.mega_leased_laws.specs.of_settled_laws.of_run_laws.of_tape_laws.of_promises.of_rules.of_read.declared.reading.Search.TheVariants.{Fetching}
 use Rattle.mega_leased_laws.specs.of_settled_laws.of_run_laws.of_tape_laws.of_promises.of_rules.of_read.declared.reading.Stage.{Stage}
 use Rattle.mega_leased_laws.specs.of_settled_laws.of_run_laws.of_tape_laws.of_promises.of_rules.of_read.declared.reading.Stage.TheVariants.{Polling, Catching}
-use Rattle.mega_leased_laws.specs.of_settled_laws.of_run_laws.of_tape_laws.of_promises.of_rules.of_read.Catching.{asked_by, fetch_to, fills, helpers, local_read, move, polled_read, seeks, site, where_to}
+use Rattle.mega_leased_laws.specs.of_settled_laws.of_run_laws.of_tape_laws.of_promises.of_rules.of_read.Catching.{asked_by, fetch_to, fills, helpers, local_read, move, no_op, polled_read, seeks, site, where_to}
 use Rattle.mega_leased_laws.specs.of_settled_laws.of_run_laws.of_tape_laws.of_promises.of_rules.Clock.{clock_of}
 use Rattle.mega_leased_laws.specs.of_settled_laws.of_run_laws.of_tape_laws.of_promises.of_rules.Coordinators.{acquires_at, refused_at, serves_at, valid_at}
 use Rattle.mega_leased_laws.specs.of_settled_laws.of_run_laws.of_tape_laws.of_promises.of_rules.Logs.{decided, decided_from, first_of, groups_of, is_group_before, log_of, prefix_of, then_more, top_of, with_group}
-use Rattle.mega_leased_laws.specs.of_settled_laws.of_run_laws.of_tape_laws.of_promises.of_rules.Members.{full_nodes, is_full, is_node, is_voter, kind_of, nodes, runs, voters, votes}
-use Rattle.mega_leased_laws.specs.of_settled_laws.of_run_laws.of_tape_laws.of_promises.of_rules.Met.{Met, Begins, Decides, Takes, Ticks, Validates}
+use Rattle.mega_leased_laws.specs.of_settled_laws.of_run_laws.of_tape_laws.of_promises.of_rules.Members.{is_full, is_node, is_voter, kind_of, nodes, runs, voters, votes}
+use Rattle.mega_leased_laws.specs.of_settled_laws.of_run_laws.of_tape_laws.of_promises.of_rules.Met.{Met, Begins, Decides, Takes, Ticks}
 use Rattle.mega_leased_laws.specs.of_settled_laws.of_run_laws.of_tape_laws.of_promises.of_rules.Operations.{Node, Now, Operation, Phase, Promised, Proposes, Reads, Replies, Results, Setting}
 use Rattle.mega_leased_laws.specs.of_settled_laws.of_run_laws.of_tape_laws.of_promises.of_rules.Queues.{Log, Posted, enter_entry, has_unhandled, is_named, names_entered, next_to_enter, next_to_handle, oldest_unhandled}
 use Rattle.mega_leased_laws.specs.of_settled_laws.of_run_laws.of_tape_laws.of_promises.of_rules.Replies.{reply_to}
-use Rattle.mega_leased_laws.specs.of_settled_laws.of_run_laws.of_tape_laws.of_promises.of_rules.Acting.{ActsAgain, Next, Rests, acts, applied_in, applied_logs, batch_sealed, begins_read, completes_read, ends, enters, finishes, goes_on, handles, handling, in_phase, is_visited, keeps, leader_after, listed_at, named_leader, picks_group, picks_message, proposes, proposes_by, reader_of, reads_on, rests_within, rows_at, sealed, sends_more, stored_with, table_rows, unless_decided, unless_full, validated_by, visiting}
-use Rattle.mega_leased_laws.specs.of_settled_laws.of_run_laws.of_tape_laws.of_promises.of_rules.Steps.{Begin, Decision, Event, Heard, Take, Tick, acts_first, acts_in_turn, all_act, at_first, at_open, background, begin_step, decision_note, does_due, find_begins, first_settled, hears_message, if_new, is_out, is_worn, lapse_notes, last_answer, lease_notes, local_find_begins, missing_kind, needs_full, new_operation, news, onto, op_of, portion_of, read_begins, refusal, step, stored_after, take_step, taken, tick_step, ticked, told_decision, told_notes, unless_missing, unless_refused}
-use Rattle.mega_leased_laws.specs.of_settled_laws.of_run_laws.of_tape_laws.of_promises.of_rules.Steps.{is_current}
+use Rattle.mega_leased_laws.specs.of_settled_laws.of_run_laws.of_tape_laws.of_promises.of_rules.Acting.{ActsAgain, Next, Rests, acts, applied_in, applied_logs, batch_sealed, begins_read, completes_read, ends, enters, finishes, goes_on, handles, handling, in_phase, is_visited, keeps, leader_after, listed_at, named_leader, picks_group, picks_message, proposes, proposes_by, reader_of, reads_on, rests_within, rows_at, sealed, sends_more, table_rows, unless_decided, unless_full, validated_by, visiting}
+use Rattle.mega_leased_laws.specs.of_settled_laws.of_run_laws.of_tape_laws.of_promises.of_rules.Steps.{Begin, Decision, Event, Heard, Take, Tick, acts_first, acts_in_turn, all_act, at_first, at_open, background, begin_step, decision_note, does_due, find_begins, first_settled, hears_message, if_new, is_current, is_out, is_worn, lapse_notes, last_answer, lease_notes, local_find_begins, missing_kind, needs_full, new_operation, news, onto, op_of, portion_of, read_begins, refusal, step, stored_after, taken, tick_step, ticked, told_decision, told_notes, unless_missing, unless_refused}
 use Rattle.mega_leased_laws.specs.of_settled_laws.of_run_laws.of_tape_laws.Places.{In}
 use Rattle.mega_leased_laws.specs.of_settled_laws.of_run_laws.Justified.{Each, sent}
-use Rattle.mega_leased_laws.proofs.of_settled_laws.of_run_laws.Prefixes.{IsDecided, prefix_decided}
+use Rattle.mega_leased_laws.proofs.of_settled_laws.of_run_laws.Prefixes.{prefix_decided}
 use Rattle.mega_leased_laws.proofs.of_settled_laws.of_run_laws.Turns.{each_on, each_push}
 use Rattle.mega_leased_laws.specs.of_settled_laws.Covering.{Earlier}
 use Rattle.mega_leased_laws.proofs.of_settled_laws.Tapes.{sent_later}
@@ -339,8 +338,8 @@ module _ (s : Setting) (tape : List Item) where
 
   -- ---- it reads
 
-  polls_say : (now : Now) (op : OpId) (group : GroupId) → is_full s.cluster s.me ≡ true → speaks_in op group (map (where_to (reader_of s op group)) (voters s.cluster)) ≡ true
-  polls_say now op group full = speaks_each op group (where_to (reader_of s op group)) (λ n. itself op group) (voters s.cluster) (some_voters s.cluster s.me full)
+  polls_say : (op : OpId) (group : GroupId) → is_full s.cluster s.me ≡ true → speaks_in op group (map (where_to (reader_of s op group)) (voters s.cluster)) ≡ true
+  polls_say op group full = speaks_each op group (where_to (reader_of s op group)) (λ n. itself op group) (voters s.cluster) (some_voters s.cluster s.me full)
 
   -- a local read that seeks an entry
   local_seeks : (op : OpId) (group : GroupId) (asked : List ℕ) (p : ℕ) (least clock : ℕ) → is_full s.cluster s.me ≡ true
@@ -355,7 +354,8 @@ module _ (s : Setting) (tape : List Item) where
       fetched_by (voter ∷ others) = move r (Catching p (Some (Fetching least [] clock))) (map (fetch_to (reader_of s op group) least) (voter ∷ others))
 
       by : (those : List ℕ) → speaks_in op group (fetched_by those).sends ≡ true
-      by [] = speaks_each op group _ (λ n. itself op group) (voters s.cluster) (some_voters s.cluster s.me full)
+      by [] = speaks_each op group (prepare_to (site (reader_of s op group) r.asked least) (next_ballot (site (reader_of s op group) r.asked least) (record { own = no_op (reader_of s op group); seen = 0; round = Waiting })))
+          (λ n. itself op group) (voters s.cluster) (some_voters s.cluster s.me full)
       by (voter ∷ others) = speaks_each op group (fetch_to (reader_of s op group) least) (λ n. itself op group) (voter ∷ others) tt
 
   -- it comes to a group
@@ -364,7 +364,7 @@ module _ (s : Setting) (tape : List Item) where
   begins_read_it most now o group message asked p full other turns = by (is_visited o group) refl (valid_at s.cluster now.met group)
     where
       polls : (noted : Option Epoch) → let read = polled_read (reader_of s o.id group) noted asked (clock_of now.met) in W most (sends_more now read.sends) (visiting o group message read)
-      polls noted = (sends_it now _ p, said_new now.sends _ o.id group (polls_say now o.id group full))
+      polls noted = (sends_it now _ p, said_new now.sends _ o.id group (polls_say o.id group full))
 
       by : (t : Bool) → is_visited o group ≡ t → (u : Bool) → let read = cond {A = ReadMove} t (polled_read (reader_of s o.id group) None asked (clock_of now.met))
           (cond u (local_read asked (top_of now.met group)) (polled_read (reader_of s o.id group) (serves_at s.cluster now.met) asked (clock_of now.met))) in W most (sends_more now read.sends) (visiting o group message read)
@@ -374,10 +374,16 @@ module _ (s : Setting) (tape : List Item) where
 
   -- a group that it picks has entries, or it enters a message in an empty log
   fewer : (most : ℕ) (now : Now) (o : Operation) (group : GroupId) → HasTurns (suc most) now o.visited → In group (groups_of now.met) → is_visited o group ≡ false → HasTurns most now (o.visited ++ group ∷ [])
-  fewer most now o group turns i new = let less = left_less (groups_of now.met) o.visited group i new in omega (arith, turns, less)
+  fewer most now o group turns i new = by (left (groups_of now.met) (o.visited ++ group ∷ [])) (left (groups_of now.met) o.visited) turns (left_less (groups_of now.met) o.visited group i new)
+    where
+      by : (a b : ℕ) → b + 2 ≤ suc most → a + 1 ≤ b → a + 2 ≤ most
+      by a b h k = omega (arith, h, k)
 
   still : (most : ℕ) (now : Now) (visited : List GroupId) → HasTurns (suc most) now visited → 1 ≤ most
-  still most now visited turns = omega (arith, turns)
+  still most now visited turns = by (left (groups_of now.met) visited) turns
+    where
+      by : (a : ℕ) → a + 2 ≤ suc most → 1 ≤ most
+      by a h = omega (arith, h)
 
   picks_message_it : (most : ℕ) (now : Now) (o : Operation) (asked : List ℕ) (one : Option Posted) → P now → is_full s.cluster s.me ≡ true → o.request ≡ PumpEnter → HasTurns (suc most) now o.visited → Leads most (picks_message s now o asked one)
   picks_message_it most now o asked None p full is turns = p
@@ -395,11 +401,7 @@ module _ (s : Setting) (tape : List Item) where
   handled_among : (now : Now) (group : GroupId) → next_to_handle (applied_logs now) ≡ Some group → In group (groups_of now.met)
   handled_among now group h = by (find has_unhandled (applied_logs now)) refl h
     where
-      of_log : Option Log → Option GroupId
-      of_log None = None
-      of_log (Some log) = Some log.group
-
-      by : (o : Option Log) → find has_unhandled (applied_logs now) ≡ o → of_log o ≡ Some group → In group (groups_of now.met)
+      by : (o : Option Log) → find has_unhandled (applied_logs now) ≡ o → option_map (λ (log : Log). log.group) o ≡ Some group → In group (groups_of now.met)
       by None e k = cc
       by (Some log) e k = subst (λ g. In g (groups_of now.met)) (same_Some log.group group k) (among_applied now (groups_of now.met) log (found_in has_unhandled (applied_logs now) log e))
 
@@ -430,29 +432,30 @@ module _ (s : Setting) (tape : List Item) where
       IsKnown now = IsNothing noted → p ≤ prefix_of now.met group
 
       module _ (most : ℕ) (now : Now) (held : P now) (known : IsKnown now) where
-        -- it has said so where it does not go on
-        leads : is_full s.cluster s.me ≡ true → IsNothing noted → leader_after s now group p ≡ None → ⊥
-        leads full nothing none = by p (known nothing) none
+        -- its next position has a leader
+        has_leader : is_full s.cluster s.me ≡ true → IsNothing noted → leader_after s now group p ≡ None → ⊥
+        has_leader full nothing none = by p (known nothing) none
           where
             first : (members : List ℕ) → Any members → slice_get members 0 ≡ None → ⊥
             first [] some k = absurd some
             first (member ∷ members) some k = cc
 
-            named : (d : Option Content) (k : ℕ) (entry : Content) → d ≡ Some entry → named_leader (voters s.cluster) d ≡ None → ⊥
-            named d k entry e h = let is : named_leader (voters s.cluster) (Some entry) ≡ None = subst (λ x. named_leader (voters s.cluster) x ≡ None) e h in cc
+            named : (d : Option Content) (entry : Content) → d ≡ Some entry → named_leader (voters s.cluster) d ≡ None → ⊥
+            named None entry e h = cc
+            named (Some other) entry e h = cc
 
             above : (k : ℕ) → 0 < suc k
             above k = omega arith
 
             by : (k : ℕ) → k ≤ prefix_of now.met group → leader_after s now group k ≡ None → ⊥
             by zero le h = first (voters s.cluster) (some_voters s.cluster s.me full) h
-            by (suc k) le h = let d = prefix_decided now.met group (suc k) (above k) le in named (decided now.met group (suc k)) k d.entry d.is h
+            by (suc k) le h = let d = prefix_decided now.met group (suc k) (above k) le in named (decided now.met group (suc k)) d.entry d.is h
 
         proposed : (request : Request) (own : Content) (promised : Promised) (picked : Option Enter) → Ready (suc most) now request picked → P (proposes s now (one request) group r p own promised)
         proposed request own promised picked ready = by (leader_after s now group p) refl
           where
             stays : leader_after s now group p ≡ None → SaidBy now id group
-            stays e = elim ready.1 [ inl so ↦ so.0 | inr local ↦ absurd (leads ready.0 (local.0).0 e) ]
+            stays e = elim (ready.1) [ inl so ↦ so.0 | inr local ↦ absurd (has_leader ready.0 (local.0).0 e) ]
 
             by : (leader : Option ℕ) → leader_after s now group p ≡ leader → P (proposes_by s now (one request) group r p own promised leader)
             by None e = keeps_it now (one request) held (stays e)
@@ -472,25 +475,27 @@ module _ (s : Setting) (tape : List Item) where
         batch_sealed_it own transactions ready = either (list_any is_ok (batch_outcome (s.cluster).schema own transactions (rows_at now group p)).results) _ _
             (proposed (BatchRequest own transactions) (entry_of_batch id (batch_outcome (s.cluster).schema own transactions (rows_at now group p))) (Results (batch_outcome (s.cluster).schema own transactions (rows_at now group p)).results) message ready) held
 
-        take_none : (k : ℕ) → take k ([] {A = Content}) ≡ []
-        take_none zero = refl
-        take_none (suc k) = refl
+        take_none : (k : ℕ) (log : List Content) → log ≡ [] → take k log ≡ []
+        take_none zero [] e = refl
+        take_none (suc k) [] e = refl
+        take_none zero (entry ∷ log) e = cc
+        take_none (suc k) (entry ∷ log) e = cc
 
         -- one that is to pick a further group has turns for it
         more_turns : (request : Request) (picked : Option Enter) → Ready (suc most) now request picked → (IsLast (suc most) now request picked group → ⊥) → HasTurns (suc most) now visited
-        more_turns request picked ready none = elim ready.1 [
+        more_turns request picked ready none = elim (ready.1) [
           | inl so ↦ so.1
-          | inr local ↦ elim local.1 [ inl turns ↦ turns | inr last ↦ absurd (none last) ]
+          | inr local ↦ elim (local.1) [ inl turns ↦ turns | inr last ↦ absurd (none last) ]
         ]
 
         enters_it : (picked : Option Enter) → Ready (suc most) now PumpEnter picked → Leads most (enters s now (one PumpEnter) group r p picked)
         enters_it None ready = picks_message_it most now (one PumpEnter) (asked_by r) (next_to_enter id (applied_logs now)) held ready.0 refl (more_turns PumpEnter None ready (λ last. (last.1).1))
         enters_it (Some picked) ready = either_so most (is_named picked.name (names_entered (take p (log_of now.met group)))) _ _
-            (λ there. picks_message_it most now (one PumpEnter) (asked_by r) (next_to_enter id (applied_logs now)) held ready.0 refl (more_turns PumpEnter (Some picked) ready (λ last. absurd (nowhere (last.1).0 there))))
+            (λ there. picks_message_it most now (one PumpEnter) (asked_by r) (next_to_enter id (applied_logs now)) held ready.0 refl (more_turns PumpEnter (Some picked) ready (λ last. nowhere (last.1).0 there)))
             (λ new. proposed PumpEnter (enter_entry id picked) (Replies []) (Some picked) ready)
           where
             nowhere : log_of now.met group ≡ [] → is_named picked.name (names_entered (take p (log_of now.met group))) ≡ true → ⊥
-            nowhere empty there = clash true refl (sym there ∙ ap (λ log. is_named picked.name (names_entered log)) (ap (take p) empty ∙ take_none p))
+            nowhere empty there = clash true refl (sym there ∙ ap (λ log. is_named picked.name (names_entered log)) (take_none p (log_of now.met group) empty))
 
         handles_it : (oldest : Option Enter) → Ready (suc most) now PumpHandle message → Leads most (handles s now (one PumpHandle) group r p oldest)
         handles_it None ready = picks_group_it most now (one PumpHandle) (asked_by r) (next_to_handle (applied_logs now)) refl held ready.0 tt (more_turns PumpHandle message ready (λ last. (last.1).1))
@@ -504,17 +509,17 @@ module _ (s : Setting) (tape : List Item) where
         finishes_by (Find request) ready = held
         finishes_by PumpEnter ready = full_by PumpEnter _ (enters_it message ready)
         finishes_by PumpHandle ready = full_by PumpHandle _ (handles_it (oldest_unhandled (take p (log_of now.met group))) ready)
-        finishes_by Refresh ready = keeps_it now (one Refresh) held (elim ready.1 [ inl so ↦ so.0 | inr local ↦ absurd (((local.0).1).1) ])
+        finishes_by Refresh ready = keeps_it now (one Refresh) held (elim (ready.1) [ inl so ↦ so.0 | inr local ↦ absurd (((local.0).1).1) ])
 
     -- a read that is complete
     completes_it : (most : ℕ) (now : Now) (request : Request) (group : GroupId) (noted : Option Epoch) (asked : List ℕ) (p : ℕ) (search : Option Search) → W most now (one group noted asked p search request)
         → W most (completes_read s now group (r group noted asked p search) p) (one group noted asked p search request)
     completes_it most now request group None asked p search w = w
-    completes_it most now request group (Some noted) asked p search w = by (refused_at s.cluster now.met group p noted)
+    completes_it most now request group (Some noted) asked p search w = by _ (refused_at s.cluster now.met group p noted)
       where
-        by : (refusal : Option NotValid) → W most (validated_by (record { met = now.met; stored = _; kept = now.kept; valid = now.valid; answers = now.answers; sends = now.sends }) group p refusal) (one group (Some noted) asked p search request)
-        by (Some why) = w
-        by None = (w.0, ((w.1).0, elim ((w.1).1) [ inl so ↦ inl so | inr local ↦ absurd ((local.0).0) ]))
+        by : (stored : GroupId → ℕ) (refusal : Option NotValid) → W most (validated_by (record { met = now.met; stored = stored; kept = now.kept; valid = now.valid; answers = now.answers; sends = now.sends }) group p refusal) (one group (Some noted) asked p search request)
+        by stored (Some why) = w
+        by stored None = (w.0, ((w.1).0, elim ((w.1).1) [ inl so ↦ inl so | inr local ↦ absurd ((local.0).0) ]))
 
     known_it : (now : Now) (group : GroupId) (noted : Option Epoch) (asked : List ℕ) (p : ℕ) (search : Option Search) → p ≤ prefix_of now.met group → IsKnown group noted asked p search (completes_read s now group (r group noted asked p search) p)
     known_it now group None asked p search le nothing = le
@@ -526,7 +531,7 @@ module _ (s : Setting) (tape : List Item) where
     -- one that seeks an entry says so
     seeks_said : (most : ℕ) (now : Now) (request : Request) (group : GroupId) (noted : Option Epoch) (asked : List ℕ) (p : ℕ) (search : Option Search) (least clock : ℕ) → ReadyAt most now id visited message request group noted (Catching p search)
         → Said tape (now.sends ++ (seeks (reader_of s id group) (r group noted asked p search) least clock).sends) id group
-    seeks_said most now request group noted asked p search least clock ready = elim ready.1 [ inl so ↦ said_more now.sends _ id group so.0 | inr local ↦ by noted search (local.0).0 ((local.0).1).0 ]
+    seeks_said most now request group noted asked p search least clock ready = elim (ready.1) [ inl so ↦ said_more now.sends _ id group so.0 | inr local ↦ by noted search (local.0).0 ((local.0).1).0 ]
       where
         by : (noted : Option Epoch) (search : Option Search) → IsNothing noted → IsNothing search → Said tape (now.sends ++ (seeks (reader_of s id group) (r group noted asked p search) least clock).sends) id group
         by None None one two = said_new now.sends _ id group (local_seeks id group asked p least clock ready.0)
@@ -555,11 +560,14 @@ module _ (s : Setting) (tape : List Item) where
         none : (n : ℕ) → n + 2 ≤ 0 → ⊥
         none n le = omega (arith, le)
 
+        never : 1 ≤ 0 → ⊥
+        never le = omega (arith, le)
+
         by : (noted : Option Epoch) (stage : Stage) → ReadyAt zero now id visited message request group noted stage → SaidBy now id group
         by noted (Polling heard best at) said = said
-        by noted (Catching p search) ready = elim ready.1 [
+        by noted (Catching p search) ready = elim (ready.1) [
           | inl so ↦ so.0
-          | inr local ↦ elim local.1 [ inl turns ↦ absurd (none _ turns) | inr last ↦ absurd (let one = last.0 in omega (arith, one)) ]
+          | inr local ↦ elim (local.1) [ inl turns ↦ absurd (none _ turns) | inr last ↦ absurd (never last.0) ]
         ]
 
   -- ---- until it rests
@@ -570,7 +578,10 @@ module _ (s : Setting) (tape : List Item) where
   rests_within_it (suc most) (ActsAgain now o) w = rests_within_it most (acts s now o) (acts_by o.id o.began o.visited o.message most now o.request o.phase w)
 
   all_turns : (now : Now) (visited : List GroupId) → HasTurns (length (groups_of now.met) + 2) now visited
-  all_turns now visited = let most = left_most (groups_of now.met) visited in omega (arith, most)
+  all_turns now visited = by (left (groups_of now.met) visited) (length (groups_of now.met)) (left_most (groups_of now.met) visited)
+    where
+      by : (a b : ℕ) → a ≤ b → a + 2 ≤ b + 2
+      by a b h = omega (arith, h)
 
   -- one that has spoken goes on
   goes_on_it : (now : Now) (o : Operation) → P now → has_spoken tape o.id (group_in o.phase) ≡ true → FullIn s.cluster s.me o.phase → P (goes_on s now o)

@@ -26,6 +26,7 @@ use Rattle.mega_shown_laws.proofs.of_tape_laws.Answered.{serial}
 use Rattle.mega_shown_laws.proofs.of_tape_laws.IndexLogs.{indexed, rows_fit}
 use Rattle.mega_shown_laws.proofs.of_tape_laws.Sending.{messages}
 use Rattle.mega_fresh_laws.proofs.Fresh.{run_is_fresh}
+use Rattle.mega_fresh_laws.proofs.Picked.{run_picks}
 use Rattle.mega_settled_laws.proofs.Answering.{run_settled}
 use Rattle.mega_shown_laws.specs.of_run_laws.Usages.{Fits, FitsOne, IsMeant}
 use Rattle.mega_shown_laws.proofs.of_run_laws.Events.{each_append}
@@ -115,6 +116,7 @@ replayed c lines events can happen held =
       local = throughout c (ReadsAll c) (λ before. reads_all c before can) events;
       joint = throughout c (HoldsSettled c) (λ before. holds_settled c before can) events;
       fresh = run_is_fresh c (usage c.schema) built_in (in_turn events []) tape can.served.few (cells_few c.cells can.served.cells) run fits;
+      picks = run_picks c (usage c.schema) built_in (in_turn events []) tape can.served.few (cells_few c.cells can.served.cells) run fits;
       settled = run_settled c (usage c.schema) built_in (in_turn events []) tape run fits;
       leased = run_leased c built_in (in_turn events []) tape can.served.few run;
       complete = calm_complete c events can fits;

@@ -32,6 +32,7 @@ use Rattle.mega_shown_laws.specs.of_promises.Runs.{Happening, IsRun, Standing, a
 use Rattle.mega_shown_laws.specs.of_tape_laws.Indexed.{AreRows, IsIndexed}
 use Rattle.mega_settled_laws.specs.Covering.{AreSettled, WasCovered}
 use Rattle.mega_valid_laws.specs.Leases.{AreLeased, HasAtLeast}
+use Rattle.mega_fresh_laws.specs.Picking.{ArePicksFresh}
 use Rattle.mega_world.specs.declared.world.World.{World}
 use Rattle.mega_world.specs.AtRun.{IsAt}
 use Rattle.mega_line_laws.specs.Clusters.{CanStart}
@@ -88,7 +89,8 @@ IsTold schema items = (others : List Item) → All (IsPlain schema) others → l
 -- are entered and handled at most once, in order; each answer has its cause on the tape before it; what stands in a log under keys that are no row keys is what the local indexes have over the
 -- tables' rows, each of which fits and stands under its own key; behind each line local reads read through all that is decided, and a node where a group is valid has what was settled of it, while leases are
 -- safe; as long as leases are safe by its end, what a current read, a find, a transaction or a batch comes to holds all that was decided before it began, and what
--- an operation proposes that polled stands above all that was decided before it asked, whether leases are safe or not; what is decided, committed or answered of a
+-- an operation proposes that polled stands above all that was decided before it asked, whether leases are safe or not; what an operation proposes stands above all that
+-- was decided of the group before it first spoke of this; what is decided, committed or answered of a
 -- batch stands behind what settled its entry; leases are as the rules have them; where it leaves the cluster calm, what begins next is answered; and each item is read
 -- back from its line, so that the text of the tape tells it
 pub record Replayed (c : Cluster) (lines : List (List ℕ)) (events : List Happening) : Type 0 where
@@ -104,6 +106,7 @@ pub record Replayed (c : Cluster) (lines : List (List ℕ)) (events : List Happe
   pub local : Throughout (ReadsAll c) c events
   pub joint : Throughout (HoldsSettled c) c events
   pub fresh : IsFresh c (meaning_in c.schema) (stood c events).tape
+  pub picks : ArePicksFresh (stood c events).tape
   pub settled : AreSettled c (stood c events).tape
   pub leased : AreLeased c (stood c events).tape
   pub complete : IsCalmComplete c built_in by_fuse (stood c events)
