@@ -22,5 +22,6 @@ pub mod Covered
 pub mod Promised
 pub mod Polled
 pub mod Picked
+pub mod Missed
 pub mod Fresh
 pub use Rattle.mega_leased_laws.proofs as of_leased_laws
