@@ -140,16 +140,11 @@ pub fn goes<R: Records, V: Versions>(
     work: &mut Work,
     reached: CompleteRead,
 ) -> Result<(), ActFault>
-    ensures state { OnOk result ((me : _) (h : Meanings) (leases : LeasesKept) (now after : Now) → V.is_told ≡ true → IsOf reached.kept.request reached.group →
+    ensures rests { OnOk result ((me : _) (h : Meanings) (leases : LeasesKept) (now : Now) → V.is_told ≡ true → IsOf reached.kept.request reached.group →
         reached.position ≤ applied (log_of now.met reached.group) (now.stored reached.group) → clock ≡ clock_of now.met →
         RepresentsNow V.version (setting members.now me h) voter.now leases rows.old now →
-        finishes (setting members.now me h) now (operation_of reached) reached.group reached.reading reached.position ≡ Rests after →
-        RepresentsNow V.version (setting members.now me h) voter.now leases rows.new after) }
-    ensures work { OnOk result ((me : _) (h : Meanings) (leases : LeasesKept) (now after : Now) → V.is_told ≡ true → IsOf reached.kept.request reached.group →
-        reached.position ≤ applied (log_of now.met reached.group) (now.stored reached.group) → clock ≡ clock_of now.met →
-        RepresentsNow V.version (setting members.now me h) voter.now leases rows.old now →
-        finishes (setting members.now me h) now (operation_of reached) reached.group reached.reading reached.position ≡ Rests after →
-        work.old ≡ work_of now → work.new ≡ work_of after) }
+        (after : Now) × (finishes (setting members.now me h) now (operation_of reached) reached.group reached.reading reached.position ≡ Rests after) ×
+        (RepresentsNow V.version (setting members.now me h) voter.now leases rows.new after) × (work.old ≡ work_of now → work.new ≡ work_of after)) }
     ensures used { StoreUsed V.Versions (failed_by result) rows.old.rows rows.new.rows }
     ensures unserved { result ≡ Err Unserved → is_plain reached.kept.request ≡ false }
 {
