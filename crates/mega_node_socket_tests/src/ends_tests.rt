@@ -59,10 +59,9 @@ fn a_log_device_that_fails_ends_the_call(rt: HostRuntime) {
 fn a_record_of_no_format_ends_the_call(rt: HostRuntime) {
     let alloc = rt.alloc();
     let mut devices = empty(alloc);
-    let bad = [1, 0, 0, 0, 1, 255, 0];
     devices
         .log
-        .write(0, bad.as_slice())
+        .write(0, &[1, 0, 0, 0, 1, 255, 0])
         .expect(&rt, "not written");
     check(&rt, alloc, samples::THREE, devices, 16, "");
 }

@@ -116,6 +116,14 @@ fn records_of(rt: &impl Abort, mut records: MemRecords) -> Vec<Bytes> {
     records.take_opened()
 }
 
+/// The ballot that a voter shows, or zero.
+fn shown(voted: &Voted) -> Ballot {
+    match voted {
+        Voted::Shown(ballot) => *ballot,
+        _ => Ballot::ZERO,
+    }
+}
+
 /// The node that leads the next position by the other entry that a voter tells, or 0.
 fn other_leader(voted: &Voted) -> u8 {
     match voted {
@@ -133,10 +141,8 @@ fn a_promise_stands_over_a_reopening(rt: HostRuntime) {
     assert!(rt; matches!(promised, Promised::Yes(None)));
     let mut logs = reopened(&rt, alloc, logs);
     let entry = empty_entry(&rt, alloc, 1);
-    match vote(&rt, alloc, &mut logs, &group, Ballot::ZERO, entry) {
-        Voted::Shown(shown) => assert_eq!(rt; shown, FIRST),
-        _ => assert!(rt; false),
-    }
+    let voted = vote(&rt, alloc, &mut logs, &group, Ballot::ZERO, entry);
+    assert_eq!(rt; shown(&voted), FIRST);
 }
 
 #[test]
