@@ -5,14 +5,13 @@ use Rattle.mega_base.specs.declared.names.GroupId.{GroupId}
 use Rattle.mega_base.specs.declared.names.OpId.{OpId}
 use Rattle.mega_entry.specs.declared.content.Enter.{Enter}
 use Rattle.mega_outcome.specs.declared.answer.Answer.TheVariants.{LogFull}
-use Rattle.mega_outcome.specs.Outcome.{batch_outcome, outcome}
 use Rattle.mega_outcome.specs.declared.request.Request.{Request}
 use Rattle.mega_outcome.specs.declared.request.Request.TheVariants.{Txn, Batch, Read, Find, PumpEnter, PumpHandle, Refresh}
 use Rattle.mega_read.specs.declared.reading.Reading.{Reading}
 use Rattle.mega_pumps.specs.declared.picking.Picked.{Picked}
 use Rattle.mega_pumps.specs.Owns.{picks_by}
 use Rattle.mega_pumps.specs.Picks.{picked_group, picked_message, serves}
-use Rattle.mega_rules.specs.Acting.{Rests, applied_logs, batch_sealed, ends, enters, finishes, handles, picks_group, picks_message, rests_within, rows_at, sealed}
+use Rattle.mega_rules.specs.Acting.{Rests, applied_logs, ends, enters, finishes, handles, picks_group, picks_message, rests_within}
 use Rattle.mega_rules.specs.Logs.{log_of, groups_of}
 use Rattle.mega_rules.specs.Operations.{Now, Operation, Phase, Proposes, Reads, Setting}
 use Rattle.mega_rules.specs.Queues.{Posted, next_to_enter, next_to_handle, oldest_unhandled}
@@ -113,21 +112,6 @@ module _ (s : Setting) (now : Now) (group : GroupId) (r : Reading) (p : ℕ) (id
   handles_room PumpEnter pump entering room = absurd (cc)
   handles_room PumpHandle pump entering room = ap (λ (t : Bool). if t then Rests (ends now id (LogFull (record { 0 = p }))) else handles s now (one PumpHandle) group r p (oldest_unhandled (take p (log_of now.met group)))) room
   handles_room Refresh pump entering room = absurd (cc)
-
-  -- an operation that is no pump rests
-  rests_if : (t : Bool) (full rest : Now) → (if t then Rests full else Rests rest) ≡ Rests (rests_within 0 s (if t then Rests full else Rests rest))
-  rests_if true full rest = refl
-  rests_if false full rest = refl
-
-  pub rests_alone : (request : Request) → is_pump request ≡ false → finishes s now (one request) group r p ≡ Rests (rests_within 0 s (finishes s now (one request) group r p))
-  rests_alone (Txn transaction) pump = rests_if (nat_le (s.cluster.limit).0 p) (ends now id (LogFull (record { 0 = p }))) (sealed s now (one (Txn transaction)) group r p (outcome s.cluster.schema transaction (rows_at now group p)))
-  rests_alone (Batch own transactions) pump =
-      rests_if (nat_le (s.cluster.limit).0 p) (ends now id (LogFull (record { 0 = p }))) (batch_sealed s now (one (Batch own transactions)) group r p (batch_outcome s.cluster.schema own transactions (rows_at now group p)))
-  rests_alone (Read request) pump = refl
-  rests_alone (Find request) pump = refl
-  rests_alone PumpEnter pump = absurd (cc)
-  rests_alone PumpHandle pump = absurd (cc)
-  rests_alone Refresh pump = refl
 
 -- ---- where it begins
 

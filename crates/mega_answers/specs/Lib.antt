@@ -1,4 +1,5 @@
 pub mod RepresentsMet
+pub mod RepresentsNow
 pub mod Faults
 pub mod Sees
 pub mod Coming

@@ -13,12 +13,11 @@ ghost use Rattle.mega_rules.specs.Acting.{read_answer};
 ghost use Rattle.mega_rules.specs.Operations.{Now, Setting};
 ghost use Rattle.mega_marks.specs.of_node_laws.About.{IsOf};
 ghost use Rattle.mega_replica.specs.Used.{StoreUsed};
-ghost use Rattle.mega_replica.specs.Following.{progress_at};
 ghost use Rattle.mega_answers.specs.declared.fault.ActFault.TheVariants.{Unserved};
 ghost use Rattle.mega_step_work.specs.Servable.{group_asked, is_answered, is_at_once, is_named, mode_asked};
 ghost use Rattle.mega_answers.specs.Faults.{failed_by};
 ghost use Rattle.mega_answers.specs.Showing.{at_once, place_by, reading, shown, told};
-ghost use Rattle.mega_answers.specs.RepresentsMet.{RepresentsMet};
+ghost use Rattle.mega_answers.specs.RepresentsNow.{RepresentsNow};
 ghost use Rattle.mega_step_work.specs.Settings.{setting};
 ghost use Rattle.mega_view.specs.Small.{IsSmall};
 ghost use Rattle.mega_view.specs.Shows.{Shows};
@@ -214,7 +213,7 @@ pub fn answer_now<R: Records, V: Versions>(
     request: &Request,
 ) -> Result<Answer, ActFault>
     ensures exact { IfOk result (λ answer. V.is_told ≡ true → (me : _) (h : Meanings) (leases : LeasesKept) (now : Now) →
-        RepresentsMet (setting members.now me h) voter.now.logs.kept leases (V.version rows.old.rows) (progress_at rows.old.progress) now.met now.stored →
+        RepresentsNow V.version (setting members.now me h) voter.now leases rows.old now →
         at_once (setting members.now me h) now request.now ≡ Some answer) }
     ensures versions { SameVersions (V.version rows.old.rows) (V.version rows.new.rows) }
     ensures progress { rows.new.progress ≡ rows.old.progress }

@@ -17,7 +17,7 @@ ghost use Rattle.mega_answers.specs.declared.fault.ActFault.TheVariants.{Unserve
 ghost use Rattle.mega_step_work.specs.Servable.{is_plain};
 ghost use Rattle.mega_answers.specs.Faults.{failed_by};
 ghost use Rattle.mega_step_work.specs.Reaching.{operation_of};
-ghost use Rattle.mega_answers.specs.RepresentsMet.{RepresentsMet};
+ghost use Rattle.mega_answers.specs.RepresentsNow.{RepresentsNow};
 ghost use Rattle.mega_step_work.specs.Settings.{setting};
 ghost use Rattle.mega_step_work.specs.Working.{work_of};
 
@@ -84,12 +84,11 @@ fn completes_read<R: Records, V: Versions>(
     position: u64,
 ) -> Result<bool, ActFault>
     ensures made { IfOk result (λ made. (c : _) (me : _) (h : Meanings) (now : Now) →
-        RepresentsMet (setting c me h) voter.now.logs.kept leases.old (V.version rows.old.rows) (progress_at rows.old.progress) now.met now.stored →
+        RepresentsNow V.version (setting c me h) voter.now leases.old rows.old now →
         completes_read (setting c me h) now group.now reading.now position ≡ completed now group.now position made) }
     ensures state { IfOk result (λ made. (c : _) (me : _) (h : Meanings) (now : Now) →
-        RepresentsMet (setting c me h) voter.now.logs.kept leases.old (V.version rows.old.rows) (progress_at rows.old.progress) now.met now.stored →
-        RepresentsMet (setting c me h) voter.now.logs.kept leases.new (V.version rows.new.rows) (progress_at rows.new.progress)
-        (completed now group.now position made).met (completed now group.now position made).stored) }
+        RepresentsNow V.version (setting c me h) voter.now leases.old rows.old now →
+        RepresentsNow V.version (setting c me h) voter.now leases.new rows.new (completed now group.now position made)) }
     ensures used { StoreUsed V.Versions (failed_by result) rows.old.rows rows.new.rows }
     ensures built { result ≡ Err Unserved → ⊥ }
 {
@@ -109,12 +108,10 @@ pub fn reads_through<R: Records, V: Versions>(
     reached: &CompleteRead,
 ) -> Result<(), ActFault>
     ensures state { OnOk result ((c : _) (me : _) (h : Meanings) (now : Now) →
-        RepresentsMet (setting c me h) voter.now.logs.kept leases.old (V.version rows.old.rows) (progress_at rows.old.progress) now.met now.stored →
-        RepresentsMet (setting c me h) voter.now.logs.kept leases.new (V.version rows.new.rows) (progress_at rows.new.progress)
-        (completes_read (setting c me h) now reached.now.group reached.now.reading reached.now.position).met
-        (completes_read (setting c me h) now reached.now.group reached.now.reading reached.now.position).stored) }
+        RepresentsNow V.version (setting c me h) voter.now leases.old rows.old now →
+        RepresentsNow V.version (setting c me h) voter.now leases.new rows.new (completes_read (setting c me h) now reached.now.group reached.now.reading reached.now.position)) }
     ensures work { OnOk result ((c : _) (me : _) (h : Meanings) (now : Now) →
-        RepresentsMet (setting c me h) voter.now.logs.kept leases.old (V.version rows.old.rows) (progress_at rows.old.progress) now.met now.stored →
+        RepresentsNow V.version (setting c me h) voter.now leases.old rows.old now →
         work.old ≡ work_of now → work.new ≡ work_of (completes_read (setting c me h) now reached.now.group reached.now.reading reached.now.position)) }
     ensures used { StoreUsed V.Versions (failed_by result) rows.old.rows rows.new.rows }
     ensures built { result ≡ Err Unserved → ⊥ }
@@ -143,16 +140,11 @@ pub fn goes<R: Records, V: Versions>(
     work: &mut Work,
     reached: CompleteRead,
 ) -> Result<(), ActFault>
-    ensures state { OnOk result ((me : _) (h : Meanings) (leases : LeasesKept) (now after : Now) → V.is_told ≡ true → IsOf reached.kept.request reached.group →
+    ensures rests { OnOk result ((me : _) (h : Meanings) (leases : LeasesKept) (now : Now) → V.is_told ≡ true → IsOf reached.kept.request reached.group →
         reached.position ≤ applied (log_of now.met reached.group) (now.stored reached.group) → clock ≡ clock_of now.met →
-        RepresentsMet (setting members.now me h) voter.now.logs.kept leases (V.version rows.old.rows) (progress_at rows.old.progress) now.met now.stored →
-        finishes (setting members.now me h) now (operation_of reached) reached.group reached.reading reached.position ≡ Rests after →
-        RepresentsMet (setting members.now me h) voter.now.logs.kept leases (V.version rows.new.rows) (progress_at rows.new.progress) after.met after.stored) }
-    ensures work { OnOk result ((me : _) (h : Meanings) (leases : LeasesKept) (now after : Now) → V.is_told ≡ true → IsOf reached.kept.request reached.group →
-        reached.position ≤ applied (log_of now.met reached.group) (now.stored reached.group) → clock ≡ clock_of now.met →
-        RepresentsMet (setting members.now me h) voter.now.logs.kept leases (V.version rows.old.rows) (progress_at rows.old.progress) now.met now.stored →
-        finishes (setting members.now me h) now (operation_of reached) reached.group reached.reading reached.position ≡ Rests after →
-        work.old ≡ work_of now → work.new ≡ work_of after) }
+        RepresentsNow V.version (setting members.now me h) voter.now leases rows.old now →
+        (after : Now) × (finishes (setting members.now me h) now (operation_of reached) reached.group reached.reading reached.position ≡ Rests after) ×
+        (RepresentsNow V.version (setting members.now me h) voter.now leases rows.new after) × (work.old ≡ work_of now → work.new ≡ work_of after)) }
     ensures used { StoreUsed V.Versions (failed_by result) rows.old.rows rows.new.rows }
     ensures unserved { result ≡ Err Unserved → is_plain reached.kept.request ≡ false }
 {

@@ -24,6 +24,7 @@ ghost use Rattle.mega_answers.specs.Faults.{failed_by};
 ghost use Rattle.mega_answers.specs.Pumping.{is_entering, next_of, pumped_after, pumped_by};
 ghost use Rattle.mega_step_work.specs.Reaching.{operation_of};
 ghost use Rattle.mega_answers.specs.RepresentsMet.{RepresentsMet};
+ghost use Rattle.mega_answers.specs.RepresentsNow.{RepresentsNow};
 ghost use Rattle.mega_step_work.specs.Settings.{setting};
 ghost use Rattle.mega_step_work.specs.Working.{work_of};
 
@@ -67,7 +68,7 @@ fn has_nothing<R: Records, V: Versions>(
 ) -> Result<Pumped, NoMemory>
     ensures asked { IfOk result (λ pumped. (request : _) → IsAsked pumped request) }
     ensures pumped { IfOk result (λ pumped. (c : _) (me : _) (h : Meanings) (leases : LeasesKept) (now : Now) (o : Open) (asked : List ℕ) →
-        RepresentsMet (setting c me h) voter.now.logs.kept leases (V.version rows.now.rows) (progress_at rows.now.progress) now.met now.stored → groups.now ≡ groups_of now.met → o.id ≡ op →
+        RepresentsNow V.version (setting c me h) voter.now leases rows.now now → groups.now ≡ groups_of now.met → o.id ≡ op →
         pumped_by now pumped ≡ serves (setting c me h) now o asked None) }
 {
     let marks = applied_marks(alloc, voter, rows, groups)?;
@@ -91,7 +92,7 @@ fn serves<R: Records, V: Versions>(
 ) -> Result<Pumped, NoMemory>
     ensures asked { IfOk result (λ pumped. IsAsked pumped kept.request) }
     ensures pumped { IfOk result (λ pumped. (me : _) (h : Meanings) (now : Now) (phase : OpenPhase) →
-        RepresentsMet (setting members.now me h) voter.now.logs.kept leases.now (V.version rows.now.rows) (progress_at rows.now.progress) now.met now.stored → groups.now ≡ groups_of now.met →
+        RepresentsNow V.version (setting members.now me h) voter.now leases.now rows.now now → groups.now ≡ groups_of now.met →
         pumped_by now pumped ≡ serves (setting members.now me h) now (whole kept phase) asked picked) }
 {
     match picked {
@@ -177,7 +178,7 @@ pub fn picks<R: Records, V: Versions>(
 ) -> Result<Pumped, NoMemory>
     ensures asked { IfOk result (λ pumped. IsAsked pumped kept.request) }
     ensures pumped { IfOk result (λ pumped. (me : _) (h : Meanings) (now : Now) (phase : OpenPhase) →
-        RepresentsMet (setting members.now me h) voter.now.logs.kept leases.now (V.version rows.now.rows) (progress_at rows.now.progress) now.met now.stored → HasNoted voter.now.logs.kept digest.old →
+        RepresentsNow V.version (setting members.now me h) voter.now leases.now rows.now now → HasNoted voter.now.logs.kept digest.old →
         pumped_by now pumped ≡ picks_by entering (setting members.now me h) now (whole kept phase) asked) }
     ensures noted { OnOk result ((met : _) (stored : Group → ℕ) → Tells voter.now.logs.kept met →
         Follows (V.version rows.now.rows) (progress_at rows.now.progress) (log_of met) stored → HasNoted voter.now.logs.kept digest.old → HasNoted voter.now.logs.kept digest.new) }
@@ -250,7 +251,7 @@ fn picks_again<R: Records, V: Versions>(
 ) -> Result<Pumped, NoMemory>
     ensures asked { IfOk result (λ pumped. IsAsked pumped reached.kept.request) }
     ensures pumped { IfOk result (λ pumped. (me : _) (h : Meanings) (now : Now) →
-        RepresentsMet (setting members.now me h) voter.now.logs.kept leases.now (V.version rows.now.rows) (progress_at rows.now.progress) now.met now.stored → HasNoted voter.now.logs.kept digest.old →
+        RepresentsNow V.version (setting members.now me h) voter.now leases.now rows.now now → HasNoted voter.now.logs.kept digest.old →
         pumped_by now pumped ≡ picks_by (is_entering reached.kept.request) (setting members.now me h) now (operation_of reached) (asked_by reached.reading)) }
     ensures noted { OnOk result ((met : _) (stored : Group → ℕ) → Tells voter.now.logs.kept met →
         Follows (V.version rows.now.rows) (progress_at rows.now.progress) (log_of met) stored → HasNoted voter.now.logs.kept digest.old → HasNoted voter.now.logs.kept digest.new) }
@@ -292,7 +293,7 @@ fn does_own<R: Records, V: Versions>(
     requires { reached.position + 1 < 2 ^ 64 }
     ensures asked { IfOk result (λ pumped. IsAsked pumped reached.kept.request) }
     ensures pumped { IfOk result (λ pumped. (me : _) (h : Meanings) (now : Now) →
-        RepresentsMet (setting members.now me h) voter.now.logs.kept leases.now (V.version rows.now.rows) (progress_at rows.now.progress) now.met now.stored → HasNoted voter.now.logs.kept digest.old →
+        RepresentsNow V.version (setting members.now me h) voter.now leases.now rows.now now → HasNoted voter.now.logs.kept digest.old →
         pumped_by now pumped ≡ own_by (is_entering reached.kept.request) (setting members.now me h) now (operation_of reached) reached.group reached.reading reached.position own) }
     ensures noted { OnOk result ((met : _) (stored : Group → ℕ) → Tells voter.now.logs.kept met →
         Follows (V.version rows.now.rows) (progress_at rows.now.progress) (log_of met) stored → HasNoted voter.now.logs.kept digest.old → HasNoted voter.now.logs.kept digest.new) }
@@ -326,7 +327,7 @@ pub fn pumps<R: Records, V: Versions, H: QueueHandlers>(
     ensures asked { IfOk result (λ pumped. IsAsked pumped reached.kept.request) }
     ensures pumped { IfOk result (λ pumped. V.is_told ≡ true → (me : _) (h : Meanings) (now : Now) → Means (H.meant handlers.old) h → is_pump reached.kept.request ≡ true →
         reached.position ≤ applied (log_of now.met reached.group) (now.stored reached.group) →
-        RepresentsMet (setting members.now me h) voter.now.logs.kept leases.now (V.version rows.old.rows) (progress_at rows.old.progress) now.met now.stored → HasNoted voter.now.logs.kept digest.old →
+        RepresentsNow V.version (setting members.now me h) voter.now leases.now rows.old now → HasNoted voter.now.logs.kept digest.old →
         pumped_by now pumped ≡ finishes (setting members.now me h) now (operation_of reached) reached.group reached.reading reached.position) }
     ensures noted { OnOk result ((met : _) (stored : Group → ℕ) → Tells voter.now.logs.kept met → reached.position ≤ applied (log_of met reached.group) (stored reached.group) →
         Follows (V.version rows.old.rows) (progress_at rows.old.progress) (log_of met) stored → HasNoted voter.now.logs.kept digest.old → HasNoted voter.now.logs.kept digest.new) }

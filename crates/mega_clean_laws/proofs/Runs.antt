@@ -39,7 +39,7 @@ polled_reaches : (c : Cluster) (tape : List Item) → Lawful c tape → ArePolls
 polled_reaches c tape l q op group p polled = λ n entry s. let b = begun_before tape op (Decide op.node group n entry) s in polled_above c tape l q op b.text group n (record { 0 = p }) op.node entry b.stood polled
 
 reaches_suffice : Suffices Reaches
-reaches_suffice = record { stays = reaches_on; polled = polled_reaches }
+reaches_suffice = record { stays = λ op old new o group keeps. reaches_on op old new o group; polled = polled_reaches }
 
 -- ---- runs
 

@@ -38,7 +38,7 @@ polled_covers : (c : Cluster) (tape : List Item) → Lawful c tape → ArePolls 
 polled_covers c tape l q op group p polled = λ un node n entry s. let b = begun_before tape op (Decide node group n entry) s in polled_above c tape l q op b.text group n (record { 0 = p }) node entry b.stood polled
 
 covers_suffice : Suffices Covers
-covers_suffice = record { stays = covers_on; polled = polled_covers }
+covers_suffice = record { stays = λ op old new o group keeps. covers_on op old new o group; polled = polled_covers }
 
 plain_lives : (notes : List Met) → Each IsPlain notes → Each Lives notes
 plain_lives notes h = each_on IsPlain Lives one notes h
@@ -54,29 +54,23 @@ tail_lives notes h = each_on IsTail Lives one notes h
     one Crashes k = absurd k
     one _ k = tt
 
-met_lives : (s : Setting) (met : List Met) (event : Event) → Each Lives (met_in s met event ∷ [])
+pub met_lives : (s : Setting) (met : List Met) (event : Event) → Each Lives (met_in s met event ∷ [])
 met_lives s met (Tick clock) = (tt, tt)
 met_lives s met (Take m) = (tt, tt)
 met_lives s met (Begin request text) = (tt, tt)
+
+pub notes_live : (s : Setting) (node : Node) (event : Event) → Each Lives (step s node event).notes
+notes_live s node event = subst (Each Lives) (sym parted.is) (each_both Lives (front_of s node event) parted.rest
+    (front_each Lives s node event (plain_lives (fronts s node event) (fronts_plain s node event)) (λ group n e. tt)) (tail_lives parted.rest parted.each))
+  where
+    parted : Parted (front_of s node event) (step s node event).notes
+    parted = step_parted s node event
 
 -- ---- runs
 
 near_covers : (c : Cluster) → length c.nodes ≤ 9 → c.cells ≤ 5 → (usage : Usage) (first : Meanings) (cuts : Cuts) → Near Covers covers_suffice c usage first cuts
 near_covers c few five usage first cuts h now me item event g r then up own whole onward =
-    step_locals c few five usage first cuts h now me item event g r then up own whole (met_lives s node.met event) lives onward
-  where
-    s : Setting
-    s = setting c h me
-
-    node : Node
-    node = now.node me
-
-    parted : Parted (front_of s node event) (step s node event).notes
-    parted = step_parted s node event
-
-    lives : Each Lives (step s node event).notes
-    lives = subst (Each Lives) (sym parted.is) (each_both Lives (front_of s node event) parted.rest
-        (front_each Lives s node event (plain_lives (fronts s node event) (fronts_plain s node event)) (λ group n e. tt)) (tail_lives parted.rest parted.each))
+    step_locals c few five usage first cuts h now me item event g r then up own whole (met_lives (setting c h me) (now.node me).met event) (notes_live (setting c h me) (now.node me) event) onward
 
 -- each answer and each proposal of every run
 pub run_fresh : (c : Cluster) (usage : Usage) (first : Meanings) (events : List Happening) (tape : List Item) → length c.nodes ≤ 9 → c.cells ≤ 5 → IsRun c first events tape → Fits usage events → Are (IsFreshItem c usage) tape

@@ -18,19 +18,20 @@ use Rattle.mega_leased_laws.specs.of_settled_laws.of_run_laws.of_tape_laws.Lawfu
 use Rattle.mega_leased_laws.specs.of_settled_laws.of_run_laws.of_tape_laws.Polls.{ArePolls, IsPolled}
 use Rattle.mega_fresh_laws.specs.FarEnough.{Answered, AreTurned, IsFarAnswer, IsProposed, IsShown, IsTurned, ReadOver}
 use Rattle.mega_fresh_laws.proofs.Moments.{Onward}
+use Rattle.mega_fresh_laws.proofs.Spoken.{Keeps, Within}
 
--- a longer tape keeps what is far enough, and a position that a majority told is
+-- a longer tape keeps what is far enough, if no more was decided before the operation spoke of the group; and a position that a majority told is so
 pub record Suffices (Far : List Item → OpId → GroupId → ℕ → Type 0) : Type 0 where
-  pub stays : (op : OpId) (old new : List Item) → Onward op old new → (group : GroupId) (p : ℕ) → Far old op group p → Far new op group p
+  pub stays : (op : OpId) (old new : List Item) → Onward op old new → (group : GroupId) → Keeps op group old new → (p : ℕ) → Far old op group p → Far new op group p
   pub polled : (c : Cluster) (tape : List Item) → Lawful c tape → ArePolls tape → (op : OpId) (group : GroupId) (p : ℕ) → IsPolled c tape op group (record { 0 = p }) → Far tape op group p
 
 -- ---- a longer tape
 
 module _ (Far : List Item → OpId → GroupId → ℕ → Type 0) (enough : Suffices Far) where
-  over_on : (op : OpId) (old new : List Item) → Onward op old new → (group : GroupId) (Shows : ℕ → List Content → Type 0) → ReadOver Far old op group Shows → ReadOver Far new op group Shows
-  over_on op old new o group Shows h = record { below = h.below; known = λ k d is. o.stood _ (h.known k d is); far = enough.stays op old new o group _ h.far; shows = h.shows }
+  over_on : (op : OpId) (old new : List Item) → Within op old new → (group : GroupId) (Shows : ℕ → List Content → Type 0) → ReadOver Far old op group Shows → ReadOver Far new op group Shows
+  over_on op old new o group Shows h = record { below = h.below; known = λ k d is. (o.onward).stood _ (h.known k d is); far = enough.stays op old new o.onward group (o.keeps group) _ h.far; shows = h.shows }
 
-  module _ (c : Cluster) (op : OpId) (old new : List Item) (o : Onward op old new) where
+  module _ (c : Cluster) (op : OpId) (old new : List Item) (o : Within op old new) where
     shown_on : (request : Request) (answer : Answer) → IsShown Far c old op request answer → IsShown Far c new op request answer
     shown_on (ReadRequested request) answer h = λ current. over_on op old new o request.group _ (h current)
     shown_on (Find request) answer h = λ current group is. over_on op old new o group _ (h current group is)
@@ -66,9 +67,9 @@ module _ (Far : List Item → OpId → GroupId → ℕ → Type 0) (enough : Suf
     fresh_on request (LogFull n) h = record { group = h.group; home = h.home; reads = over_on op old new o h.group _ h.reads }
     fresh_on request _ h = tt
 
-  pub answered_on : (c : Cluster) (usage : Usage) (op : OpId) (old new : List Item) → Onward op old new → (answer : Answer) → Answered Far c usage old op answer → Answered Far c usage new op answer
-  answered_on c usage op old new o answer h = record { request = h.request; asked = o.asked usage.meaning ∙ h.asked; far = fresh_on c op old new o h.request answer h.far }
+  pub answered_on : (c : Cluster) (usage : Usage) (op : OpId) (old new : List Item) → Within op old new → (answer : Answer) → Answered Far c usage old op answer → Answered Far c usage new op answer
+  answered_on c usage op old new o answer h = record { request = h.request; asked = (o.onward).asked usage.meaning ∙ h.asked; far = fresh_on c op old new o h.request answer h.far }
 
-  pub proposed_on : (old new : List Item) → ((op : OpId) → Onward op old new) → (body : Body) → IsProposed Far old body → IsProposed Far new body
-  proposed_on old new o (Accept op group n b e) h = λ is own. enough.stays op old new (o op) group _ (h is own)
+  pub proposed_on : (old new : List Item) → ((op : OpId) → Within op old new) → (body : Body) → IsProposed Far old body → IsProposed Far new body
+  proposed_on old new o (Accept op group n b e) h = λ is own. enough.stays op old new (o op).onward group ((o op).keeps group) _ (h is own)
   proposed_on old new o _ h = tt

@@ -1,5 +1,6 @@
 pub mod Asked
 pub mod Moments
+pub mod Spoken
 pub mod Enough
 pub mod Accepts
 pub mod Meant
@@ -12,6 +13,7 @@ pub mod Polling
 pub mod Inquired
 pub mod Tops
 pub mod Steps
+pub mod Speaking
 pub mod Tails
 pub mod Nearby
 pub mod Knowing
@@ -19,5 +21,6 @@ pub mod Runs
 pub mod Covered
 pub mod Promised
 pub mod Polled
+pub mod Picked
 pub mod Fresh
 pub use Rattle.mega_leased_laws.proofs as of_leased_laws

@@ -391,3 +391,17 @@ module _ (c : Cluster) (few : length c.nodes ≤ 9) (five : c.cells ≤ 5) (usag
       (covers_each full safe group (valid_then full safe group valid only among holds) other n entry
       (before_top item now.tape op (Decide other group n entry) (subst (Stands (Decide other group n entry)) (onward op).same stands)))
       (top_onto valid base group)
+
+  -- it covers all that was decided by then, also in this step
+  pub step_tops : (valid : List Met) → Each IsValidate valid → Each (λ note. In note made.notes) valid → is_full c me ≡ true → (group : GroupId) → valid_at c (onto valid base) group ≡ true → is_unsafe front_tape ≡ false
+      → (other : NodeId) (n : Position) (entry : Content) → Stands (Decide other group n entry) front_tape → n.0 ≤ top_of (onto valid base) group
+  step_tops valid only among full group holds safe other n entry s =
+      then_most n.0 (top_of base group) (top_of (onto valid base) group) (by (notes_stood c those me other.0 group n entry front start_tape s)) (top_onto valid base group)
+    where
+      before : (item ≡ Decide other group n entry) ⊎ Stands (Decide other group n entry) now.tape → n.0 ≤ top_of base group
+      before (inl is) = clash (is_decide item) (ap is_decide is) (own_undecided item own)
+      before (inr stands) = covers_each full safe group (valid_then full safe group valid only among holds) other n entry stands
+
+      by : ((me ≡ other.0) × In (Decides group n.0 entry) front) ⊎ Stands (Decide other group n entry) start_tape → n.0 ≤ top_of base group
+      by (inl noted) = noted_most front own_met group n.0 entry noted.1
+      by (inr stands) = before stands

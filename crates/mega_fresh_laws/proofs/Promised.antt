@@ -70,6 +70,14 @@ unsafe_stands [] h = cc
 unsafe_stands (Unsafe ∷ before) h = inl refl
 unsafe_stands (_ ∷ before) h = inr (unsafe_stands before h)
 
+-- leases are safe before an item up to which they are
+pub safe_before : (tape before later : List Item) (item : Item) → tape ≡ later ++ item ∷ before → IsSafeAt item tape → is_unsafe before ≡ false
+safe_before tape before later item is safe = by (is_unsafe before) refl
+  where
+    by : (t : Bool) → is_unsafe before ≡ t → t ≡ false
+    by false e = refl
+    by true e = absurd (safe (subst (StoodBefore Unsafe item) (sym is) (stood_at later before Unsafe item (unsafe_stands before e))))
+
 -- ---- an operation begins once
 
 asked_begun : (meaning : List ℕ → Option Request) (tape : List Item) (op : OpId) (request : Request) → asked_for meaning tape op ≡ Some request → has_begun tape op ≡ true
@@ -129,13 +137,9 @@ module _ (schema : Schema) (usage : Usage) (op : OpId) (named : IsNamed op) wher
 module _ (c : Cluster) (usage : Usage) (tape : List Item) (l : Lawful c tape) (w : AreWritten c.schema usage tape) (op : OpId) (named : IsNamed op) where
   covers_each : (before later : List Item) (item : Item) → NoBegin item → tape ≡ later ++ item ∷ before → has_begun before op ≡ true → (group : GroupId) (p : ℕ) → Covers before op group p
       → (n : Position) → WasDecided tape group n op → IsSafeAt item tape → n.0 ≤ p
-  covers_each before later item plain is begun group p covers n d safe = covers (by (is_unsafe before) refl) d.0 n d.1
+  covers_each before later item plain is begun group p covers n d safe = covers (safe_before tape before later item is safe) d.0 n d.1
       (subst (Stands (Decide d.0 group n d.1)) same (stood_before_begin c.schema usage op named tape d.2 (Decide d.0 group n d.1) w d.3))
     where
-      by : (t : Bool) → is_unsafe before ≡ t → t ≡ false
-      by false e = refl
-      by true e = absurd (safe (subst (StoodBefore Unsafe item) (sym is) (stood_at later before Unsafe item (unsafe_stands before e))))
-
       same : before_begin tape op ≡ before_begin before op
       same = ap (λ t. before_begin t op) is
           ∙ (once_later c.schema usage op named later (item ∷ before) (subst (AreWritten c.schema usage) is w) (begun_later (item ∷ []) before op begun)).same ∙ (onward_item op before item plain).same

@@ -10,13 +10,15 @@ use Rattle.mega_leased_laws.specs.of_settled_laws.of_run_laws.of_tape_laws.of_pr
 use Rattle.mega_leased_laws.specs.of_settled_laws.of_run_laws.of_tape_laws.of_promises.of_transcript.Tape.{sent_count}
 use Rattle.mega_wal.specs.Same.{same_op}
 use Rattle.mega_wal.proofs.Sames.{same_op_equal, same_op_self}
+use Rattle.mega_outcome.specs.declared.request.Request.{Request}
 use Rattle.mega_wire.specs.declared.message.Message.{Message}
 use Rattle.mega_leased_laws.specs.of_settled_laws.of_run_laws.of_tape_laws.of_promises.Items.{number, numbered, shown}
 use Rattle.mega_leased_laws.specs.of_settled_laws.of_run_laws.of_tape_laws.of_promises.Promises.{Stands, asked_for}
 use Rattle.mega_leased_laws.specs.of_settled_laws.of_run_laws.of_tape_laws.of_promises.Runs.{Cuts, Happening, IsRun, Standing, met_in, set_at, setting, whole_step, with_item, with_items}
 use Rattle.mega_leased_laws.specs.of_settled_laws.of_run_laws.of_tape_laws.of_promises.of_rules.Clock.{begun_of, is_up, start_of}
 use Rattle.mega_leased_laws.specs.of_settled_laws.of_run_laws.of_tape_laws.of_promises.of_rules.Met.{Met, Starts, Crashes, Ticks, Begins, Takes, Sends, Unsends, Validates, Applies, Answers}
-use Rattle.mega_leased_laws.specs.of_settled_laws.of_run_laws.of_tape_laws.of_promises.of_rules.Operations.{Node, Operation, Setting}
+use Rattle.mega_leased_laws.specs.of_settled_laws.of_run_laws.of_tape_laws.of_promises.of_rules.Members.{is_full}
+use Rattle.mega_leased_laws.specs.of_settled_laws.of_run_laws.of_tape_laws.of_promises.of_rules.Operations.{Node, Operation, Phase, Proposes, Reads, Setting}
 use Rattle.mega_leased_laws.specs.of_settled_laws.of_run_laws.of_tape_laws.of_promises.of_rules.Steps.{Begin, Event, Step, Take, Tick, crashed, onto, op_of, start, start_items, start_notes, step}
 use Rattle.mega_leased_laws.specs.of_settled_laws.of_run_laws.of_tape_laws.Lawful.{Lawful, message}
 use Rattle.mega_leased_laws.specs.of_settled_laws.of_run_laws.of_tape_laws.Polls.{ArePolls}
@@ -34,7 +36,7 @@ use Rattle.mega_leased_laws.proofs.of_settled_laws.of_run_laws.Steps.{never_begu
 use Rattle.mega_leased_laws.proofs.of_settled_laws.of_run_laws.Turns.{Held, Known, each_on, each_zip}
 use Rattle.mega_leased_laws.specs.of_settled_laws.Covering.{Earlier}
 use Rattle.mega_leased_laws.proofs.of_settled_laws.of_run_laws.of_tape_laws.Earlier.{lawful_before}
-use Rattle.mega_leased_laws.proofs.of_settled_laws.Tapes.{earlier_stood, items_later, polls_before, sent_later, then_later}
+use Rattle.mega_leased_laws.proofs.of_settled_laws.Tapes.{earlier_stood, items_later, now_is, one_later, polls_before, sent_later, then_later}
 use Rattle.mega_leased_laws.proofs.of_valid_laws.Folds.{IsOwn}
 use Rattle.mega_leased_laws.specs.Items.{Are}
 use Rattle.mega_leased_laws.proofs.Cells.{by_node, occurs_own}
@@ -44,8 +46,11 @@ use Rattle.mega_fresh_laws.proofs.Acting.{IsValidate, Locals, NoteFar}
 use Rattle.mega_fresh_laws.proofs.Heeding.{Open}
 use Rattle.mega_fresh_laws.proofs.Knowing.{known_notes}
 use Rattle.mega_fresh_laws.proofs.Meant.{MayBegin, ReachedByRun, Stays, run_of, run_stays, those_of}
-use Rattle.mega_fresh_laws.proofs.Moments.{IsLater, NoBegin, Onward, later_shown, onward_begin, onward_item, onward_items, onward_sent, onward_then}
+use Rattle.mega_fresh_laws.proofs.Moments.{IsLater, NoBegin, Onward, later_shown, onward_begin, onward_item, onward_items, onward_then}
+use Rattle.mega_fresh_laws.proofs.Spoken.{IsUndecided, Within, group_in, keeps_spoken, spoken_later, undecided_shown, within_item, within_items, within_sent, within_then}
+use Rattle.mega_fresh_laws.proofs.Speaking.{FullIn, MayAct, OpenSaid, Said, said_spoken, step_said}
 use Rattle.mega_fresh_laws.specs.FarEnough.{IsFarItem, IsProposed}
+use Rattle.mega_fresh_laws.specs.Picking.{has_spoken}
 use Rattle.mega_fresh_laws.proofs.Enough.{Suffices, answered_on, proposed_on}
 use Rattle.mega_leased_laws.proofs.Tails.{Parted, front_each, front_of, fronts, step_parted}
 use Rattle.mega_leased_laws.proofs.Validating.{own_decided, fronts_plain}
@@ -87,6 +92,20 @@ validates_mute : (notes : List Met) → Each IsValidate notes → Each IsMute no
 validates_mute notes h = each_on IsValidate IsMute one notes h
   where
     one : (x : Met) → IsValidate x → IsMute x
+    one (Validates g p) k = tt
+    one _ k = absurd k
+
+applies_undecided : (notes : List Met) → Each IsApply notes → Each IsUndecided notes
+applies_undecided notes h = each_on IsApply IsUndecided one notes h
+  where
+    one : (x : Met) → IsApply x → IsUndecided x
+    one (Applies g p) k = tt
+    one _ k = absurd k
+
+validates_undecided : (notes : List Met) → Each IsValidate notes → Each IsUndecided notes
+validates_undecided notes h = each_on IsValidate IsUndecided one notes h
+  where
+    one : (x : Met) → IsValidate x → IsUndecided x
     one (Validates g p) k = tt
     one _ k = absurd k
 
@@ -151,6 +170,13 @@ module _ (Far : List Item → OpId → GroupId → ℕ → Type 0) (enough : Suf
       one (Answers op answer) k = tt
       one _ k = absurd k
 
+  answers_undecided : (c : Cluster) (usage : Usage) (tape : List Item) (notes : List Met) → Each (NoteFar Far enough c usage tape) notes → Each IsUndecided notes
+  answers_undecided c usage tape notes h = each_on (NoteFar Far enough c usage tape) IsUndecided one notes h
+    where
+      one : (x : Met) → NoteFar Far enough c usage tape x → IsUndecided x
+      one (Answers op answer) k = tt
+      one _ k = absurd k
+
   -- ---- items
 
   module _ (c : Cluster) (usage : Usage) where
@@ -170,15 +196,15 @@ module _ (Far : List Item → OpId → GroupId → ℕ → Type 0) (enough : Suf
           (free_notes FarItem (λ x. tt) c nodes' me notes (each_on IsMute (λ note. Each (IsFree FarItem (λ x. tt) c nodes') (shown me note)) free_one notes h))) a
 
       -- answers, on a tape that goes on from where they are told
-      answers_far : (tape : List Item) (notes : List Met) (t : List Item) → ((x : OpId) → Onward x tape t) → Each (NoteFar Far enough c usage tape) notes → Are FarItem t → Are FarItem (with_items c nodes' t (flat_map (shown me) notes))
+      answers_far : (tape : List Item) (notes : List Met) (t : List Item) → ((x : OpId) → Within x tape t) → Each (NoteFar Far enough c usage tape) notes → Are FarItem t → Are FarItem (with_items c nodes' t (flat_map (shown me) notes))
       answers_far tape [] t on h a = a
-      answers_far tape (Answers op answer ∷ notes) t on h a = answers_far tape notes (AnswerItem op answer ∷ t) (λ x. onward_then x tape t (AnswerItem op answer ∷ t) (on x) (onward_item x t (AnswerItem op answer) tt)) h.1
+      answers_far tape (Answers op answer ∷ notes) t on h a = answers_far tape notes (AnswerItem op answer ∷ t) (λ x. within_then x tape t (AnswerItem op answer ∷ t) (on x) (within_item x t (AnswerItem op answer) tt tt)) h.1
           (answered_on Far enough c usage op tape t (on op) answer h.0, a)
       answers_far tape (_ ∷ notes) t on h a = absurd h.0
 
-    sends_far : (tape : List Item) (k : ℕ) (ms : List Message) (t : List Item) → ((x : OpId) → Onward x tape t) → Each (λ m. IsProposed Far tape m.body) ms → Are FarItem t → Are FarItem (sent k ms t)
+    sends_far : (tape : List Item) (k : ℕ) (ms : List Message) (t : List Item) → ((x : OpId) → Within x tape t) → Each (λ m. IsProposed Far tape m.body) ms → Are FarItem t → Are FarItem (sent k ms t)
     sends_far tape k [] t on h a = a
-    sends_far tape k (m ∷ ms) t on h a = sends_far tape (k + 1) ms (Sent k m ∷ t) (λ x. onward_then x tape t (Sent k m ∷ t) (on x) (onward_item x t (Sent k m) tt)) h.1 (proposed_on Far enough tape t on m.body h.0, a)
+    sends_far tape k (m ∷ ms) t on h a = sends_far tape (k + 1) ms (Sent k m ∷ t) (λ x. within_then x tape t (Sent k m ∷ t) (on x) (within_item x t (Sent k m) tt tt)) h.1 (proposed_on Far enough tape t on m.body h.0, a)
 
     own_far : (t : List Item) (item : Item) → IsOwn item → FarItem t item
     own_far t (AnswerItem op answer) h = absurd h
@@ -187,12 +213,27 @@ module _ (Far : List Item → OpId → GroupId → ℕ → Type 0) (enough : Suf
 
   -- ---- a run
 
+  -- an operation that is open behind a step
+  pub record OpenAt (c : Cluster) (tape : List Item) (o : Operation) : Type 0 where
+    pub far : PhaseFar Far enough c tape o.id o.request o.phase
+    pub spoken : has_spoken tape o.id (group_in o.phase) ≡ true
+
   pub record AllFar (c : Cluster) (usage : Usage) (tape : List Item) (nodes : ℕ → Node) : Type 0 where
     pub items : Are (IsFarItem Far c usage) tape
-    pub opens : (v : ℕ) → Each (λ (o : Operation). PhaseFar Far enough c tape o.id o.request o.phase) (nodes v).open_operations
+    pub opens : (v : ℕ) → Each (OpenAt c tape) (nodes v).open_operations
 
-  abbrev OpenAt : Cluster → List Item → Operation → Type 0
-  OpenAt c tape o = PhaseFar Far enough c tape o.id o.request o.phase
+  abbrev PhaseAt : Cluster → List Item → Operation → Type 0
+  PhaseAt c tape o = PhaseFar Far enough c tape o.id o.request o.phase
+
+  open_on : (c : Cluster) (o : Operation) (old new : List Item) → Onward o.id old new → Earlier old new → OpenAt c old o → OpenAt c new o
+  open_on c o old new on later h = record {
+    far = phase_on Far enough c o.id old new on o.request o.phase (keeps_spoken old new o.id (group_in o.phase) later h.spoken) h.far;
+    spoken = spoken_later old new o.id (group_in o.phase) later h.spoken;
+  }
+
+  full_in : (c : Cluster) (me : ℕ) (tape : List Item) (op : OpId) (request : Request) (phase : Phase) → op.node.0 ≡ me → PhaseFar Far enough c tape op request phase → FullIn c me phase
+  full_in c me tape op request (Reads group r) same h = subst (λ v. is_full c v ≡ true) same h.0
+  full_in c me tape op request (Proposes group n asked proposal promised) same h = tt
 
   -- where a node may read locally in a step, of a run with these cuts
   abbrev pub Near : Cluster → Usage → Meanings → Cuts → Type 0
@@ -265,6 +306,15 @@ module _ (Far : List Item → OpId → GroupId → ℕ → Type 0) (enough : Suf
       tape_third : Earlier tape third
       tape_third = then_later tape second third (subst (Earlier tape) (sym spread) (items_later c those (flat_map (shown me) parted.rest) tape)) (sent_later count made.sends second)
 
+      now_tape : Earlier now.tape tape
+      now_tape = then_later now.tape start_tape tape (one_later now.tape now.tape item (now_is now.tape)) (items_later c those (flat_map (shown me) front) start_tape)
+
+      now_second : Earlier now.tape second
+      now_second = then_later now.tape start_tape second (one_later now.tape now.tape item (now_is now.tape)) (items_later c those (flat_map (shown me) made.notes) start_tape)
+
+      now_third : Earlier now.tape third
+      now_third = then_later now.tape tape third now_tape tape_third
+
       lawful : Lawful c tape
       lawful = earlier_lawful c tape third tape_third (subst (Lawful c) whole (run_lawful c first then.events _ (run_of c usage first cuts _ then)))
 
@@ -282,7 +332,7 @@ module _ (Far : List Item → OpId → GroupId → ℕ → Type 0) (enough : Suf
         node = held.node;
         asked = (opens_onward me x held).asked usage.meaning ∙ began_asked c.schema usage now.tape x.id x.request (g.written tt) held.named (held.owned tt).began;
         above = phase_above c now.tape node.met x.id x.phase held.backed (λ group r' is. (subst (Mine c.schema now.tape x.id x.request x.message) is (held.owned tt).mine).plain);
-        far = phase_on Far enough c x.id now.tape tape (opens_onward me x held) x.request x.phase far;
+        far = (open_on c x now.tape tape (opens_onward me x held) now_tape far).far;
       }) node.open_operations (g.node me).held (q.opens me)
 
       shown_there : Shown Far enough s usage tape lawful polls node event
@@ -315,10 +365,10 @@ module _ (Far : List Item → OpId → GroupId → ℕ → Type 0) (enough : Suf
       middle_spread = ap (with_items c those start_tape) (flat_append me (front ++ far.applies) far.valid) ∙ with_append c those (flat_map (shown me) (front ++ far.applies)) (flat_map (shown me) far.valid) start_tape
           ∙ ap (λ t. with_items c those t (flat_map (shown me) far.valid)) (ap (with_items c those start_tape) (flat_append me front far.applies) ∙ with_append c those (flat_map (shown me) front) (flat_map (shown me) far.applies) start_tape)
 
-      middle_onward : (x : OpId) → Onward x tape middle_tape
-      middle_onward x = subst (Onward x tape) (sym middle_spread) (onward_then x tape (with_items c those tape (flat_map (shown me) far.applies)) _
-          (onward_items x c those (flat_map (shown me) far.applies) tape (later_shown me far.applies (mute_later far.applies (applies_mute far.applies far.applied))))
-          (onward_items x c those (flat_map (shown me) far.valid) _ (later_shown me far.valid (mute_later far.valid (validates_mute far.valid far.valids)))))
+      middle_within : (x : OpId) → Within x tape middle_tape
+      middle_within x = subst (Within x tape) (sym middle_spread) (within_then x tape (with_items c those tape (flat_map (shown me) far.applies)) _
+          (within_items x c those (flat_map (shown me) far.applies) tape (later_shown me far.applies (mute_later far.applies (applies_mute far.applies far.applied))) (undecided_shown me far.applies (applies_undecided far.applies far.applied)))
+          (within_items x c those (flat_map (shown me) far.valid) _ (later_shown me far.valid (mute_later far.valid (validates_mute far.valid far.valids))) (undecided_shown me far.valid (validates_undecided far.valid far.valids))))
 
       middle_far : Are (IsFarItem Far c usage) middle_tape
       middle_far = mute_far c usage those me middle start_tape (each_both IsMute (front ++ far.applies) far.valid (each_both IsMute front far.applies front_mute (applies_mute far.applies far.applied)) (validates_mute far.valid far.valids))
@@ -328,23 +378,35 @@ module _ (Far : List Item → OpId → GroupId → ℕ → Type 0) (enough : Suf
       second_spread = ap (λ notes. with_items c those start_tape (flat_map (shown me) notes)) far.is
           ∙ ap (with_items c those start_tape) (flat_append me middle far.answers) ∙ with_append c those (flat_map (shown me) middle) (flat_map (shown me) far.answers) start_tape
 
-      second_onward : (x : OpId) → Onward x tape second
-      second_onward x = subst (Onward x tape) (sym second_spread) (onward_then x tape middle_tape _ (middle_onward x)
-          (onward_items x c those (flat_map (shown me) far.answers) middle_tape (later_shown me far.answers (answers_later c usage tape far.answers far.far))))
+      second_within : (x : OpId) → Within x tape second
+      second_within x = subst (Within x tape) (sym second_spread) (within_then x tape middle_tape _ (middle_within x)
+          (within_items x c those (flat_map (shown me) far.answers) middle_tape (later_shown me far.answers (answers_later c usage tape far.answers far.far)) (undecided_shown me far.answers (answers_undecided c usage tape far.answers far.far))))
 
       second_far : Are (IsFarItem Far c usage) second
-      second_far = subst (Are (IsFarItem Far c usage)) (sym second_spread) (answers_far c usage those me tape far.answers middle_tape middle_onward far.far middle_far)
+      second_far = subst (Are (IsFarItem Far c usage)) (sym second_spread) (answers_far c usage those me tape far.answers middle_tape middle_within far.far middle_far)
 
-      third_onward : (x : OpId) → Onward x tape third
-      third_onward x = onward_then x tape second third (second_onward x) (onward_sent x count made.sends second)
+      third_within : (x : OpId) → Within x tape third
+      third_within x = within_then x tape second third (second_within x) (within_sent x count made.sends second)
+
+      may_act : (event' : Event) → MayBegin c usage me event' → MayAct s event'
+      may_act (Tick clock) allowed = tt
+      may_act (Take m) allowed = tt
+      may_act (Begin request text) allowed = allowed.0
+
+      said : Each (λ (o : Operation). Said now.tape made.sends o.id (group_in o.phase)) (made.node).open_operations
+      said = step_said s now.tape node event (may_act event may) (each_zip (HeldAt c usage now me) (OpenAt c now.tape) (OpenSaid s now.tape)
+          (λ x held k. record { spoken = k.spoken; full = full_in c me now.tape x.id x.request x.phase held.node k.far }) node.open_operations (g.node me).held (q.opens me))
 
       steps_far : AllFar c usage third those
       steps_far = record {
-        items = sends_far c usage tape count made.sends second second_onward far.sends second_far;
+        items = sends_far c usage tape count made.sends second second_within far.sends second_far;
         opens = by_node (λ v x. Each (OpenAt c third) x.open_operations) now.node me made.node
-            (each_on (OpenAt c tape) (OpenAt c third) (λ x k. phase_on Far enough c x.id tape third (third_onward x.id) x.request x.phase k) (made.node).open_operations far.opens)
-            (λ v apart. each_zip (HeldAt c usage now v) (OpenAt c now.tape) (OpenAt c third) (λ x held k. phase_on Far enough c x.id now.tape third (onward_then x.id now.tape tape third (opens_onward v x held) (third_onward x.id)) x.request x.phase k)
-            (now.node v).open_operations (g.node v).held (q.opens v));
+            (each_zip (PhaseAt c tape) (λ x. Said now.tape made.sends x.id (group_in x.phase)) (OpenAt c third) (λ x k says. record {
+              far = phase_on Far enough c x.id tape third (third_within x.id).onward x.request x.phase ((third_within x.id).keeps (group_in x.phase)) k;
+              spoken = said_spoken now.tape second x.id (group_in x.phase) count made.sends now_second says;
+            }) (made.node).open_operations far.opens said)
+            (λ v apart. each_zip (HeldAt c usage now v) (OpenAt c now.tape) (OpenAt c third)
+            (λ x held k. open_on c x now.tape third (onward_then x.id now.tape tape third (opens_onward v x held) (third_within x.id).onward) now_third k) (now.node v).open_operations (g.node v).held (q.opens v));
       }
 
     cuts_far : (h : Meanings) (now : Standing) (me : ℕ) (item : Item) (event : Event) → Good (those_of usage) c now → Occurs now.tape (setting c h me) (now.node me).met item event → AllFar c usage now.tape now.node
@@ -352,8 +414,9 @@ module _ (Far : List Item → OpId → GroupId → ℕ → Type 0) (enough : Suf
     cuts_far h now me item event g o q = record {
       items = (tt, (own_far c usage now.tape item (occurs_own now.tape (setting c h me) (now.node me).met item event o), q.items));
       opens = by_node (λ v x. Each (OpenAt c (Crash (number me) ∷ item ∷ now.tape)) x.open_operations) now.node me (down (met_in (setting c h me) (now.node me).met event) (now.node me)) tt
-          (λ v apart. each_zip (HeldAt c usage now v) (OpenAt c now.tape) (OpenAt c (Crash (number me) ∷ item ∷ now.tape)) (λ x held k. phase_on Far enough c x.id now.tape (Crash (number me) ∷ item ∷ now.tape)
-          (onward_then x.id now.tape (item ∷ now.tape) (Crash (number me) ∷ item ∷ now.tape) (own_onward usage (setting c h me) now item event g o v x held) (onward_item x.id (item ∷ now.tape) (Crash (number me)) tt)) x.request x.phase k)
+          (λ v apart. each_zip (HeldAt c usage now v) (OpenAt c now.tape) (OpenAt c (Crash (number me) ∷ item ∷ now.tape)) (λ x held k. open_on c x now.tape (Crash (number me) ∷ item ∷ now.tape)
+          (onward_then x.id now.tape (item ∷ now.tape) (Crash (number me) ∷ item ∷ now.tape) (own_onward usage (setting c h me) now item event g o v x held) (onward_item x.id (item ∷ now.tape) (Crash (number me)) tt))
+          (one_later now.tape (item ∷ now.tape) (Crash (number me)) (one_later now.tape now.tape item (now_is now.tape))) k)
           (now.node v).open_operations (g.node v).held (q.opens v));
     }
 
@@ -363,7 +426,7 @@ module _ (Far : List Item → OpId → GroupId → ℕ → Type 0) (enough : Suf
     starts_far h now me count g q = record {
       items = mute_far c usage those me items now.tape mute q.items;
       opens = by_node (λ v x. Each (OpenAt c later) x.open_operations) now.node me (start (setting c h me) count (now.owed me) (now.node me).met) tt
-          (λ v apart. each_on (OpenAt c now.tape) (OpenAt c later) (λ x k. phase_on Far enough c x.id now.tape later (onward_items x.id c those (flat_map (shown me) items) now.tape (later_shown me items (mute_later items mute))) x.request x.phase k) (now.node v).open_operations (q.opens v));
+          (λ v apart. each_on (OpenAt c now.tape) (OpenAt c later) (λ x k. open_on c x now.tape later (onward_items x.id c those (flat_map (shown me) items) now.tape (later_shown me items (mute_later items mute))) (items_later c those (flat_map (shown me) items) now.tape) k) (now.node v).open_operations (q.opens v));
     }
       where
         those : ℕ → Node
@@ -386,13 +449,13 @@ module _ (Far : List Item → OpId → GroupId → ℕ → Type 0) (enough : Suf
     falls_far now me q = record {
       items = (tt, q.items);
       opens = by_node (λ v x. Each (OpenAt c (Crash (number me) ∷ now.tape)) x.open_operations) now.node me (crashed (now.node me)) tt
-          (λ v apart. each_on (OpenAt c now.tape) (OpenAt c (Crash (number me) ∷ now.tape)) (λ x k. phase_on Far enough c x.id now.tape (Crash (number me) ∷ now.tape) (onward_item x.id now.tape (Crash (number me)) tt) x.request x.phase k) (now.node v).open_operations (q.opens v));
+          (λ v apart. each_on (OpenAt c now.tape) (OpenAt c (Crash (number me) ∷ now.tape)) (λ x k. open_on c x now.tape (Crash (number me) ∷ now.tape) (onward_item x.id now.tape (Crash (number me)) tt) (one_later now.tape now.tape (Crash (number me)) (now_is now.tape)) k) (now.node v).open_operations (q.opens v));
     }
 
     marks_far : (now : Standing) (item : Item) → IsMark item → AllFar c usage now.tape now.node → AllFar c usage (item ∷ now.tape) now.node
     marks_far now item is q = record {
       items = (mark_free item is, q.items);
-      opens = λ v. each_on (OpenAt c now.tape) (OpenAt c (item ∷ now.tape)) (λ x k. phase_on Far enough c x.id now.tape (item ∷ now.tape) (onward_item x.id now.tape item (mark_later item is)) x.request x.phase k) (now.node v).open_operations (q.opens v);
+      opens = λ v. each_on (OpenAt c now.tape) (OpenAt c (item ∷ now.tape)) (λ x k. open_on c x now.tape (item ∷ now.tape) (onward_item x.id now.tape item (mark_later item is)) (one_later now.tape now.tape item (now_is now.tape)) k) (now.node v).open_operations (q.opens v);
     }
       where
         mark_free : (x : Item) → IsMark x → IsFarItem Far c usage now.tape x

@@ -95,7 +95,7 @@ get_in (x ∷ xs) (suc k) less h = get_in xs k (omega (arith, less)) h
 less_one : (n most : ℕ) → nat_le 1 n ≡ true → nat_le n most ≡ true → n - 1 < most
 less_one n most low high = grind (arith, nat_tests)
 
-kind_full : (c : Cluster) (me : ℕ) (request : Request) (open_ones : List Operation) → is_node c me ≡ true → unless_missing open_ones (missing_kind request (kind_of c me)) ≡ None → needs_full request ≡ true → is_full c me ≡ true
+pub kind_full : (c : Cluster) (me : ℕ) (request : Request) (open_ones : List Operation) → is_node c me ≡ true → unless_missing open_ones (missing_kind request (kind_of c me)) ≡ None → needs_full request ≡ true → is_full c me ≡ true
 kind_full c me request open_ones node none needs = and_from (is_node c me) (runs (kind_of c me)) node (by (kind_of c me) refl none)
   where
     by_needs : (t : Bool) → t ≡ true → unless_missing open_ones (cond t (Some ReadOnly) None) ≡ None → false ≡ true
@@ -108,7 +108,7 @@ kind_full c me request open_ones node none needs = and_from (is_node c me) (runs
     by (Some ReadOnly) e k = by_needs (needs_full request) needs k
     by None e k = let parts = and_parts (nat_le 1 me) (nat_le me (length c.nodes)) node in absurd (get_in c.nodes (me - 1) (less_one me (length c.nodes) parts.0 parts.1) e)
 
-unworn : (worn : Bool) (other : Option Answer) → cond worn (Some Worn) other ≡ None → other ≡ None
+pub unworn : (worn : Bool) (other : Option Answer) → cond worn (Some Worn) other ≡ None → other ≡ None
 unworn true other h = cc
 unworn false other h = h
 

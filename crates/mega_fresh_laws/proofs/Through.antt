@@ -35,6 +35,7 @@ use Rattle.mega_leased_laws.proofs.Polls.{StagePolls, Tops, due_polls, hears_pol
 use Rattle.mega_fresh_laws.specs.Covering.{before_begin}
 use Rattle.mega_fresh_laws.proofs.Accepts.{IsAbove, SearchAbove, StageAbove}
 use Rattle.mega_fresh_laws.proofs.Moments.{Onward}
+use Rattle.mega_fresh_laws.proofs.Spoken.{Keeps, group_in}
 use Rattle.mega_fresh_laws.proofs.Enough.{Suffices}
 
 -- ---- what stood before a begin
@@ -139,13 +140,13 @@ module _ (Far : List Item → OpId → GroupId → ℕ → Type 0) (enough : Suf
   PhaseFar c tape op request (Reads group r) = (is_full c op.node.0 ≡ true) × (Of request group × StageFar c tape op group r.stage)
   PhaseFar c tape op request (Proposes group n asked proposal promised) = Far tape op group (n - 1)
 
-  stage_on : (c : Cluster) (op : OpId) (old new : List Item) → Onward op old new → (group : GroupId) (stage : Stage) → StageFar c old op group stage → StageFar c new op group stage
-  stage_on c op old new o group (Polling heard best at) h = (tt, tops_on c old new op group heard best o.stood h.1)
-  stage_on c op old new o group (Catching through search) h = enough.stays op old new o group through h
+  stage_on : (c : Cluster) (op : OpId) (old new : List Item) → Onward op old new → (group : GroupId) → Keeps op group old new → (stage : Stage) → StageFar c old op group stage → StageFar c new op group stage
+  stage_on c op old new o group k (Polling heard best at) h = (tt, tops_on c old new op group heard best o.stood h.1)
+  stage_on c op old new o group k (Catching through search) h = enough.stays op old new o group k through h
 
-  pub phase_on : (c : Cluster) (op : OpId) (old new : List Item) → Onward op old new → (request : Request) (phase : Phase) → PhaseFar c old op request phase → PhaseFar c new op request phase
-  phase_on c op old new o request (Reads group r) h = (h.0, ((h.1).0, stage_on c op old new o group r.stage (h.1).1))
-  phase_on c op old new o request (Proposes group n asked proposal promised) h = enough.stays op old new o group (n - 1) h
+  pub phase_on : (c : Cluster) (op : OpId) (old new : List Item) → Onward op old new → (request : Request) (phase : Phase) → Keeps op (group_in phase) old new → PhaseFar c old op request phase → PhaseFar c new op request phase
+  phase_on c op old new o request (Reads group r) k h = (h.0, ((h.1).0, stage_on c op old new o group k r.stage (h.1).1))
+  phase_on c op old new o request (Proposes group n asked proposal promised) k h = enough.stays op old new o group k (n - 1) h
 
   module _ (c : Cluster) (tape : List Item) (l : Lawful c tape) (q : ArePolls tape) (op : OpId) (group : GroupId) where
     pub hears_far : (r : Reading) (from now : ℕ) (body : Body) → StageFar c tape op group r.stage → Took tape (message from op.node.0 body) → StageFar c tape op group ((hears (who c op group) r from now body).reading).stage

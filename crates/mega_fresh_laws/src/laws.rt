@@ -20,6 +20,7 @@ ghost use Rattle.mega_leased_laws.specs.of_settled_laws.Covering.{Earlier};
 ghost use Rattle.mega_leased_laws.specs.of_valid_laws.Leases.{has_polled};
 ghost use Rattle.mega_leased_laws.specs.Items.{Are};
 ghost use Rattle.mega_fresh_laws.specs.Covering.{IsFreshItem};
+ghost use Rattle.mega_fresh_laws.specs.Picking.{ArePicksFresh};
 
 /// In every run a poll of a majority of the voters covers each position that was decided before its operation first asked about the group, whether leases are
 /// safe or not (CIDR 2011, current reads).
@@ -42,4 +43,10 @@ pub fn each_answer_and_proposal_is_fresh()
 /// whether leases are safe or not (CIDR 2011, current reads and transactions).
 pub fn runs_are_fresh()
     ensures { (c : Cluster) (usage : Usage) (first : Meanings) (events : List Happening) (tape : List Item) → length c.nodes ≤ 9 → c.cells ≤ 5 → IsRun c first events tape → Fits usage events → IsFresh c usage.meaning tape }
+{}
+
+/// And what an operation proposes as its own stands above each position of the group that was decided anywhere before the operation first spoke of the group, as long
+/// as leases are safe up to there: also of a pump that picked the group in a later step, and reads it locally (CIDR 2011, queues).
+pub fn picks_are_fresh()
+    ensures { (c : Cluster) (usage : Usage) (first : Meanings) (events : List Happening) (tape : List Item) → length c.nodes ≤ 9 → c.cells ≤ 5 → IsRun c first events tape → Fits usage events → ArePicksFresh tape }
 {}

@@ -10,7 +10,7 @@ use mega_meanings::BuiltIn;
 use mega_node::mega_server::Number;
 use mega_node::run_node;
 use std::alloc::Global;
-use std::test::Fail;
+use std::process::Abort;
 
 /// What a call came to: its status, what it wrote, its link, and its devices.
 #[derive(Drop)]
@@ -30,46 +30,59 @@ pub fn empty(alloc: Global) -> Pair<MemDisk> {
 }
 
 /// The number of records on a log device.
-pub fn records_on(alloc: Global, log: MemDisk) -> Result<u64, Fail> {
-    match Checkpoint::open(alloc, log) {
-        Ok(store) => Ok(store.count()),
-        Err(_) => Err(Fail::from("not opened")),
-    }
+pub fn records_on(rt: &impl Abort, alloc: Global, log: MemDisk) -> u64 {
+    let Ok(store) = Checkpoint::open(alloc, log) else {
+        panic!(rt; "not opened");
+    };
+    store.count()
 }
 
 /// The other end of a datagram: a node, or a client behind the letter `c`.
-fn peer_of(text: &str) -> Result<Peer, Fail> {
+fn peer_of(rt: &impl Abort, text: &str) -> Peer {
     match text.strip_prefix('c') {
-        Some(client) => Ok(Peer::Client(client.parse::<u32>()?)),
-        None => Ok(Peer::Node(NodeId(text.parse::<u8>()?))),
+        Some(client) => Peer::Client(client.parse::<u32>().expect(rt, "no client")),
+        None => Peer::Node(NodeId(text.parse::<u8>().expect(rt, "no node"))),
     }
 }
 
 /// The datagrams of a text, a line for each.
-pub fn datagrams(alloc: Global, text: &str) -> Result<Vec<Option<(Peer, Bytes)>>, Fail> {
+pub fn datagrams(rt: &impl Abort, alloc: Global, text: &str) -> Vec<Option<(Peer, Bytes)>> {
     let mut all = Vec::new(alloc);
     for line in text.lines() {
-        let (peer, hex) = line.split_once(' ').ok_or("no peer")?;
-        let bytes = hex::decode(alloc, hex.as_bytes())?;
-        all.push(Some((peer_of(peer)?, Bytes::from_vec(bytes))))?;
+        let item = datagram(rt, alloc, line);
+        all.push(Some(item)).expect(rt, "refused");
     }
-    Ok(all)
+    all
+}
+
+/// The datagram of a line.
+fn datagram(rt: &impl Abort, alloc: Global, line: &str) -> (Peer, Bytes) {
+    let Some((peer, hex)) = line.split_once(' ') else {
+        panic!(rt; "no peer");
+    };
+    let Ok(bytes) = hex::decode(alloc, hex.as_bytes()) else {
+        panic!(rt; "no bytes");
+    };
+    (peer_of(rt, peer), Bytes::from_vec(bytes))
 }
 
 /// What was sent to a node, as it comes to it from another.
 pub fn passed_on(
+    rt: &impl Abort,
     alloc: Global,
     sent: &[(Peer, Bytes)],
     from: u8,
     to: u8,
-) -> Result<Vec<Option<(Peer, Bytes)>>, Fail> {
+) -> Vec<Option<(Peer, Bytes)>> {
     let mut all = Vec::new(alloc);
     for one in sent {
         if is_node(one.0, to) {
-            all.push(Some((Peer::Node(NodeId(from)), one.1.copy(alloc)?)))?;
+            let bytes = one.1.copy(alloc).expect(rt, "refused");
+            all.push(Some((Peer::Node(NodeId(from)), bytes)))
+                .expect(rt, "refused");
         }
     }
-    Ok(all)
+    all
 }
 
 /// Whether this is a node of this number.
@@ -82,6 +95,7 @@ pub fn is_node(peer: Peer, number: u8) -> bool {
 
 /// Calls the node of this number, to which these datagrams come.
 pub fn call(
+    rt: &impl Abort,
     alloc: Global,
     number: u8,
     turns: u64,
@@ -89,11 +103,11 @@ pub fn call(
     coming: Vec<Option<(Peer, Bytes)>>,
     clock: MemClock,
     devices: Pair<MemDisk>,
-) -> Result<Called, Fail>
+) -> Called
     requires least { 1 ≤ number }
     requires most { number ≤ 9 }
 {
-    let header = Bytes::from_slice(alloc, header.as_bytes())?;
+    let header = Bytes::from_slice(alloc, header.as_bytes()).expect(rt, "refused");
     let mut input = MemSource::new(header.into_vec(), Vec::new(alloc));
     let mut out = MemSink::new(alloc, Vec::new(alloc));
     let mut link = MemLink::new(alloc, coming);
@@ -109,10 +123,11 @@ pub fn call(
         &mut clock,
         BuiltIn::new(),
     );
-    Ok(Called {
+    let text = Bytes::from_slice(alloc, out.bytes()).expect(rt, "refused");
+    Called {
         status: outcome.status(),
-        text: Bytes::from_slice(alloc, out.bytes())?,
+        text,
         link,
         devices: outcome.devices,
-    })
+    }
 }

@@ -12,7 +12,6 @@ use mega_node::mega_server::Number;
 use mega_node::run_node;
 use std::alloc::Global;
 use std::process::Abort;
-use std::test::Fail;
 
 /// Asserts the status of a call for no turn, and what it writes.
 fn check(
@@ -22,22 +21,21 @@ fn check(
     devices: Pair<MemDisk>,
     status: u8,
     text: &str,
-) -> Result<(), Fail> {
+) {
     let clock = MemClock::new(Vec::new(alloc));
-    let made = call(alloc, 2, 0, header, Vec::new(alloc), clock, devices)?;
+    let made = call(rt, alloc, 2, 0, header, Vec::new(alloc), clock, devices);
     assert_eq!(rt; made.status, status);
     assert_eq!(rt; made.text.as_slice(), text.as_bytes());
-    Ok(())
 }
 
 #[test]
-fn a_header_without_the_node_breaks_rule_3(rt: HostRuntime) -> Result<(), Fail> {
+fn a_header_without_the_node_breaks_rule_3(rt: HostRuntime) {
     let alloc = rt.alloc();
-    check(&rt, alloc, samples::ONE, empty(alloc), 3, "header 3\n")
+    check(&rt, alloc, samples::ONE, empty(alloc), 3, "header 3\n");
 }
 
 #[test]
-fn a_header_without_an_address_for_each_node_breaks_rule_8(rt: HostRuntime) -> Result<(), Fail> {
+fn a_header_without_an_address_for_each_node_breaks_rule_8(rt: HostRuntime) {
     let alloc = rt.alloc();
     check(
         &rt,
@@ -46,33 +44,32 @@ fn a_header_without_an_address_for_each_node_breaks_rule_8(rt: HostRuntime) -> R
         empty(alloc),
         3,
         "header 8\n",
-    )
+    );
 }
 
 #[test]
-fn a_log_device_that_fails_ends_the_call(rt: HostRuntime) -> Result<(), Fail> {
+fn a_log_device_that_fails_ends_the_call(rt: HostRuntime) {
     let alloc = rt.alloc();
     let mut devices = empty(alloc);
     devices.log.fail_at(1);
-    check(&rt, alloc, samples::THREE, devices, 7, "")
+    check(&rt, alloc, samples::THREE, devices, 7, "");
 }
 
 #[test]
-fn a_record_of_no_format_ends_the_call(rt: HostRuntime) -> Result<(), Fail> {
+fn a_record_of_no_format_ends_the_call(rt: HostRuntime) {
     let alloc = rt.alloc();
     let mut devices = empty(alloc);
-    let bad = Bytes::from_slice(alloc, &[1, 0, 0, 0, 1, 255, 0])?;
-    match devices.log.write(0, bad.as_slice()) {
-        Ok(()) => {}
-        Err(_) => return Err(Fail::from("not written")),
-    }
-    check(&rt, alloc, samples::THREE, devices, 16, "")
+    devices
+        .log
+        .write(0, &[1, 0, 0, 0, 1, 255, 0])
+        .expect(&rt, "not written");
+    check(&rt, alloc, samples::THREE, devices, 16, "");
 }
 
 #[test]
-fn a_link_that_is_not_bound_ends_the_call(rt: HostRuntime) -> Result<(), Fail> {
+fn a_link_that_is_not_bound_ends_the_call(rt: HostRuntime) {
     let alloc = rt.alloc();
-    let header = Bytes::from_slice(alloc, samples::ONE.as_bytes())?;
+    let header = Bytes::from_slice(alloc, samples::ONE.as_bytes()).expect(&rt, "refused");
     let outcome = run_node(
         alloc,
         Number::new(1),
@@ -85,5 +82,4 @@ fn a_link_that_is_not_bound_ends_the_call(rt: HostRuntime) -> Result<(), Fail> {
         BuiltIn::new(),
     );
     assert_eq!(rt; outcome.status(), 9);
-    Ok(())
 }

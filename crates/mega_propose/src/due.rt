@@ -1,6 +1,7 @@
 //! What a round does at a tick where its last sending is due again.
-ghost use Rattle.std.specs.Prelude.{◌≡◌, [], IfOk, option_copied};
-ghost use Rattle.mega_propose.specs.Rounds.{asks, completes, due, is_due, settled, tells, told_in};
+ghost use Rattle.std.specs.Prelude.{◌≡◌, [], ◌∷◌, IfOk, option_copied};
+ghost use Rattle.mega_ballot.specs.Order.{zero_ballot};
+ghost use Rattle.mega_propose.specs.Rounds.{accept_to, asks, completes, due, is_due, settled, tells, told_in};
 ghost use Rattle.mega_propose.specs.declared.round.Round.TheVariants.{Waiting};
 
 use crate::moves::stays;
@@ -8,6 +9,7 @@ use crate::round::{Cover, Move, Proposal, Round, Site};
 use mega_ballot::Ballot;
 use mega_base::{Items, NoMemory};
 use mega_entry::Entry;
+use mega_wire::Message;
 use std::alloc::Global;
 
 /// Whether what was last sent at a clock is due again.
@@ -18,13 +20,21 @@ pub fn is_due(sent: u64, retry: u64, now: u64) -> bool
 }
 
 impl Site {
+    /// What is sent first: the leader alone is asked, at the ballot that all share.
+    fn sent_first(&self, alloc: Global, own: &Entry, leader: u8) -> Result<Items<Message>, NoMemory>
+        ensures { IfOk result (λ sends. sends ≡ accept_to self.now zero_ballot own.now leader ∷ []) }
+    {
+        let sent = self.accept_to(alloc, Ballot::ZERO, own, leader)?;
+        let mut sends = Items::new(alloc);
+        sends.push(sent)?;
+        Ok(sends)
+    }
+
     /// A round that begins with the position's leader, at the ballot that all share.
     pub fn asks(&self, alloc: Global, leader: u8, own: Entry, now: u64) -> Result<Move, NoMemory>
         ensures { IfOk result (λ made. made ≡ asks self.now leader own now) }
     {
-        let sent = self.accept_to(alloc, Ballot::ZERO, &own, leader)?;
-        let mut sends = Items::new(alloc);
-        sends.push(sent)?;
+        let sends = self.sent_first(alloc, &own, leader)?;
         let round = Round::Asking { leader, sent: now };
         Ok(Move {
             proposal: Proposal {

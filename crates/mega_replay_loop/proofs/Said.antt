@@ -19,7 +19,8 @@ Follows Says Then = (text : List ℕ) → Says text → Then text
 
 -- what follows of each text follows of this one
 stops_said : (report : Report) (c : Cluster) (lines : List (List ℕ)) (number : ℕ) (IsCause : List ℕ → Standing → Type 0) (Says Then : List ℕ → Type 0) → Follows Says Then → StopsAt report c lines number IsCause Says → StopsAt report c lines number IsCause Then
-stops_said report c lines number IsCause Says Then follows s = record { line = s.line; events = s.events; reaches = s.reaches; cause = s.cause; said = follows _ s.said }
+stops_said report c lines number IsCause Says Then follows (line, rest, d) =
+    (line, rest, record { done = d.done; events = d.events; replayed = d.replayed; all = d.all; said = (d.said.0, d.said.1, follows _ d.said.2) })
 
 pub done_said : (report : Report) (known : Option (List ℕ)) (Says Then : List ℕ → Type 0) → Follows Says Then → InputDone report known Says → InputDone report known Then
 done_said report None Says Then follows done = tt
@@ -29,8 +30,8 @@ done_said report (Some input) Says Then follows (c, lines, headed, d) =
 pub begun_said : (report : Report) (known : Option (List ℕ)) (Says Then : List ℕ → Type 0) → Follows Says Then → InputBegun report known Says → InputBegun report known Then
 begun_said report None Says Then follows begun = tt
 begun_said report (Some input) Says Then follows (inl said) = inl (follows [] said)
-begun_said report (Some input) Says Then follows (inr (c, lines, headed, d)) =
-    inr (c, lines, headed, record { done = d.done; rest = d.rest; events = d.events; replayed = d.replayed; all = d.all; said = follows _ d.said })
+begun_said report (Some input) Says Then follows (inr (c, lines, headed, (rest, d))) =
+    inr (c, lines, headed, (rest, record { done = d.done; events = d.events; replayed = d.replayed; all = d.all; said = follows _ d.said }))
 
 pub broken_said : (known : Option (List ℕ)) (rule : ℕ) (Says Then : List ℕ → Type 0) → Follows Says Then → InputBroken known rule Says → InputBroken known rule Then
 broken_said None rule Says Then follows broken = tt

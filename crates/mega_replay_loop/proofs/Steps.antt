@@ -18,7 +18,7 @@ use Rattle.mega_header.specs.Known.{Ends, Follows, Passes, TakesLine}
 use Rattle.mega_line_events.specs.Refusals.{IsPastLast, IsRefused}
 use Rattle.mega_replay_loop.specs.Known.{CutsLine, IsTooLong, LeftFails, LeftIsBegun, LeftIsDone, LeftRanOut, LeftStops, LeftStopsFor, StopsLine, StopsNext}
 use Rattle.mega_replay_output.specs.Progress.{Writes, WritesFront}
-use Rattle.mega_replay_loop.specs.Replaying.{AreRead, Reaches, in_order, text_at}
+use Rattle.mega_replay_loop.specs.Replaying.{AreRead, in_order, text_at}
 use Rattle.mega_line_events.specs.Running.{AllHappen, Happens, StandsAfter, Proceeds, stood}
 use Rattle.mega_replay_output.specs.Stops.{IsBeforeWriting, IsReadStop, IsWriteStop}
 use Rattle.mega_replay_output.specs.declared.status.Stop.{Stop}
@@ -141,21 +141,20 @@ end_written report c (Some start) tally count first now waiting later ran added 
 pub end_cut : (report : Report) (c : Cluster) (start : Option (List ℕ)) (tally : Tally) (count : ℕ) (first now : Option (List ℕ)) (waiting later : List ℕ) → LeftRanOut report c start tally count (Writes first now waiting)
     → later ≡ waiting → LeftIsBegun report c start (WritesFront first now later)
 end_cut report c None tally count first now waiting later ran same = tt
-end_cut report c (Some start) tally count first now waiting later ran same = record {
+end_cut report c (Some start) tally count first now waiting later ran same = ([], record {
   done = ran.done;
-  rest = [];
   events = ran.events;
   replayed = ran.replayed;
   all = ran.all;
   said = as_front first now later (text_at report c ran.events) (subst (λ (xs : List ℕ). Writes first now xs (text_at report c ran.events)) (sym same) ran.said);
-}
+})
 
 begun_with : (report : Report) (c : Cluster) (first now : Option (List ℕ)) (Says : List ℕ → Type 0) (done : List (List ℕ)) (events : List Happening) → CanStart c → AllHappen c done events → All HoldsItem (stood c events).tape → IsDoneTo first now done → Says (text_at report c events)
     → LeftIsBegun report c first Says
 begun_with report c None now Says done events can happen held left said = tt
 begun_with report c (Some first) None Says done events can happen held left said = absurd left
 begun_with report c (Some first) (Some now) Says done events can happen held left said =
-    record { done = done; rest = lines_of now; events = events; replayed = replayed c done events can happen held; all = left.0; said = said }
+    (lines_of now, record { done = done; events = events; replayed = replayed c done events can happen held; all = left.0; said = said })
 
 cut_here : (report : Report) (c : Cluster) (first now : Option (List ℕ)) (Says : List ℕ → Type 0) (world : World) (count : ℕ) (Is : List Item → Type 0) (ran : RanTo c first now world count Is) → Says (text_at report c ran.events) → LeftIsBegun report c first Says
 cut_here report c first now Says world count Is ran said = begun_with report c first now Says ran.done ran.events ran.after.starts ran.after.happen ran.after.held ran.left said
@@ -181,22 +180,20 @@ cut_line report c start left next line world other count Is first mid now waitin
     (front_on report c.schema first mid now waiting later (newest (stood c ran.events).tape) added before cut))
 
 -- the next line stops the run
-reached : (c : Cluster) (first now : List ℕ) (world : World) (count number : ℕ) (Is : List Item → Type 0) (line : List ℕ) (rest : List (List ℕ)) (ran : RanTo c (Some first) (Some now) world count Is) → lines_of now ≡ line ∷ rest
-    → number ≡ count + 1 → Reaches c (lines_of first) number line ran.events
-reached c first now world count number Is line rest ran is next =
-    record { done = ran.done; rest = rest; replayed = replayed c ran.done ran.events ran.after.starts ran.after.happen ran.after.held; all = ran.left.0 ∙ ap (in_order ran.done) is; counted = omega (arith, ran.counted) }
+counts : (c : Cluster) (first now : List ℕ) (world : World) (count number : ℕ) (Is : List Item → Type 0) (ran : RanTo c (Some first) (Some now) world count Is) → number ≡ count + 1 → number ≡ length ran.done + 1
+counts c first now world count number Is ran next = omega (arith, ran.counted)
 
 pub stopped : (report : Report) (c : Cluster) (first now : Option (List ℕ)) (IsCause : List ℕ → Standing → Type 0) (Says : List ℕ → Type 0) (world : World) (count number : ℕ) (Is : List Item → Type 0) (ran : RanTo c first now world count Is)
     → number ≡ count + 1 → StopsNext now (λ line. IsCause line (stood c ran.events)) → Says (text_at report c ran.events) → LeftStops report c first number IsCause Says
 stopped report c None now IsCause Says world count number Is ran next stops said = tt
 stopped report c (Some first) None IsCause Says world count number Is ran next stops said = absurd ran.left
-stopped report c (Some first) (Some now) IsCause Says world count number Is ran next stops said = record {
-  line = stops.0;
+stopped report c (Some first) (Some now) IsCause Says world count number Is ran next stops said = (stops.0, stops.1, record {
+  done = ran.done;
   events = ran.events;
-  reaches = reached c first now world count number Is stops.0 stops.1 ran stops.2 next;
-  cause = stops.3;
-  said = said;
-}
+  replayed = replayed c ran.done ran.events ran.after.starts ran.after.happen ran.after.held;
+  all = ran.left.0 ∙ ap (in_order ran.done) stops.2;
+  said = (counts c first now world count number Is ran next, stops.3, said);
+})
 
 pub stops_next : (now next : Option (List ℕ)) (IsCause : List ℕ → Type 0) (line : List ℕ) → Follows now next line → IsCause line → StopsNext now IsCause
 stops_next None next IsCause line follows cause = tt

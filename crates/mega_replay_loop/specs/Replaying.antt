@@ -30,56 +30,30 @@ pub record RanOut (report : Report) (c : Cluster) (lines : List (List ℕ)) (tal
   pub counted : count ≡ length done
   pub said : Says (text_at report c events)
 
--- all lines of the schedule were done, and this is said of what is written of their tape
-pub record IsDone (report : Report) (c : Cluster) (lines : List (List ℕ)) (Says : List ℕ → Type 0) : Type 0 where
+-- the lines of the schedule were done up to this rest, and this is said of them and of what happened
+pub record Does (c : Cluster) (lines rest : List (List ℕ)) (Says : List (List ℕ) → List Happening → Type 0) : Type 0 where
   pub done : List (List ℕ)
-  pub events : List Happening
-  pub replayed : Replayed c done events
-  pub all : lines ≡ in_order done []
-  pub said : Says (in_all report c.schema (newest (stood c events).tape) (length done))
-
--- these lines were done, and this is said of what was written so far
-pub record AreDone (report : Report) (c : Cluster) (lines : List (List ℕ)) (Says : List ℕ → Type 0) : Type 0 where
-  pub done : List (List ℕ)
-  pub events : List Happening
-  pub replayed : Replayed c done events
-  pub all : lines ≡ in_order done []
-  pub said : Says (text_at report c events)
-
--- some first lines of the schedule were done, and this is said of what was written so far
-pub record IsBegun (report : Report) (c : Cluster) (lines : List (List ℕ)) (Says : List ℕ → Type 0) : Type 0 where
-  pub done : List (List ℕ)
-  pub rest : List (List ℕ)
   pub events : List Happening
   pub replayed : Replayed c done events
   pub all : lines ≡ in_order done rest
-  pub said : Says (text_at report c events)
+  pub said : Says done events
 
--- the lines of the schedule before this one were done
-pub record Reaches (c : Cluster) (lines : List (List ℕ)) (number : ℕ) (line : List ℕ) (events : List Happening) : Type 0 where
-  pub done : List (List ℕ)
-  pub rest : List (List ℕ)
-  pub replayed : Replayed c done events
-  pub all : lines ≡ in_order done (line ∷ rest)
-  pub counted : number ≡ length done + 1
+-- all of them were done, and this is said of what is written of their tape
+abbrev pub IsDone : Report → Cluster → List (List ℕ) → (List ℕ → Type 0) → Type 0
+IsDone report c lines Says = Does c lines [] (λ done events. Says (in_all report c.schema (newest (stood c events).tape) (length done)))
 
--- this line stops the replay, for a cause that stands between it and the run so far
-pub record StopsAt (report : Report) (c : Cluster) (lines : List (List ℕ)) (number : ℕ) (IsCause : List ℕ → Standing → Type 0) (Says : List ℕ → Type 0) : Type 0 where
-  pub line : List ℕ
-  pub events : List Happening
-  pub reaches : Reaches c lines number line events
-  pub cause : IsCause line (stood c events)
-  pub said : Says (text_at report c events)
+-- or of what was written so far
+abbrev pub AreDone : Report → Cluster → List (List ℕ) → (List ℕ → Type 0) → Type 0
+AreDone report c lines Says = Does c lines [] (λ done events. Says (text_at report c events))
 
--- this line is no event, or its event is refused
-abbrev pub StopsSchedule : Report → Cluster → List (List ℕ) → ℕ → ℕ → (List ℕ → Type 0) → Type 0
-StopsSchedule report c lines number reason Says = StopsAt report c lines number (λ line now. event_of c.schema number line ≡ Err reason) Says
+-- some first ones were done
+abbrev pub IsBegun : Report → Cluster → List (List ℕ) → (List ℕ → Type 0) → Type 0
+IsBegun report c lines Says = (rest : List (List ℕ)) × Does c lines rest (λ done events. Says (text_at report c events))
 
-abbrev pub StopsRefused : Report → Cluster → List (List ℕ) → ℕ → ℕ → (List ℕ → Type 0) → Type 0
-StopsRefused report c lines number why Says = StopsAt report c lines number (λ line now. IsRefused c number line now why) Says
-
-abbrev pub StopsPastLast : Report → Cluster → List (List ℕ) → ℕ → (List ℕ → Type 0) → Type 0
-StopsPastLast report c lines number Says = StopsAt report c lines number (λ line now. IsPastLast c number line now) Says
+-- those before the line of this number were done, and that line stops the replay, for a cause that stands between it and the run so far
+abbrev pub StopsAt : Report → Cluster → List (List ℕ) → ℕ → (List ℕ → Standing → Type 0) → (List ℕ → Type 0) → Type 0
+StopsAt report c lines number IsCause Says = (line : List ℕ) × (rest : List (List ℕ)) × Does c lines (line ∷ rest) (λ done events.
+    (number ≡ length done + 1) × IsCause line (stood c events) × Says (text_at report c events))
 
 -- the input is a header, that reads as a cluster, and a schedule, and this is so of them
 abbrev pub HasParts : List ℕ → (Cluster → List (List ℕ) → Type 0) → Type 0
@@ -95,14 +69,14 @@ InputIsBroken input rule Says = (heading_of input ≡ Err rule) × Says []
 
 -- this line is no event
 abbrev pub InputIsNoEvent : Report → List ℕ → ℕ → ℕ → (List ℕ → Type 0) → Type 0
-InputIsNoEvent report input number reason Says = HasParts input (λ c lines. StopsSchedule report c lines number reason Says)
+InputIsNoEvent report input number reason Says = HasParts input (λ c lines. StopsAt report c lines number (λ line now. event_of c.schema number line ≡ Err reason) Says)
 
 -- the event of this line is refused
 abbrev pub InputIsRefused : Report → List ℕ → ℕ → ℕ → (List ℕ → Type 0) → Type 0
-InputIsRefused report input number why Says = HasParts input (λ c lines. StopsRefused report c lines number why Says)
+InputIsRefused report input number why Says = HasParts input (λ c lines. StopsAt report c lines number (λ line now. IsRefused c number line now why) Says)
 
 abbrev pub InputIsPastLast : Report → List ℕ → ℕ → (List ℕ → Type 0) → Type 0
-InputIsPastLast report input number Says = HasParts input (λ c lines. StopsPastLast report c lines number Says)
+InputIsPastLast report input number Says = HasParts input (λ c lines. StopsAt report c lines number (λ line now. IsPastLast c number line now) Says)
 
 -- this is said of no text, or some first lines were done
 abbrev pub InputIsBegun : Report → List ℕ → (List ℕ → Type 0) → Type 0

@@ -1,16 +1,16 @@
 //! Calls of a voter's logs that are drawn, and the small values in them.
-ghost use Rattle.std.specs.Prelude.{◌≤◌, ◌<◌, length, IfOk};
+ghost use Rattle.std.specs.Prelude.{◌≤◌, ◌<◌, length};
 ghost use Rattle.mega_base.specs.Codec.{IsNested};
 ghost use Rattle.mega_base.specs.Names.{IsNode, IsPositionIn};
 ghost use Rattle.mega_ballot.specs.Ballots.{IsBallot};
 ghost use Rattle.mega_entry.specs.Entries.{entry_text, IsEntry};
 
-use crate::crashes::entry;
 use mega_ballot::Ballot;
-use mega_base::{Bytes, Epoch, GroupId, NoMemory, NodeId, OpId, Position};
-use mega_entry::{Entry, EntryFault};
+use mega_base::{Bytes, Epoch, GroupId, NodeId, OpId, Position};
+use mega_entry::{Entry, decode};
 use mega_gen::DrawnNumbers;
 use std::alloc::Global;
+use std::process::Abort;
 
 /// What a call asks of the logs.
 #[derive(Clone, Copy, PartialEq, Eq, Debug, Drop)]
@@ -67,17 +67,30 @@ fn drawn_kind(draws: &mut DrawnNumbers) -> Kind {
     }
 }
 
+/// The group of this key.
+pub fn group_of(rt: &impl Abort, alloc: Global, key: &[u8]) -> GroupId
+    requires { length key.now ≤ 65536 }
+    ensures { length result.key ≤ 65536 }
+{
+    let Ok(key) = Bytes::from_slice(alloc, key) else {
+        panic!(rt; "refused");
+    };
+    let Ok(group) = GroupId::new(alloc, key) else {
+        panic!(rt; "refused");
+    };
+    group
+}
+
 /// A group: the key of the first is a prefix of that of the second.
-pub fn group(alloc: Global, number: u8) -> Result<GroupId, NoMemory>
-    ensures { IfOk result (λ group. length group.key ≤ 65536) }
+pub fn group(rt: &impl Abort, alloc: Global, number: u8) -> GroupId
+    ensures { length result.key ≤ 65536 }
 {
     let bytes = [b'a', b'b'];
-    let key = match number {
-        0 => Bytes::from_slice(alloc, &bytes[..1])?,
-        1 => Bytes::from_slice(alloc, &bytes)?,
-        _ => Bytes::from_slice(alloc, &bytes[1..])?,
-    };
-    GroupId::new(alloc, key)
+    match number {
+        0 => group_of(rt, alloc, &bytes[..1]),
+        1 => group_of(rt, alloc, &bytes),
+        _ => group_of(rt, alloc, &bytes[1..]),
+    }
 }
 
 pub fn position(number: u8) -> Position
@@ -118,18 +131,38 @@ pub fn epoch(number: u8) -> Epoch {
     }
 }
 
+/// The entry of this text.
+fn entry(rt: &impl Abort, alloc: Global, text: &[u8]) -> Entry
+    requires { length text.now ≤ 65536 }
+    ensures { IsNested 65536 entry_text IsEntry result }
+{
+    let Ok(entry) = decode(alloc, text) else {
+        panic!(rt; "refused");
+    };
+    entry
+}
+
+/// An entry with nothing in it and no id, whose next leader is this node.
+pub fn empty_entry(rt: &impl Abort, alloc: Global, leader: u8) -> Entry
+    ensures { IsNested 65536 entry_text IsEntry result }
+{
+    entry(
+        rt,
+        alloc,
+        &[1, 0, leader, 0, 0, 0, 0, 0, 0, 0, 0, 0, 0, 0, 0, 0, 0, 0, 0],
+    )
+}
+
 /// An entry with nothing in it: three of three leaders with no id, and three with an id.
-pub fn entry_of(alloc: Global, number: u8) -> Result<Entry, EntryFault>
-    ensures { IfOk result (IsNested 65536 entry_text IsEntry) }
+pub fn entry_of(rt: &impl Abort, alloc: Global, number: u8) -> Entry
+    ensures { IsNested 65536 entry_text IsEntry result }
 {
     let leader = 1 + number % 3;
     if number < 3 {
-        return entry(
-            alloc,
-            &[1, 0, leader, 0, 0, 0, 0, 0, 0, 0, 0, 0, 0, 0, 0, 0, 0, 0, 0],
-        );
+        return empty_entry(rt, alloc, leader);
     }
     entry(
+        rt,
         alloc,
         &[
             1, 1, 1, 0, 0, 0, 1, 0, 0, 0, 1, leader, 0, 0, 0, 0, 0, 0, 0, 0, 0, 0, 0, 0, 0, 0, 0, 0,

@@ -6,14 +6,15 @@ ghost use Rattle.mega_entry.specs.Entries.{entry_text, IsEntry};
 ghost use Rattle.mega_wal.specs.declared.item.JournalItem.TheVariants.{Accept, Promise};
 ghost use Rattle.mega_wal.specs.Items.{IsItem};
 
+use crate::calls::{empty_entry, group_of};
 use mega_ballot::Ballot;
-use mega_base::{Bytes, Copied, GroupId, NodeId, OpId, Position};
+use mega_base::{Copied, GroupId, NodeId, OpId, Position};
 use mega_disk::{Disk, MemDisk, Records};
-use mega_entry::{Entry, EntryFault, decode};
+use mega_entry::Entry;
 use mega_journal::Journal;
 use mega_wal::{LogFault, Logs};
 use std::alloc::Global;
-use std::test::Fail;
+use std::process::Abort;
 
 const PLACE: Position = Position(1);
 
@@ -30,15 +31,6 @@ fn ballot(round: u32) -> Ballot
             number: 1,
         },
     }
-}
-
-/// The entry of this text.
-pub fn entry(alloc: Global, text: &[u8]) -> Result<Entry, EntryFault>
-    requires { length text.now ≤ 65536 }
-    ensures { IfOk result (IsNested 65536 entry_text IsEntry) }
-{
-    let entry = decode(alloc, text)?;
-    Ok(entry)
 }
 
 /// The logs of a device; a device that refuses is handed back.
@@ -87,39 +79,43 @@ fn vote<R: Records>(
 
 /// Promises in odd rounds and accepts in even ones until a call is refused, and tells in which round it answered last.
 fn answered<R: Records>(
+    rt: &impl Abort,
     alloc: Global,
     logs: &mut Logs<R>,
     group: &GroupId,
     entry: &Entry,
-) -> Result<u32, Fail>
+) -> u32
     requires staged { logs.old.staged.items ≡ [] }
     requires group { length group.now.key ≤ 65536 }
     requires entry { IsNested 65536 entry_text IsEntry entry.now }
 {
     let mut last = 0;
     for round in 1..=6u32 {
-        let entry = entry.copy(alloc)?;
+        let Ok(entry) = entry.copy(alloc) else {
+            panic!(rt; "refused");
+        };
         let told = if round % 2 == 1 {
             prepare(alloc, logs, group, ballot(round))
         } else {
             vote(alloc, logs, group, ballot(round), entry)
         };
         if told.is_err() {
-            return Ok(last);
+            return last;
         }
         last = round;
     }
-    Ok(last)
+    last
 }
 
 /// The round in which a device with a fuse answered last, and the device.
 fn cut_at(
+    rt: &impl Abort,
     alloc: Global,
     calls: u64,
     image: u8,
     group: &GroupId,
     entry: &Entry,
-) -> Result<(u32, MemDisk), Fail>
+) -> (u32, MemDisk)
     requires group { length group.now.key ≤ 65536 }
     requires entry { IsNested 65536 entry_text IsEntry entry.now }
 {
@@ -127,10 +123,10 @@ fn cut_at(
     disk.fuse(calls, image);
     match opened(alloc, disk) {
         Ok(mut logs) => {
-            let last = answered(alloc, &mut logs, group, entry)?;
-            Ok((last, logs.close().close()))
+            let last = answered(rt, alloc, &mut logs, group, entry);
+            (last, logs.close().close())
         }
-        Err(disk) => Ok((0, disk)),
+        Err(disk) => (0, disk),
     }
 }
 
@@ -151,20 +147,16 @@ fn shown_on(alloc: Global, disk: MemDisk, group: &GroupId) -> (u32, u32) {
 }
 
 #[test]
-fn what_was_answered_stands_after_a_crash_at_any_call(rt: HostRuntime) -> Result<(), Fail> {
+fn what_was_answered_stands_after_a_crash_at_any_call(rt: HostRuntime) {
     let alloc = rt.alloc();
-    let group = GroupId::new(alloc, Bytes::from_slice(alloc, b"g")?)?;
-    let entry = entry(
-        alloc,
-        &[1, 0, 1, 0, 0, 0, 0, 0, 0, 0, 0, 0, 0, 0, 0, 0, 0, 0, 0],
-    )?;
+    let group = group_of(&rt, alloc, b"g");
+    let entry = empty_entry(&rt, alloc, 1);
     for calls in 0..40u64 {
         for image in 0..3u8 {
-            let (last, disk) = cut_at(alloc, calls, image, &group, &entry)?;
+            let (last, disk) = cut_at(&rt, alloc, calls, image, &group, &entry);
             let (shown, accepted) = shown_on(alloc, disk, &group);
             assert!(rt; shown >= last && shown - last <= 1, "{calls} {image}");
             assert_eq!(rt; accepted, shown - shown % 2, "{calls} {image}");
         }
     }
-    Ok(())
 }

@@ -1,29 +1,26 @@
 //! The rows of a node over three entries: a row, nothing, and two writes of which one deletes that row.
-use mega_base::{Bytes, GroupId, Items, NoMemory, NodeId, Position, Row};
+use crate::calls::group_of;
+use mega_base::{Bytes, GroupId, Items, NodeId, Position, Row};
 use mega_disk::{MemRecords, MemVersions, Versions};
 use mega_entry::{Content, Entry, Write};
 use mega_replica::{StoredRows, after_portion, after_read, applied, writes_through};
-use mega_wal::{LogFault, Logs};
+use mega_wal::Logs;
 use std::alloc::Global;
+use std::process::Abort;
 
 /// A write of an empty row, or a deletion.
-fn write(alloc: Global, key: &[u8], there: bool) -> Result<Write, NoMemory> {
-    let key = Bytes::from_slice(alloc, key)?;
+fn write(rt: &impl Abort, alloc: Global, key: &[u8], there: bool) -> Write {
+    let key = Bytes::from_slice(alloc, key).expect(rt, "refused");
     let row = if there {
-        Some(Row::new(alloc, Items::new(alloc))?)
+        Some(Row::new(alloc, Items::new(alloc)).expect(rt, "refused"))
     } else {
         None
     };
-    Ok(Write { key, row })
-}
-
-/// The group of these entries.
-fn group(alloc: Global) -> Result<GroupId, NoMemory> {
-    GroupId::new(alloc, Bytes::from_slice(alloc, b"g")?)
+    Write { key, row }
 }
 
 /// An entry of these writes.
-fn entry(alloc: Global, writes: Items<Write>) -> Result<Entry, NoMemory> {
+fn entry(rt: &impl Abort, alloc: Global, writes: Items<Write>) -> Entry {
     let content = Content {
         id: None,
         leader: NodeId(1),
@@ -33,31 +30,44 @@ fn entry(alloc: Global, writes: Items<Write>) -> Result<Entry, NoMemory> {
         handles: Items::new(alloc),
         cuts: Items::new(alloc),
     };
-    Entry::new(alloc, content)
+    Entry::new(alloc, content).expect(rt, "refused")
+}
+
+/// Logs over an empty list.
+fn fresh(rt: &impl Abort, alloc: Global) -> Logs<MemRecords> {
+    match Logs::open(alloc, MemRecords::new(alloc)) {
+        Ok(logs) => logs,
+        Err(_) => panic!(rt; "refused"),
+    }
 }
 
 /// Logs in which the three entries of the group are decided.
-fn decided(alloc: Global, group: &GroupId) -> Result<Logs<MemRecords>, LogFault> {
-    let mut logs = match Logs::open(alloc, MemRecords::new(alloc)) {
-        Ok(logs) => logs,
-        Err((fault, _)) => return Err(fault),
-    };
+fn decided(rt: &impl Abort, alloc: Global, group: &GroupId) -> Logs<MemRecords> {
+    let mut logs = fresh(rt, alloc);
     let mut first = Items::new(alloc);
-    first.push(write(alloc, b"a", true)?)?;
-    logs.decide(alloc, group, Position(1), entry(alloc, first)?)?;
-    logs.decide(alloc, group, Position(2), entry(alloc, Items::new(alloc))?)?;
+    first
+        .push(write(rt, alloc, b"a", true))
+        .expect(rt, "refused");
+    logs.decide(alloc, group, Position(1), entry(rt, alloc, first))
+        .expect(rt, "refused");
+    let none = entry(rt, alloc, Items::new(alloc));
+    logs.decide(alloc, group, Position(2), none)
+        .expect(rt, "refused");
     let mut last = Items::new(alloc);
-    last.push(write(alloc, b"b", true)?)?;
-    last.push(write(alloc, b"a", false)?)?;
-    logs.decide(alloc, group, Position(3), entry(alloc, last)?)?;
-    Ok(logs)
+    last.push(write(rt, alloc, b"b", true))
+        .expect(rt, "refused");
+    last.push(write(rt, alloc, b"a", false))
+        .expect(rt, "refused");
+    logs.decide(alloc, group, Position(3), entry(rt, alloc, last))
+        .expect(rt, "refused");
+    logs
 }
 
 #[test]
 fn entries_are_applied_when_all_their_writes_are_stored(rt: HostRuntime) {
     let alloc = rt.alloc();
-    let group = group(alloc).expect(&rt, "refused");
-    let logs = decided(alloc, &group).expect(&rt, "refused");
+    let group = group_of(&rt, alloc, b"g");
+    let logs = decided(&rt, alloc, &group);
     let mut stored = StoredRows::new(alloc, MemVersions::new(alloc));
     assert_eq!(rt; stored.applied(&group, &logs).0, 0);
     stored
@@ -77,8 +87,8 @@ fn entries_are_applied_when_all_their_writes_are_stored(rt: HostRuntime) {
 #[test]
 fn a_row_stands_at_the_position_of_its_entry(rt: HostRuntime) {
     let alloc = rt.alloc();
-    let group = group(alloc).expect(&rt, "refused");
-    let logs = decided(alloc, &group).expect(&rt, "refused");
+    let group = group_of(&rt, alloc, b"g");
+    let logs = decided(&rt, alloc, &group);
     let mut stored = StoredRows::new(alloc, MemVersions::new(alloc));
     stored
         .apply_through(alloc, &group, &logs, Position(3))
@@ -108,21 +118,23 @@ fn a_row_stands_at_the_position_of_its_entry(rt: HostRuntime) {
 }
 
 /// Entries with one, no and two deletions.
-fn log(alloc: Global) -> Result<Items<Entry>, NoMemory> {
+fn log(rt: &impl Abort, alloc: Global) -> Items<Entry> {
     let mut log = Items::new(alloc);
     for count in [1u8, 0, 2] {
         let mut writes = Items::new(alloc);
         for number in 0..count {
-            writes.push(write(alloc, &[number], false)?)?;
+            writes
+                .push(write(rt, alloc, &[number], false))
+                .expect(rt, "refused");
         }
-        log.push(entry(alloc, writes)?)?;
+        log.push(entry(rt, alloc, writes)).expect(rt, "refused");
     }
-    Ok(log)
+    log
 }
 
 #[test]
 fn writes_are_counted(rt: HostRuntime) {
-    let log = log(rt.alloc()).expect(&rt, "refused");
+    let log = log(&rt, rt.alloc());
     assert_eq!(rt; applied(log.as_slice(), 2), 2);
     assert_eq!(rt; writes_through(3, log.as_slice()), Some(3));
     assert_eq!(rt; after_portion(5, log.as_slice(), 1), Some(3));

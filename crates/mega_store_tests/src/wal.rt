@@ -1,18 +1,17 @@
 //! A voter's logs, opened again and compacted.
-ghost use Rattle.std.specs.Prelude.{◌≡◌, ◌≤◌, [], length, IfOk, OnOk};
-ghost use Rattle.mega_entry.specs.Entries.{entry_text, IsEntry};
-ghost use Rattle.mega_base.specs.Codec.{IsNested};
+ghost use Rattle.std.specs.Prelude.{◌≡◌, []};
 ghost use Rattle.mega_wal.specs.declared.item.JournalItem.TheVariants.{Accept, Promise};
 ghost use Rattle.mega_wal.specs.Compaction.{IsOfFormat};
 ghost use Rattle.mega_wal.specs.Items.{IsItem};
 
+use crate::calls::{empty_entry, group_of};
 use mega_ballot::Ballot;
 use mega_base::{Bytes, GroupId, NodeId, OpId, Position};
 use mega_disk::{MemRecords, Records};
-use mega_entry::{Entry, EntryFault, decode};
-use mega_wal::{LogFault, Logs, Promised, Voted};
+use mega_entry::Entry;
+use mega_wal::{Logs, Promised, Voted};
 use std::alloc::Global;
-use std::test::Fail;
+use std::process::Abort;
 
 const PLACE: Position = Position(1);
 
@@ -27,100 +26,102 @@ const FIRST: Ballot = Ballot {
     op: OF_ONE,
 };
 
-/// The entry of this text.
-fn entry(alloc: Global, text: &[u8]) -> Result<Entry, EntryFault>
-    requires { length text.now ≤ 65536 }
-    ensures { IfOk result (IsNested 65536 entry_text IsEntry) }
-{
-    let entry = decode(alloc, text)?;
-    Ok(entry)
-}
-
-/// An entry with nothing in it, whose next leader is this node.
-fn empty_entry(alloc: Global, leader: u8) -> Result<Entry, EntryFault>
-    ensures { IfOk result (IsNested 65536 entry_text IsEntry) }
-{
-    entry(
-        alloc,
-        &[1, 0, leader, 0, 0, 0, 0, 0, 0, 0, 0, 0, 0, 0, 0, 0, 0, 0, 0],
-    )
-}
-
 /// Logs over an empty list.
-fn fresh(alloc: Global) -> Result<Logs<MemRecords>, LogFault>
-    ensures staged { IfOk result (λ logs. logs.staged.items ≡ []) }
-    ensures format { IfOk result (λ logs. IsOfFormat logs.kept) }
+fn fresh(rt: &impl Abort, alloc: Global) -> Logs<MemRecords>
+    ensures staged { result.staged.items ≡ [] }
+    ensures format { IsOfFormat result.kept }
 {
-    match Logs::open(alloc, MemRecords::new(alloc)) {
-        Ok(logs) => Ok(logs),
-        Err((fault, _)) => Err(fault),
-    }
+    let Ok(logs) = Logs::open(alloc, MemRecords::new(alloc)) else {
+        panic!(rt; "refused");
+    };
+    logs
 }
 
 /// The same logs, opened again.
-fn reopened(alloc: Global, logs: Logs<MemRecords>) -> Result<Logs<MemRecords>, LogFault>
-    ensures { IfOk result (λ logs. logs.staged.items ≡ []) }
+fn reopened(rt: &impl Abort, alloc: Global, logs: Logs<MemRecords>) -> Logs<MemRecords>
+    ensures { result.staged.items ≡ [] }
 {
     let mut records = logs.close();
-    records.reopen()?;
-    match Logs::open(alloc, records) {
-        Ok(logs) => Ok(logs),
-        Err((fault, _)) => Err(fault),
-    }
+    records.reopen().expect(rt, "refused");
+    let Ok(logs) = Logs::open(alloc, records) else {
+        panic!(rt; "refused");
+    };
+    logs
 }
 
 /// Promises a ballot, and makes a record of it.
 fn prepare(
+    rt: &impl Abort,
     alloc: Global,
     logs: &mut Logs<MemRecords>,
     group: &GroupId,
     ballot: Ballot,
-) -> Result<Promised, LogFault>
+) -> Promised
     requires staged { logs.old.staged.items ≡ [] }
     requires item { IsItem (Promise group.now PLACE ballot) }
-    ensures { OnOk result (logs.new.staged.items ≡ []) }
+    ensures { logs.new.staged.items ≡ [] }
 {
-    let promised = logs.promise(alloc, group, PLACE, ballot)?;
-    logs.flush(alloc)?;
-    Ok(promised)
+    let Ok(promised) = logs.promise(alloc, group, PLACE, ballot) else {
+        panic!(rt; "refused");
+    };
+    let Ok(()) = logs.flush(alloc) else {
+        panic!(rt; "refused");
+    };
+    promised
 }
 
 /// Accepts an entry, and makes a record of it.
 fn vote(
+    rt: &impl Abort,
     alloc: Global,
     logs: &mut Logs<MemRecords>,
     group: &GroupId,
     ballot: Ballot,
     entry: Entry,
-) -> Result<Voted, LogFault>
+) -> Voted
     requires staged { logs.old.staged.items ≡ [] }
     requires item { IsItem (Accept group.now PLACE ballot entry) }
-    ensures { OnOk result (logs.new.staged.items ≡ []) }
+    ensures { logs.new.staged.items ≡ [] }
 {
-    let voted = logs.accept(alloc, group, PLACE, ballot, entry)?;
-    logs.flush(alloc)?;
-    Ok(voted)
+    let Ok(voted) = logs.accept(alloc, group, PLACE, ballot, entry) else {
+        panic!(rt; "refused");
+    };
+    let Ok(()) = logs.flush(alloc) else {
+        panic!(rt; "refused");
+    };
+    voted
 }
 
 /// Starts once more, and makes a record of it.
-fn start(alloc: Global, logs: &mut Logs<MemRecords>) -> Result<(), LogFault>
+fn start(rt: &impl Abort, alloc: Global, logs: &mut Logs<MemRecords>)
     requires staged { logs.old.staged.items ≡ [] }
     requires format { IsOfFormat logs.old.kept }
-    ensures staged { OnOk result (logs.new.staged.items ≡ []) }
-    ensures format { OnOk result (IsOfFormat logs.new.kept) }
+    ensures staged { logs.new.staged.items ≡ [] }
+    ensures format { IsOfFormat logs.new.kept }
 {
     if logs.starts() == u32::MAX {
-        return Ok(());
+        panic!(rt; "too many starts");
     }
-    logs.begin(alloc)?;
-    logs.flush(alloc)?;
-    Ok(())
+    let Ok(()) = logs.begin(alloc) else {
+        panic!(rt; "refused");
+    };
+    let Ok(()) = logs.flush(alloc) else {
+        panic!(rt; "refused");
+    };
 }
 
-/// The only record of these logs.
-fn only_record(mut records: MemRecords) -> Result<Vec<Bytes>, LogFault> {
-    records.reopen()?;
-    Ok(records.take_opened())
+/// The records of logs that were closed.
+fn records_of(rt: &impl Abort, mut records: MemRecords) -> Vec<Bytes> {
+    records.reopen().expect(rt, "refused");
+    records.take_opened()
+}
+
+/// The ballot that a voter shows, or zero.
+fn shown(voted: &Voted) -> Ballot {
+    match voted {
+        Voted::Shown(ballot) => *ballot,
+        _ => Ballot::ZERO,
+    }
 }
 
 /// The node that leads the next position by the other entry that a voter tells, or 0.
@@ -132,51 +133,46 @@ fn other_leader(voted: &Voted) -> u8 {
 }
 
 #[test]
-fn a_promise_stands_over_a_reopening(rt: HostRuntime) -> Result<(), Fail> {
+fn a_promise_stands_over_a_reopening(rt: HostRuntime) {
     let alloc = rt.alloc();
-    let group = GroupId::new(alloc, Bytes::from_slice(alloc, b"g")?)?;
-    let mut logs = fresh(alloc)?;
-    let promised = prepare(alloc, &mut logs, &group, FIRST)?;
+    let group = group_of(&rt, alloc, b"g");
+    let mut logs = fresh(&rt, alloc);
+    let promised = prepare(&rt, alloc, &mut logs, &group, FIRST);
     assert!(rt; matches!(promised, Promised::Yes(None)));
-    let mut logs = reopened(alloc, logs)?;
-    let entry = empty_entry(alloc, 1)?;
-    match vote(alloc, &mut logs, &group, Ballot::ZERO, entry)? {
-        Voted::Shown(shown) => assert_eq!(rt; shown, FIRST),
-        _ => assert!(rt; false),
-    }
-    Ok(())
+    let mut logs = reopened(&rt, alloc, logs);
+    let entry = empty_entry(&rt, alloc, 1);
+    let voted = vote(&rt, alloc, &mut logs, &group, Ballot::ZERO, entry);
+    assert_eq!(rt; shown(&voted), FIRST);
 }
 
 #[test]
-fn another_entry_at_zero_is_refused_over_a_reopening(rt: HostRuntime) -> Result<(), Fail> {
+fn another_entry_at_zero_is_refused_over_a_reopening(rt: HostRuntime) {
     let alloc = rt.alloc();
-    let group = GroupId::new(alloc, Bytes::from_slice(alloc, b"g")?)?;
-    let mut logs = fresh(alloc)?;
+    let group = group_of(&rt, alloc, b"g");
+    let mut logs = fresh(&rt, alloc);
     for (leader, other) in [(1, 0), (1, 0), (2, 1)] {
-        let entry = empty_entry(alloc, leader)?;
-        let voted = vote(alloc, &mut logs, &group, Ballot::ZERO, entry)?;
+        let entry = empty_entry(&rt, alloc, leader);
+        let voted = vote(&rt, alloc, &mut logs, &group, Ballot::ZERO, entry);
         assert_eq!(rt; other_leader(&voted), other);
-        logs = reopened(alloc, logs)?;
+        logs = reopened(&rt, alloc, logs);
     }
-    Ok(())
 }
 
 #[test]
-fn many_starts_become_one_record(rt: HostRuntime) -> Result<(), Fail> {
+fn many_starts_become_one_record(rt: HostRuntime) {
     let alloc = rt.alloc();
-    let mut logs = fresh(alloc)?;
+    let mut logs = fresh(&rt, alloc);
     for _ in 0..4096 {
-        start(alloc, &mut logs)?;
+        start(&rt, alloc, &mut logs);
     }
     assert!(rt; logs.due());
-    logs.compact(alloc)?;
+    logs.compact(alloc).expect(&rt, "refused");
     assert_eq!(rt; logs.starts(), 4096);
     assert_eq!(rt; logs.records(), 1);
-    for record in only_record(logs.close())? {
+    for record in records_of(&rt, logs.close()) {
         assert_eq!(rt;
             record.as_slice(),
             [0, 0, 0, 1, 7, 0, 0, 0x10, 0].as_slice()
         );
     }
-    Ok(())
 }

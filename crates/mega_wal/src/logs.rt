@@ -22,7 +22,7 @@ use std::alloc::Global;
 /// `flush` makes one record of what is staged. After any fault the logs are to be opened anew. What they keep is of the format
 /// where what is staged is.
 #[derive(Drop)]
-pub struct Logs<R: Records> {
+pub struct Logs<R> {
     pub(crate) records: R,
     pub(crate) kept: Kept,
     pub(crate) staged: Vec<JournalItem>,
