@@ -5,6 +5,7 @@ mod InTurn
 pub mod Unmoved
 mod Begun
 mod Turned
+mod Undue
 mod Beyond
 pub use Rattle.mega_answers.proofs.of_pumps as of_pumps
 pub use Rattle.mega_answers.proofs.of_marks as of_marks

@@ -29,7 +29,7 @@ module _ (s : Setting) (kept : Kept) (now : Now) (tells : Tells kept now.met) wh
   says_nothing before o =
       ap (λ (sends : List Message). goes_on s (record { met = now.met; stored = now.stored; kept = before; valid = now.valid; answers = now.answers; sends = sends }) o) (append-nil now.sends)
 
-  one_rests : (before : List Operation) (o : Operation) → Waits kept o → acts_in_turn s (with_kept before) (unheard o) ≡ with_kept (before ++ o ∷ [])
+  pub one_rests : (before : List Operation) (o : Operation) → Waits kept o → acts_in_turn s (with_kept before) (unheard o) ≡ with_kept (before ++ o ∷ [])
   one_rests before o waits = says_nothing before o ∙ (goes_on_acts s (with_kept before) o ∙ ap (later s (with_kept before)) (waits s (with_kept before) tells))
 
   rest_behind : (before os : List Operation) → All (Waits kept) os → fold (acts_in_turn s) (with_kept before) (map unheard os) ≡ with_kept (before ++ os)

@@ -4,6 +4,7 @@
 
 mod acting;
 mod beginning;
+mod idling;
 mod replica;
 mod resting;
 mod turning;

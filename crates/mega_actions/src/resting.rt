@@ -81,7 +81,7 @@ fn part<R: Records>(
 }
 
 /// Adds operations that stay open behind these, all together.
-fn add_all(
+pub(crate) fn add_all(
     alloc: Global,
     kept: &mut Items<Operation>,
     more: Items<Operation>,
