@@ -1,10 +1,9 @@
 -- An operation that acts again and again in a step, by the turns that it has left.
-use Rattle.std.proofs.Common.{◌≡◌, ◌∙◌, ◌++◌, ◌∷◌, [], ℕ, zero, suc, ◌+◌, ◌-◌, ◌<◌, ◌≤◌, length, Some, None, ap, refl, subst, sym, arith}
+use Rattle.std.proofs.Common.{◌≡◌, ◌∙◌, ◌++◌, ◌∷◌, [], ℕ, suc, ◌+◌, ◌-◌, ◌<◌, ◌≤◌, Some, None, ap, subst, sym, arith}
 use Rattle.mega_disk.specs.VersionMaps.{Versions}
 use Rattle.mega_handler.specs.Named.{Meanings}
 use Rattle.mega_answers.specs.of_node_laws.About.{IsAbout}
-use Rattle.mega_rules.specs.Acting.{ActsAgain, Next, Rests, acts, goes_on, keeps, rests_within}
-use Rattle.mega_rules.specs.Logs.{groups_of}
+use Rattle.mega_rules.specs.Acting.{ActsAgain, Rests, acts, goes_on, keeps, rests_within}
 use Rattle.mega_rules.specs.Operations.{Now, Operation, Setting}
 use Rattle.mega_actions.specs.declared.replica.Replica.{Replica}
 use Rattle.mega_answers.specs.of_step_work.declared.work.Work.{Work}
@@ -66,33 +65,3 @@ module _ {R V : Type 0} (version : V → Versions) (h : Meanings) (replica : Rep
 
   pub waits_work : (was made : Work) → made ≡ record was { kept = was.kept ++ o ∷ [] } → was ≡ work_of now → made ≡ work_of (goes_on s now o)
   waits_work was made pushed is = pushed ∙ ap (λ (work : Work). record work { kept = work.kept ++ o ∷ [] }) is ∙ ap work_of (sym waits_is)
-
--- one that acted again, and then on as often as there are groups
-module _ {R V : Type 0} (version : V → Versions) (h : Meanings) (mid new : Replica R V) (was between made : Work) (s t : Setting) (now before : Now) (o next : Operation) (same : t ≡ s)
-    (first : Acted version h mid was between now (acts s now o) (Some next))
-    (rest : Acted version h new between made first.after (Rests (rests_within (length (groups_of before.met)) t (ActsAgain first.after next))) None) where
-  pub acts_on : Acted version h new was made now (Rests (later s before (ActsAgain now o))) None
-  acts_on = record {
-    after = rest.after;
-    stands = rest.stands;
-    work = λ is. rest.work (first.work is);
-    about = tt;
-    leads =
-        ap (λ (came : Next). Rests (rests_within (length (groups_of before.met)) s came)) first.leads
-        ∙ (ap (λ (u : Setting). Rests (rests_within (length (groups_of before.met)) u (ActsAgain first.after next))) (sym same) ∙ rest.leads);
-  }
-
-rests_at : (n : ℕ) (s : Setting) (now : Now) → rests_within n s (Rests now) ≡ now
-rests_at zero s now = refl
-rests_at (suc n) s now = refl
-
--- or that acted again, and no more
-module _ {R V : Type 0} (version : V → Versions) (h : Meanings) (new : Replica R V) (was made : Work) (s : Setting) (now before : Now) (o : Operation) (only : Acted version h new was made now (acts s now o) None) where
-  pub acts_no_more : Acted version h new was made now (Rests (later s before (ActsAgain now o))) None
-  acts_no_more = record {
-    after = only.after;
-    stands = only.stands;
-    work = only.work;
-    about = tt;
-    leads = ap (λ (came : Next). Rests (rests_within (length (groups_of before.met)) s came)) only.leads ∙ ap Rests (rests_at (length (groups_of before.met)) s only.after);
-  }

@@ -3,7 +3,6 @@ pub mod IsAt
 pub mod Leaves
 pub mod Turns
 pub mod Waiting
-pub mod Idle
 pub mod Acted
 pub mod Later
 pub use Rattle.mega_answers.specs as of_answers

@@ -1,13 +1,12 @@
 //! What an operation does that acts: it reads, seeks, finishes or ends.
-ghost use Rattle.std.specs.Prelude.{◌≡◌, ◌≤◌, ◌+◌, ◌<◌, ◌^◌, List, length, nat_le, IfOk, OnOk, OnErr, Err, None, false, true};
+ghost use Rattle.std.specs.Prelude.{◌≡◌, ◌≤◌, ◌+◌, ◌<◌, ◌^◌, nat_le, IfOk, OnOk, OnErr, Err, None, false, true};
 ghost use Rattle.mega_handler.specs.Named.{Meanings};
 ghost use Rattle.mega_meanings.specs.Means.{Means};
 ghost use Rattle.mega_answers.specs.of_node_laws.About.{IsAbout, IsOf};
 ghost use Rattle.mega_answers.specs.of_operations.Whole.{whole};
 ghost use Rattle.mega_answers.specs.of_operations.Phases.{promised_of};
 ghost use Rattle.mega_rules.specs.Clock.{clock_of};
-ghost use Rattle.mega_rules.specs.Logs.{decided, groups_of, log_of, prefix_of};
-ghost use Rattle.mega_rules.specs.Met.{Met};
+ghost use Rattle.mega_rules.specs.Logs.{decided, log_of, prefix_of};
 ghost use Rattle.mega_rules.specs.Operations.{Now, Proposes, Reads, Setting};
 ghost use Rattle.mega_rules.specs.Acting.{ActsAgain, Rests, acts, completes_read, finishes, goes_on, keeps, reader_of, reads_on, rests_within, seeks_on, unless_decided};
 ghost use Rattle.mega_replica.specs.Applying.{applied};
@@ -93,17 +92,6 @@ fn seeks(
     }
 }
 
-/// Whether nothing is decided at a position of a group: mostly since nothing is so far, which the marks of the group tell.
-fn is_undecided<R: Records>(voter: &Voter<R>, group: &GroupId, position: u64) -> bool
-    ensures { result ≡ true → (met : List Met) → Tells voter.now.logs.kept met → decided met group.now position ≡ None }
-{
-    let newest = voter.newest(group).0;
-    if newest < position {
-        return true;
-    }
-    voter.decided(group, Position(position)).is_none()
-}
-
 /// Whether an operation that acts stays as it is: it does not know through where it reads, or its position is not decided.
 pub(crate) fn stays<R: Records>(voter: &Voter<R>, operation: &Operation) -> bool
     ensures { result ≡ true → (s : Setting) (now : Now) → Tells voter.now.logs.kept now.met → acts s now operation.now ≡ Rests (keeps now operation.now) }
@@ -114,7 +102,7 @@ pub(crate) fn stays<R: Records>(voter: &Voter<R>, operation: &Operation) -> bool
             group,
             position,
             ..
-        } => is_undecided(voter, group, *position),
+        } => voter.decided(group, Position(*position)).is_none(),
     }
 }
 
@@ -396,7 +384,6 @@ impl<R: Records, V: Versions> Replica<R, V> {
     }
 
     /// A pump that picked again acts again, at most as often as there are groups, and once more.
-    #[tactic(auto, using(mega_replica::proofs::Using::used_here, mega_answers::proofs::Refused::used_unkept))]
     fn acts_again<H: QueueHandlers>(
         &mut self,
         alloc: Global,
@@ -410,33 +397,9 @@ impl<R: Records, V: Versions> Replica<R, V> {
         ensures leaves { Leaves V.Versions (failed_by result) (H.meant handlers.old) (H.meant handlers.new) self.old self.new }
         ensures unserved { result ≡ Err Unserved → is_open operation.request ≡ false }
     {
-        match self.acts_once(alloc, handlers, work, operation) {
-            Ok(Some(next)) => {
-                self.acts_still(alloc, handlers, work, next)?;
-                Ok(())
-            }
-            Ok(None) => Ok(()),
-            Err(fault) => Err(fault),
-        }
-    }
-
-    /// A pump that picked once more acts on, at most as often as there are groups: few come so far, so they are counted here.
-    fn acts_still<H: QueueHandlers>(
-        &mut self,
-        alloc: Global,
-        handlers: &mut H,
-        work: &mut Work,
-        operation: Operation,
-    ) -> Result<(), ActFault>
-        ensures acted { OnOk result ((h : Meanings) (now before : Now) → V.is_told ≡ true → Means (H.meant handlers.old) h → IsAbout operation → Tells self.old.voter.logs.kept before.met →
-            IsAt V.version h self.old now.met now.stored →
-            Acted V.version h self.new work.old work.new now (Rests (rests_within (length (groups_of before.met)) (setting_of self.old h) (ActsAgain now operation))) None) }
-        ensures leaves { Leaves V.Versions (failed_by result) (H.meant handlers.old) (H.meant handlers.new) self.old self.new }
-        ensures unserved { result ≡ Err Unserved → is_open operation.request ≡ false }
-    {
         match self.voter.groups(alloc) {
             Ok(groups) => {
-                let most = groups.as_slice().len();
+                let most = groups.as_slice().len() + 1;
                 self.acts_within(alloc, handlers, work, most, operation)?;
                 Ok(())
             }

@@ -4,7 +4,6 @@
 
 mod acting;
 mod beginning;
-mod idling;
 mod replica;
 mod resting;
 mod turning;

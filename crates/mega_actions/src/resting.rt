@@ -1,10 +1,11 @@
-//! Operations that heard nothing act one after another; those that only wait stay where they are.
-ghost use Rattle.std.specs.Prelude.{◌≡◌, ◌≤◌, ◌++◌, All, length, map, take, true, IfOk, OnOk, Err};
+//! Operations that heard nothing act one after another; where all of them only wait, they stay where they are.
+ghost use Rattle.std.specs.Prelude.{◌≡◌, ℕ, [], List, All, map, true, IfOk, OnOk, Err};
+ghost use Rattle.mega_base.specs.declared.names.GroupId.{GroupId as Group};
 ghost use Rattle.mega_handler.specs.Named.{Meanings};
 ghost use Rattle.mega_meanings.specs.Means.{Means};
 ghost use Rattle.mega_answers.specs.of_node_laws.About.{IsAbout};
-ghost use Rattle.mega_rules.specs.Operations.{Now};
-ghost use Rattle.mega_rules.specs.Steps.{all_act};
+ghost use Rattle.mega_rules.specs.Met.{Met};
+ghost use Rattle.mega_rules.specs.Steps.{all_act, at_first};
 ghost use Rattle.mega_answers.specs.declared.fault.ActFault.TheVariants.{Unserved};
 ghost use Rattle.mega_answers.specs.Faults.{failed_by};
 ghost use Rattle.mega_actions.specs.IsAt.{IsAt, setting_of};
@@ -23,36 +24,37 @@ use mega_base::{Items, NoMemory};
 use mega_disk::{Records, Versions};
 use mega_meanings::QueueHandlers;
 use std::alloc::Global;
-use std::mem;
 
-/// Operations that heard nothing: those that only wait, before the first that does more, and the others.
-#[derive(Drop)]
-struct Parted {
-    waiting: Items<Operation>,
-    others: Items<Heard>,
-}
-
-/// How many of these operations only wait, before the first that does more.
-fn waits_before<R: Records>(voter: &Voter<R>, operations: &[Operation]) -> usize
-    ensures within { result ≤ length operations.now }
-    ensures each { All (Waits voter.now.logs.kept) (take result operations.now) }
+/// Whether all of these operations only wait.
+fn are_waiting<R: Records>(voter: &Voter<R>, operations: &[Operation]) -> bool
+    ensures { result ≡ true → All (Waits voter.now.logs.kept) operations.now }
 {
-    let mut count = 0;
     for operation in operations {
         if !stays(voter, operation) {
-            return count;
+            return false;
         }
-        count += 1;
     }
-    count
+    true
+}
+
+/// A step that has come to these operations, which stay open.
+fn at_rest(alloc: Global, operations: Items<Operation>) -> Work
+    ensures { result ≡ record { kept = operations; valid = []; answers = []; sends = [] } }
+{
+    Work {
+        kept: operations,
+        valid: Items::new(alloc),
+        answers: Items::new(alloc),
+        sends: Items::new(alloc),
+    }
 }
 
 /// Operations that heard nothing, and send nothing for it.
-fn unheard(alloc: Global, operations: Vec<Operation>) -> Result<Items<Heard>, NoMemory>
-    ensures { IfOk result (λ heard. heard ≡ map unheard operations.items) }
+fn unheard(alloc: Global, operations: Items<Operation>) -> Result<Items<Heard>, NoMemory>
+    ensures { IfOk result (λ heard. heard ≡ map unheard operations) }
 {
     let mut heard = Items::with_capacity(alloc, operations.len())?;
-    for operation in operations {
+    for operation in operations.into_vec() {
         heard.push(Heard {
             operation,
             sends: Items::new(alloc),
@@ -61,77 +63,32 @@ fn unheard(alloc: Global, operations: Vec<Operation>) -> Result<Items<Heard>, No
     Ok(heard)
 }
 
-/// Tells those of these operations apart that only wait, before the first that does more.
-fn part<R: Records>(
-    alloc: Global,
-    voter: &Voter<R>,
-    operations: Items<Operation>,
-) -> Result<Parted, NoMemory>
-    ensures waiting { IfOk result (λ made. All (Waits voter.now.logs.kept) made.waiting) }
-    ensures all { IfOk result (λ made. map unheard made.waiting ++ made.others ≡ map unheard operations) }
-{
-    let mut waiting = operations.into_vec();
-    let count = waits_before(voter, waiting.as_slice());
-    let rest = waiting.split_off(count)?;
-    let others = unheard(alloc, rest)?;
-    Ok(Parted {
-        waiting: Items::from_vec(waiting),
-        others,
-    })
-}
-
-/// Adds operations that stay open behind these, all together.
-pub(crate) fn add_all(
-    alloc: Global,
-    kept: &mut Items<Operation>,
-    more: Items<Operation>,
-) -> Result<(), NoMemory>
-    ensures { OnOk result (kept.new ≡ kept.old ++ more) }
-{
-    if kept.is_empty() {
-        *kept = more;
-        return Ok(());
-    }
-    let open = mem::replace(kept, Items::new(alloc));
-    let mut all = open.into_vec();
-    let mut others = more.into_vec();
-    all.append(&mut others)?;
-    *kept = Items::from_vec(all);
-    Ok(())
-}
-
 impl<R: Records, V: Versions> Replica<R, V> {
-    /// Operations that heard nothing act one after another, each on what those before it left. Most only wait: those before the
-    /// first that does more are kept together, and are not looked at again.
-    #[tactic(auto, using(mega_replica::proofs::Using::used_here, mega_answers::proofs::Refused::used_unkept))]
+    /// Operations that heard nothing act one after another, first in a step: what the step has come to then.
+    #[tactic(auto, using(mega_replica::proofs::Using::used_here))]
     pub fn all_rest<H: QueueHandlers>(
         &mut self,
         alloc: Global,
         handlers: &mut H,
-        work: &mut Work,
         operations: Items<Operation>,
-    ) -> Result<(), ActFault>
-        ensures state { OnOk result ((h : Meanings) (now : Now) → V.is_told ≡ true → Means (H.meant handlers.old) h → All IsAbout operations →
-            IsAt V.version h self.old now.met now.stored →
+    ) -> Result<Work, ActFault>
+        ensures state { OnOk result ((h : Meanings) (met : List Met) (stored : Group → ℕ) → V.is_told ≡ true → Means (H.meant handlers.old) h → All IsAbout operations →
+            IsAt V.version h self.old met stored →
             IsAt V.version h self.new
-            (all_act (setting_of self.old h) now (map unheard operations)).met (all_act (setting_of self.old h) now (map unheard operations)).stored) }
-        ensures work { OnOk result ((h : Meanings) (now : Now) → V.is_told ≡ true → Means (H.meant handlers.old) h → All IsAbout operations →
-            IsAt V.version h self.old now.met now.stored →
-            work.old ≡ work_of now → work.new ≡ work_of (all_act (setting_of self.old h) now (map unheard operations))) }
+            (all_act (setting_of self.old h) (at_first met stored) (map unheard operations)).met (all_act (setting_of self.old h) (at_first met stored) (map unheard operations)).stored) }
+        ensures work { IfOk result (λ work. (h : Meanings) (met : List Met) (stored : Group → ℕ) → V.is_told ≡ true → Means (H.meant handlers.old) h → All IsAbout operations →
+            IsAt V.version h self.old met stored →
+            work ≡ work_of (all_act (setting_of self.old h) (at_first met stored) (map unheard operations))) }
         ensures leaves { Leaves V.Versions (failed_by result) (H.meant handlers.old) (H.meant handlers.new) self.old self.new }
         ensures unserved { result ≡ Err Unserved → All IsServable operations → ⊥ }
     {
-        let parted = part(alloc, &self.voter, operations)?;
-        let Parted { waiting, others } = parted;
-        match add_all(alloc, &mut work.kept, waiting) {
-            Ok(()) => {
-                self.all_act(alloc, handlers, work, others)?;
-                Ok(())
-            }
-            Err(refused) => {
-                drop(others);
-                Err(refused.into())
-            }
+        // Most operations only wait, mostly all of them.
+        if are_waiting(&self.voter, operations.as_slice()) {
+            return Ok(at_rest(alloc, operations));
         }
+        let heard = unheard(alloc, operations)?;
+        let mut work = Work::new(alloc, heard.len())?;
+        self.all_act(alloc, handlers, &mut work, heard)?;
+        Ok(work)
     }
 }

@@ -13,9 +13,7 @@ ghost use Rattle.mega_actions.specs.Leaves.{Leaves};
 ghost use Rattle.mega_actions.specs.Turns.{IsServable, IsServableHeard, IsHeardAbout};
 ghost use Rattle.mega_answers.specs.of_step_work.Working.{work_of};
 
-use crate::idling::{Parting, part_idle};
 use crate::replica::Replica;
-use crate::resting::add_all;
 use mega_answers::ActFault;
 use mega_answers::mega_operations::{Heard, Operation};
 use mega_answers::mega_step_work::{Action, End, Work};
@@ -117,44 +115,9 @@ impl<R: Records, V: Versions> Replica<R, V> {
         Ok(())
     }
 
-    /// All open operations at a tick, one after another. Mostly nothing is due of them: those before the first that does more than
-    /// wait are kept together, as they are.
-    #[tactic(auto, using(mega_replica::proofs::Using::used_here, mega_answers::proofs::Refused::used_unkept))]
-    pub fn all_ticked<H: QueueHandlers>(
-        &mut self,
-        alloc: Global,
-        handlers: &mut H,
-        work: &mut Work,
-        clock: u64,
-        operations: Items<Operation>,
-    ) -> Result<(), ActFault>
-        ensures state { OnOk result ((h : Meanings) (now : Now) → V.is_told ≡ true → Means (H.meant handlers.old) h → All IsAbout operations →
-            IsAt V.version h self.old now.met now.stored →
-            IsAt V.version h self.new
-            (fold (ticked (setting_of self.old h) clock) now operations).met (fold (ticked (setting_of self.old h) clock) now operations).stored) }
-        ensures work { OnOk result ((h : Meanings) (now : Now) → V.is_told ≡ true → Means (H.meant handlers.old) h → All IsAbout operations →
-            IsAt V.version h self.old now.met now.stored →
-            work.old ≡ work_of now → work.new ≡ work_of (fold (ticked (setting_of self.old h) clock) now operations)) }
-        ensures leaves { Leaves V.Versions (failed_by result) (H.meant handlers.old) (H.meant handlers.new) self.old self.new }
-        ensures unserved { result ≡ Err Unserved → All IsServable operations → ⊥ }
-    {
-        let parted = part_idle(&self.voter, &self.members, clock, operations)?;
-        let Parting { idle, others } = parted;
-        match add_all(alloc, &mut work.kept, idle) {
-            Ok(()) => {
-                self.these_ticked(alloc, handlers, work, clock, others)?;
-                Ok(())
-            }
-            Err(refused) => {
-                drop(others);
-                Err(refused.into())
-            }
-        }
-    }
-
-    /// These operations at a tick, one after another.
+    /// All open operations at a tick, one after another.
     #[tactic(auto, using(mega_replica::proofs::Using::used_here))]
-    fn these_ticked<H: QueueHandlers>(
+    pub fn all_ticked<H: QueueHandlers>(
         &mut self,
         alloc: Global,
         handlers: &mut H,

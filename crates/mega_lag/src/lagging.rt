@@ -14,7 +14,7 @@ ghost use Rattle.mega_lag.specs.Lagging.{is_watched, lags};
 use mega_actions::Replica;
 use mega_base::{Copied, GroupId, Items, NoMemory};
 use mega_disk::{Records, Versions};
-use mega_step_parts::{Before, Note, apply_notes, is_behind};
+use mega_step_parts::{Before, Note, apply_notes};
 use std::alloc::Global;
 use std::collections::BTreeSet;
 
@@ -29,6 +29,15 @@ pub(crate) fn copies(alloc: Global, lagging: &BTreeSet<GroupId>) -> Result<Items
         groups.push(one)?;
     }
     Ok(groups)
+}
+
+/// Whether not all of a group is applied that is decided.
+fn is_behind<R: Records, V: Versions>(replica: &Replica<R, V>, group: &GroupId) -> bool
+    ensures { (met : List Met) (stored : Group → ℕ) →
+        Keeps replica.now.voter.logs.kept (V.version replica.now.rows.rows) (progress_at replica.now.rows.progress) met stored → result ≡ is_behind met stored group.now }
+{
+    let applied = replica.rows.applied(group, &replica.voter.logs);
+    applied.0 < replica.voter.prefix(group).0
 }
 
 /// A group lags.
@@ -58,7 +67,7 @@ fn keep_one<R: Records, V: Versions>(
         Keeps replica.now.voter.logs.kept (V.version replica.now.rows.rows) (progress_at replica.now.rows.progress) met stored →
         (other : Group) → lags lagging.new other ≡ (if is_group group.now other then is_behind met stored other else lags lagging.old other)) }
 {
-    if is_behind(&replica.voter, &replica.rows, group) {
+    if is_behind(replica, group) {
         put(alloc, lagging, group)?;
         return Ok(());
     }

@@ -11,7 +11,7 @@ ghost use Rattle.mega_rules.specs.Clock.{clock_of};
 ghost use Rattle.mega_rules.specs.Logs.{log_of};
 ghost use Rattle.mega_rules.specs.Members.{has_rows};
 ghost use Rattle.mega_rules.specs.Met.{Met};
-ghost use Rattle.mega_rules.specs.Operations.{Node as RuleNode, Now, Operation as Open, Setting};
+ghost use Rattle.mega_rules.specs.Operations.{Node as RuleNode, Operation as Open, Setting};
 ghost use Rattle.mega_rules.specs.Steps.{Take, all_act, at_first, decision_note, first_settled, hears_message, if_new, news, onto, stored_after, told_decision};
 ghost use Rattle.mega_replica.specs.Used.{StoreUsed};
 ghost use Rattle.mega_replica.specs.Following.{Follows, progress_at};
@@ -20,7 +20,7 @@ ghost use Rattle.mega_actions.specs.of_answers.declared.fault.ActFault.TheVarian
 ghost use Rattle.mega_actions.specs.of_answers.Faults.{failed_by as failed_to_act};
 ghost use Rattle.mega_actions.specs.IsAt.{IsAt, setting_of};
 ghost use Rattle.mega_actions.specs.Leaves.{Leaves};
-ghost use Rattle.mega_actions.specs.Turns.{IsServableHeard, IsHeardAbout, unheard};
+ghost use Rattle.mega_actions.specs.Turns.{IsServableHeard, IsHeardAbout};
 ghost use Rattle.mega_actions.specs.of_step_work.Working.{work_of};
 ghost use Rattle.mega_node_events.specs.declared.fault.StepFault.TheVariants.{Late, Stranger, Unserved};
 ghost use Rattle.mega_node_events.specs.Faults.{failed_by};
@@ -39,7 +39,7 @@ use mega_actions::mega_step_work::Work;
 use mega_base::{Items, NoMemory};
 use mega_disk::{Records, Versions};
 use mega_meanings::QueueHandlers;
-use mega_step_parts::mega_operations::{Heard, Members, Operation};
+use mega_step_parts::mega_operations::Members;
 use mega_step_parts::{
     Chosen, Listeners, Note, add_sends, decides, decision, has_rows, news_by, note_decision, stores,
 };
@@ -161,75 +161,6 @@ pub fn takes<R: Records, V: Versions>(
     Ok(made)
 }
 
-/// The operation acts that heard something, and then those behind it, each on what those before it left.
-#[tactic(auto, using(mega_replica::proofs::Using::used_here))]
-fn others_act<R: Records, V: Versions, H: QueueHandlers>(
-    alloc: Global,
-    handlers: &mut H,
-    replica: &mut Replica<R, V>,
-    work: &mut Work,
-    heard: Items<Heard>,
-    behind: Items<Operation>,
-) -> Result<(), ActFault>
-    ensures state { V.is_told ≡ true → OnOk result ((h : Meanings) (now : Now) → Means (H.meant handlers.old) h → All IsHeardAbout (heard ++ map unheard behind) →
-        IsAt V.version h replica.old now.met now.stored →
-        IsAt V.version h replica.new
-        (all_act (setting_of replica.old h) now (heard ++ map unheard behind)).met (all_act (setting_of replica.old h) now (heard ++ map unheard behind)).stored) }
-    ensures work { V.is_told ≡ true → OnOk result ((h : Meanings) (now : Now) → Means (H.meant handlers.old) h → All IsHeardAbout (heard ++ map unheard behind) →
-        IsAt V.version h replica.old now.met now.stored →
-        work.old ≡ work_of now → work.new ≡ work_of (all_act (setting_of replica.old h) now (heard ++ map unheard behind))) }
-    ensures leaves { Leaves V.Versions (failed_to_act result) (H.meant handlers.old) (H.meant handlers.new) replica.old replica.new }
-    ensures unserved { result ≡ Err act.Unserved → All IsServableHeard (heard ++ map unheard behind) → ⊥ }
-{
-    match replica.all_act(alloc, handlers, work, heard) {
-        Ok(()) => {
-            replica.all_rest(alloc, handlers, work, behind)?;
-            Ok(())
-        }
-        Err(fault) => {
-            drop(behind);
-            Err(fault)
-        }
-    }
-}
-
-/// The operations act on what they heard, one after another.
-#[tactic(auto, using(mega_replica::proofs::Using::used_here))]
-fn all_in_turn<R: Records, V: Versions, H: QueueHandlers>(
-    alloc: Global,
-    handlers: &mut H,
-    replica: &mut Replica<R, V>,
-    work: &mut Work,
-    heard: Listeners,
-) -> Result<(), ActFault>
-    ensures state { V.is_told ≡ true → OnOk result ((h : Meanings) (now : Now) → Means (H.meant handlers.old) h → All IsHeardAbout heard →
-        IsAt V.version h replica.old now.met now.stored →
-        IsAt V.version h replica.new
-        (all_act (setting_of replica.old h) now heard).met (all_act (setting_of replica.old h) now heard).stored) }
-    ensures work { V.is_told ≡ true → OnOk result ((h : Meanings) (now : Now) → Means (H.meant handlers.old) h → All IsHeardAbout heard →
-        IsAt V.version h replica.old now.met now.stored →
-        work.old ≡ work_of now → work.new ≡ work_of (all_act (setting_of replica.old h) now heard)) }
-    ensures leaves { Leaves V.Versions (failed_to_act result) (H.meant handlers.old) (H.meant handlers.new) replica.old replica.new }
-    ensures unserved { result ≡ Err act.Unserved → All IsServableHeard heard → ⊥ }
-{
-    let Listeners {
-        before,
-        heard,
-        behind,
-    } = heard;
-    match replica.all_rest(alloc, handlers, work, before) {
-        Ok(()) => {
-            others_act(alloc, handlers, replica, work, heard, behind)?;
-            Ok(())
-        }
-        Err(fault) => {
-            drop(heard);
-            drop(behind);
-            Err(fault)
-        }
-    }
-}
-
 /// The operations act on what they heard.
 #[tactic(auto, using(mega_replica::proofs::Using::used_here))]
 pub fn acts<R: Records, V: Versions, H: QueueHandlers>(
@@ -248,7 +179,15 @@ pub fn acts<R: Records, V: Versions, H: QueueHandlers>(
     ensures leaves { Leaves V.Versions (failed_to_act result) (H.meant handlers.old) (H.meant handlers.new) replica.old replica.new }
     ensures unserved { result ≡ Err act.Unserved → All IsServableHeard heard → ⊥ }
 {
-    let mut work = Work::new(alloc, 0)?;
-    all_in_turn(alloc, handlers, replica, &mut work, heard)?;
-    Ok(work)
+    let Listeners { unmoved, heard } = heard;
+    match replica.all_rest(alloc, handlers, unmoved) {
+        Ok(mut work) => {
+            replica.all_act(alloc, handlers, &mut work, heard)?;
+            Ok(work)
+        }
+        Err(fault) => {
+            drop(heard);
+            Err(fault)
+        }
+    }
 }

@@ -62,7 +62,7 @@ pub fn acts_ticked<R: Records, V: Versions, H: QueueHandlers>(
     ensures leaves { Leaves V.Versions (failed_to_act result) (H.meant handlers.old) (H.meant handlers.new) replica.old replica.new }
     ensures unserved { result ≡ Err act.Unserved → All IsServable operations → ⊥ }
 {
-    let mut work = Work::new(alloc, 0)?;
+    let mut work = Work::new(alloc, operations.len())?;
     replica.all_ticked(alloc, handlers, &mut work, now, operations)?;
     Ok(work)
 }

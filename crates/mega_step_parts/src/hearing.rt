@@ -1,5 +1,5 @@
 //! The open operations hear a message: only one that the message is for is changed by it.
-ghost use Rattle.std.specs.Prelude.{◌≡◌, ◌≤◌, ◌++◌, ◌∷◌, [], All, drop, length, map, take, IfOk, OnOk};
+ghost use Rattle.std.specs.Prelude.{◌≡◌, ◌≤◌, ◌++◌, ◌∷◌, [], All, length, map, take, IfOk, OnOk};
 ghost use Rattle.mega_rules.specs.Operations.{Setting};
 ghost use Rattle.mega_rules.specs.Steps.{hears_message};
 ghost use Rattle.mega_step_parts.specs.Listening.{IsPassedBy};
@@ -48,25 +48,6 @@ fn passed_by(operations: &[Operation], body: &Body) -> usize
     count
 }
 
-/// How many of these operations hear a message that is for the first of them: that one alone, but all where one behind it has the
-/// same id.
-fn how_many_hear(operations: &[Operation], body: &Body) -> usize
-    ensures within { result ≤ length operations.now }
-    ensures each { All (IsPassedBy body.now) (drop result operations.now) }
-{
-    match operations {
-        [] => 0,
-        [_, behind @ ..] => {
-            let passed = passed_by(behind, body);
-            let count = behind.len();
-            if passed == count {
-                return 1;
-            }
-            operations.len()
-        }
-    }
-}
-
 /// What these open operations come to when their node takes a message, at a clock.
 fn these_hear(
     alloc: Global,
@@ -84,7 +65,7 @@ fn these_hear(
     Ok(heard)
 }
 
-/// What the open operations come to when their node takes a message, at a clock. Those that it is not for are moved together.
+/// What the open operations come to when their node takes a message, at a clock.
 pub fn all_hear(
     alloc: Global,
     members: &Members,
@@ -94,15 +75,12 @@ pub fn all_hear(
 ) -> Result<Listeners, NoMemory>
     ensures { IfOk result (λ heard. (s : Setting) → s.cluster ≡ members.now → heard ≡ map (hears_message s clock message.now) operations) }
 {
-    let mut before = operations.into_vec();
-    let first = passed_by(before.as_slice(), &message.body);
-    let mut those = before.split_off(first)?;
-    let last = how_many_hear(those.as_slice(), &message.body);
-    let behind = those.split_off(last)?;
-    let heard = these_hear(alloc, members, clock, message, those)?;
+    let mut unmoved = operations.into_vec();
+    let count = passed_by(unmoved.as_slice(), &message.body);
+    let rest = unmoved.split_off(count)?;
+    let heard = these_hear(alloc, members, clock, message, rest)?;
     Ok(Listeners {
-        before: Items::from_vec(before),
+        unmoved: Items::from_vec(unmoved),
         heard,
-        behind: Items::from_vec(behind),
     })
 }

@@ -26,7 +26,7 @@ pub use joining::{add_sends, joined};
 pub use keeping::{as_notes, both, keep_notes, tell_all_sent};
 pub use listening::Listeners;
 pub use mega_kinds::{has_rows, is_voter, kind_of, missing_kind};
-pub use mega_step_choices::{is_behind, is_to_compact, is_to_spill};
+pub use mega_step_choices::{is_to_compact, is_to_spill};
 pub use mega_step_work;
 pub use mega_step_work::{mega_leases, mega_operations, mega_voter};
 pub use note::Note;

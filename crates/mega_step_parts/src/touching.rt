@@ -129,7 +129,7 @@ fn with_reach(
 }
 
 /// These groups, and those in which operations read through a position that hear nothing.
-fn with_unheard_reaches(
+fn with_unmoved_reaches(
     alloc: Global,
     groups: Items<GroupId>,
     operations: &[Operation],
@@ -159,7 +159,7 @@ fn with_heard_reaches(
 }
 
 /// These groups, and those in which operations read through a position.
-#[tactic(auto, using(crate::proofs::Parted::reached_of_all))]
+#[tactic(auto, using(crate::proofs::Parted::reached_of_both))]
 fn with_reaches(
     alloc: Global,
     groups: Items<GroupId>,
@@ -167,9 +167,8 @@ fn with_reaches(
 ) -> Result<Items<GroupId>, NoMemory>
     ensures { IfOk result (λ made. made ≡ fold with_reach groups heard.now) }
 {
-    let before = with_unheard_reaches(alloc, groups, heard.before.as_slice())?;
-    let some = with_heard_reaches(alloc, before, heard.heard.as_slice())?;
-    with_unheard_reaches(alloc, some, heard.behind.as_slice())
+    let first = with_unmoved_reaches(alloc, groups, heard.unmoved.as_slice())?;
+    with_heard_reaches(alloc, first, heard.heard.as_slice())
 }
 
 /// This group alone.
@@ -256,7 +255,7 @@ fn roams(operation: &Operation) -> bool
 }
 
 /// Whether such a pump is among operations that hear nothing.
-fn is_any_unheard_roaming(operations: &[Operation]) -> bool
+fn is_any_unmoved_roaming(operations: &[Operation]) -> bool
     ensures { result ≡ list_any (λ o. roams (unheard o)) operations.now }
 {
     operations.iter().any(|operation| roams(operation))
@@ -277,14 +276,12 @@ fn either(one: bool, other: bool) -> bool
 }
 
 /// Whether such a pump is among the operations.
-#[tactic(auto, using(crate::proofs::Parted::any_of_all))]
+#[tactic(auto, using(crate::proofs::Parted::any_of_both))]
 fn is_any_roaming(heard: &Listeners) -> bool
     ensures { result ≡ list_any roams heard.now }
 {
-    let before = is_any_unheard_roaming(heard.before.as_slice());
-    let some = is_any_heard_roaming(heard.heard.as_slice());
-    let behind = is_any_unheard_roaming(heard.behind.as_slice());
-    either(before, either(some, behind))
+    let unmoved = is_any_unmoved_roaming(heard.unmoved.as_slice());
+    either(unmoved, is_any_heard_roaming(heard.heard.as_slice()))
 }
 
 /// The group of the decision that a message brings, or all groups and that one.

@@ -1,39 +1,43 @@
-use Rattle.std.proofs.Common.{◌∙◌, List, All, ap, map, rules, subst, sym}
+use Rattle.std.proofs.Common.{◌∙◌, List, All, ap, rules, subst, sym}
 use Rattle.mega_rules.specs.Operations.{Now}
+use Rattle.mega_rules.specs.Steps.{Heard, all_act, at_first}
 use Rattle.mega_actions.specs.IsAt.{IsAt}
-use Rattle.mega_actions.specs.Turns.{IsHeardAbout, IsServableHeard, unheard}
+use Rattle.mega_actions.specs.Turns.{IsHeardAbout, IsServableHeard}
 use Rattle.mega_answers.specs.of_step_work.Settings.{setting}
 use Rattle.mega_answers.specs.of_step_work.Working.{work_of}
-use Rattle.mega_actions.proofs.Unmoved.{all_second, more_kept, rested, unheard_about, unheard_servable, with_more}
+use Rattle.mega_actions.specs.Waiting.{Waits}
+use Rattle.mega_actions.proofs.Unmoved.{all_rest_is, unheard_about, unheard_servable}
 use Rattle.mega_actions.proofs.replica.Replica.all_rest.Goals as goal
 
-pub returns-in_ok-all_act-in-Ok-clause-state : goal.returns-in_ok-all_act-in-Ok-clause-state
-returns-in_ok-all_act-in-Ok-clause-state g c h now told means about at =
-    let before = c.args.self.now in
-    let s = setting before.members before.me h in
-    let os = c.args.operations in
-    let waiting = c.in_ok-parted.parted.waiting in
-    let others = c.in_ok-parted.parted.others in
-    let all = c.in_ok-parted.ensures.all in
-    let rest = all_second IsHeardAbout (map unheard waiting) others (subst (All IsHeardAbout) (sym all) (unheard_about os about)) in
-    subst (λ (then : Now). IsAt g.V.Versions.version h c.all_act.new.self then.met then.stored)
-    (rested s before.voter.logs.kept now at.stands.tells waiting others os c.in_ok-parted.ensures.waiting all)
-    (c.in_ok-all_act-in-Ok.ensures.state h (with_more now waiting) told means rest at)
+pub returns-then-are_waiting-clause-state : goal.returns-then-are_waiting-clause-state
+returns-then-are_waiting-clause-state g c h met stored told means about at =
+    let s = setting c.args.self.now.members c.args.self.now.me h in
+    let rests = all_rest_is s c.args.self.now.voter.logs.kept met stored at.stands.tells c.args.operations (subst (All (Waits c.args.self.now.voter.logs.kept)) c.as_slice.ensures (c.are_waiting.ensures c.if-are_waiting.true)) in
+    subst (λ (then : Now). IsAt g.V.Versions.version h c.args.self.now then.met then.stored) (sym rests) at
 
-pub returns-in_ok-all_act-in-Ok-clause-work : goal.returns-in_ok-all_act-in-Ok-clause-work
-returns-in_ok-all_act-in-Ok-clause-work g c h now told means about at same =
-    let before = c.args.self.now in
-    let s = setting before.members before.me h in
-    let os = c.args.operations in
-    let waiting = c.in_ok-parted.parted.waiting in
-    let others = c.in_ok-parted.parted.others in
-    let all = c.in_ok-parted.ensures.all in
-    let rest = all_second IsHeardAbout (map unheard waiting) others (subst (All IsHeardAbout) (sym all) (unheard_about os about)) in
-    c.in_ok-all_act-in-Ok.ensures.work h (with_more now waiting) told means rest at (more_kept c.args.work.now c.add_all.new.kept now waiting c.in-Ok.ensures same)
-    ∙ ap work_of (rested s before.voter.logs.kept now at.stands.tells waiting others os c.in_ok-parted.ensures.waiting all)
+pub returns-then-are_waiting-clause-work : goal.returns-then-are_waiting-clause-work
+returns-then-are_waiting-clause-work g c h met stored told means about at =
+    let s = setting c.args.self.now.members c.args.self.now.me h in
+    let rests = all_rest_is s c.args.self.now.voter.logs.kept met stored at.stands.tells c.args.operations (subst (All (Waits c.args.self.now.voter.logs.kept)) c.as_slice.ensures (c.are_waiting.ensures c.if-are_waiting.true)) in
+    c.at_rest.ensures ∙ sym (ap work_of rests)
 
-pub returns-in_err-all_act-in-Ok-clause-unserved : goal.returns-in_err-all_act-in-Ok-clause-unserved
-returns-in_err-all_act-in-Ok-clause-unserved g c is every =
-    let all = c.in_ok-parted.ensures.all in
-    let served = all_second IsServableHeard (map unheard c.in_ok-parted.parted.waiting) c.in_ok-parted.parted.others (subst (All IsServableHeard) (sym all) (unheard_servable c.args.operations every)) in
+pub returns-clause-state : goal.returns-clause-state
+returns-clause-state g c h met stored told means about at =
+    let s = setting c.args.self.now.members c.args.self.now.me h in
+    let first = at_first met stored in
+    let is = c.in_ok-heard.ensures in
+    subst (λ (ts : List Heard). IsAt g.V.Versions.version h c.all_act.new.self (all_act s first ts).met (all_act s first ts).stored) is
+    (c.in_ok-all_act.ensures.state h first told means (subst (All IsHeardAbout) (sym is) (unheard_about c.args.operations about)) at)
+
+pub returns-clause-work : goal.returns-clause-work
+returns-clause-work g c h met stored told means about at =
+    let s = setting c.args.self.now.members c.args.self.now.me h in
+    let first = at_first met stored in
+    let is = c.in_ok-heard.ensures in
+    c.in_ok-all_act.ensures.work h first told means (subst (All IsHeardAbout) (sym is) (unheard_about c.args.operations about)) at c.in_ok-work.ensures
+    ∙ ap (λ (ts : List Heard). work_of (all_act s first ts)) is
+
+pub returns-in_err-all_act-clause-unserved : goal.returns-in_err-all_act-clause-unserved
+returns-in_err-all_act-clause-unserved g c is all =
+    let served = subst (All IsServableHeard) (sym c.in_ok-heard.ensures) (unheard_servable c.args.operations all) in
     c.all_act.ensures.unserved (search rules) served

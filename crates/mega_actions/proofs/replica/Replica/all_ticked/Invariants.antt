@@ -10,7 +10,7 @@ use Rattle.mega_actions.specs.IsAt.{IsAt, setting_of}
 use Rattle.mega_actions.specs.Leaves.{Leaves}
 use Rattle.mega_actions.specs.Turns.{IsServable}
 use Rattle.mega_answers.specs.of_step_work.Working.{work_of}
-use Rattle.mega_actions.proofs.replica.Replica.these_ticked.Given as goal
+use Rattle.mega_actions.proofs.replica.Replica.all_ticked.Given as goal
 
 abbrev pub invariant-loop-operation : goal.invariant-loop-operation
 invariant-loop-operation g l = record {
