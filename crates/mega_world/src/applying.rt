@@ -85,7 +85,9 @@ impl World {
         let mut added = Tape {
             items: Items::new(alloc),
         };
-        self.happen(alloc, handlers, event, &mut added)?;
-        Ok(added)
+        match self.happen(alloc, handlers, event, &mut added) {
+            Ok(()) => Ok(added),
+            Err(fault) => Err(fault),
+        }
     }
 }

@@ -23,16 +23,16 @@ happen-requires g c =
       };
     }
 
-pub returns-clause-state : goal.returns-clause-state
-returns-clause-state g c cluster h now r sound =
+pub returns-in-Ok-clause-state : goal.returns-in-Ok-clause-state
+returns-in-Ok-clause-state g c cluster h now r sound =
     at_is cluster c.happen.new.self (newest now.tape ++ c.happen.new.tape.items) (after_event cluster h by_fuse now c.args.event)
-    (c.in_ok-happen.ensures.state cluster h (newest now.tape) now (none_in_hand cluster c.args.self.now c.new.result now c.new.ensures r) sound)
+    (c.in-Ok.ensures.state cluster h (newest now.tape) now (none_in_hand cluster c.args.self.now c.new.result now c.new.ensures r) sound)
 
-pub returns-clause-tape : goal.returns-clause-tape
-returns-clause-tape g c cluster h now r sound =
+pub returns-in-Ok-clause-tape : goal.returns-in-Ok-clause-tape
+returns-in-Ok-clause-tape g c cluster h now r sound =
     added_is now.tape c.happen.new.tape.items (after_event cluster h by_fuse now c.args.event).tape
-    (c.in_ok-happen.ensures.state cluster h (newest now.tape) now (none_in_hand cluster c.args.self.now c.new.result now c.new.ensures r) sound).tape
+    (c.in-Ok.ensures.state cluster h (newest now.tape) now (none_in_hand cluster c.args.self.now c.new.result now c.new.ensures r) sound).tape
 
-pub returns-clause-lines : goal.returns-clause-lines
-returns-clause-lines g c cluster h now r sound =
-    c.in_ok-happen.ensures.lines cluster h (newest now.tape) now (none_in_hand cluster c.args.self.now c.new.result now c.new.ensures r) sound (subst (All HasLine) (sym c.new.ensures) (All-nil HasLine))
+pub returns-in-Ok-clause-lines : goal.returns-in-Ok-clause-lines
+returns-in-Ok-clause-lines g c cluster h now r sound =
+    c.in-Ok.ensures.lines cluster h (newest now.tape) now (none_in_hand cluster c.args.self.now c.new.result now c.new.ensures r) sound (subst (All HasLine) (sym c.new.ensures) (All-nil HasLine))
