@@ -69,7 +69,10 @@ fn opened(alloc: Global, remains: Remains) -> Result<Down<MemRecords, VersionedR
 {
     match remains {
         Remains::InMemory(down) => Ok(down),
-        Remains::OnDisk(records) => anew(alloc, records),
+        Remains::OnDisk(records) => match anew(alloc, records) {
+            Ok(down) => Ok(down),
+            Err(refused) => Err(refused),
+        },
     }
 }
 
@@ -131,7 +134,10 @@ impl Fallen {
             owed,
         } = self;
         match opened(alloc, remains) {
-            Ok(down) => started(alloc, cluster, me, down, fuse, owed),
+            Ok(down) => match started(alloc, cluster, me, down, fuse, owed) {
+                Ok(begun) => Ok(begun),
+                Err(refused) => Err(refused),
+            },
             Err(_refused) => Err(NotBegun::NoMemory),
         }
     }

@@ -79,7 +79,10 @@ pub fn step_at<H: QueueHandlers>(
     match &mut places[usize::from(me) - 1] {
         Place::Up(member) => {
             let made = member.step(alloc, handlers, event);
-            settled(alloc, places, me, made)
+            match settled(alloc, places, me, made) {
+                Ok(one) => Ok(one),
+                Err(fault) => Err(fault),
+            }
         }
         Place::Down(_) => unreachable!(),
     }
