@@ -112,7 +112,10 @@ fn start_at(
     ensures served { (why : RefusalValue) → result ≢ Err (Refused why) }
 {
     match take_place(alloc, places, me) {
-        Place::Down(fallen) => restarted(alloc, places, cluster, me, fallen),
+        Place::Down(fallen) => match restarted(alloc, places, cluster, me, fallen) {
+            Ok(shown) => Ok(shown),
+            Err(fault) => Err(fault),
+        },
         Place::Up(_) => unreachable!(),
     }
 }
