@@ -71,7 +71,10 @@ fn compacted<R: Records>(alloc: Global, logs: &mut Logs<R>) -> Result<(), UpFaul
     if !is_to_compact(logs) {
         return Ok(());
     }
-    summed(alloc, logs)
+    match summed(alloc, logs) {
+        Ok(()) => Ok(()),
+        Err(fault) => Err(fault),
+    }
 }
 
 impl<R: Records, V: Versions> Up<R, V> {

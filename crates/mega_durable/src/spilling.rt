@@ -117,7 +117,10 @@ pub(crate) fn spilled<R: Records, V: Versions>(
     if !is_to_spill(rows) {
         return Ok(());
     }
-    spill_all(alloc, voter, rows)
+    match spill_all(alloc, voter, rows) {
+        Ok(()) => Ok(()),
+        Err(error) => Err(error),
+    }
 }
 
 /// Why rows were not spilled, as the fault of a step.

@@ -1,5 +1,4 @@
 use Rattle.std.proofs.Common.{refl}
-use Rattle.std.proofs.lemmas.Result.{on_ok_weaker}
 use Rattle.mega_durable.specs.Compacting.{HoldsAll}
 use Rattle.mega_durable.proofs.Summing.{same_compacts}
 use Rattle.mega_durable.proofs.Upheld.{leaves_same}
@@ -12,6 +11,3 @@ returns-then-not-is_to_compact-clause-any_moment g c = λ seen ready met told ho
 
 pub returns-then-not-is_to_compact-clause-proceeds : goal.returns-then-not-is_to_compact-clause-proceeds
 returns-then-not-is_to_compact-clause-proceeds g c = same_compacts g.R.Records c.args.logs.now.records
-
-pub returns-clause-counted : goal.returns-clause-counted
-returns-clause-counted g c = on_ok_weaker c.summed.result (λ counted due. counted due.short) c.summed.ensures.counted
