@@ -25,6 +25,22 @@ fn is_kept(note: &mega_leases::LeaseNote) -> bool
     matches!(note, LeaseNote::Grants { .. } | LeaseNote::Lapses { .. })
 }
 
+/// Whether it is kept on the log that a group became valid: it is not.
+fn is_valid_kept(valid: &Valid) -> bool
+    ensures { result ≡ is_durable valid.now }
+{
+    let _position = valid.position;
+    false
+}
+
+/// Whether an answer is kept on the log: it is not.
+fn is_answer_kept(answered: &Answered) -> bool
+    ensures { result ≡ is_durable answered.now }
+{
+    let _op = answered.op;
+    false
+}
+
 /// Whether a note is kept on the log.
 fn is_durable(note: &Note) -> bool
     ensures { result ≡ is_durable (met_of note.now) }
@@ -33,8 +49,8 @@ fn is_durable(note: &Note) -> bool
         Note::OfLeases(note) => is_kept(note),
         Note::Decided { .. } => true,
         Note::Applied { .. } => false,
-        Note::MadeValid(Valid { group: _group, .. }) => false,
-        Note::Answered(Answered { op: _op, .. }) => false,
+        Note::MadeValid(valid) => is_valid_kept(valid),
+        Note::Answered(answered) => is_answer_kept(answered),
     }
 }
 

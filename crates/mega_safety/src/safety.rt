@@ -31,6 +31,25 @@ pub struct Safety {
     pub is_told: bool,
 }
 
+/// A group that became valid is no lapse.
+fn lapse_in_valid(cell: u8, valid: &Valid) -> Option<Lapse>
+    ensures { result ≡ lapse_of cell valid.now }
+{
+    let Valid {
+        position: _position,
+        ..
+    } = valid;
+    None
+}
+
+/// An answer is no lapse.
+fn lapse_in_answer(cell: u8, answered: &Answered) -> Option<Lapse>
+    ensures { result ≡ lapse_of cell answered.now }
+{
+    let Answered { op: _op, .. } = answered;
+    None
+}
+
 /// The lapse that the node of a cell notes of its leases, if it is one.
 fn lapse_in(cell: u8, note: &mega_leases::LeaseNote) -> Option<Lapse>
     ensures { result ≡ lapse_of cell (leases_met note.now) }
@@ -59,8 +78,8 @@ fn lapse_of(cell: u8, note: &Note) -> Option<Lapse>
         Note::OfLeases(one) => lapse_in(cell, one),
         Note::Decided { .. } => None,
         Note::Applied { .. } => None,
-        Note::MadeValid(Valid { group: _group, .. }) => None,
-        Note::Answered(Answered { op: _op, .. }) => None,
+        Note::MadeValid(valid) => lapse_in_valid(cell, valid),
+        Note::Answered(answered) => lapse_in_answer(cell, answered),
     }
 }
 
