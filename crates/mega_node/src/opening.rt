@@ -20,7 +20,7 @@ fn device_stop(error: RecordError) -> Stop
 {
     match error {
         RecordError::DiskFault => Stop::Device,
-        RecordError::Full { .. } | RecordError::Spent | RecordError::NoMemory => Stop::NoMemory,
+        _ => Stop::NoMemory,
     }
 }
 
@@ -31,9 +31,7 @@ fn logs_stop(fault: LogFault) -> Stop
 {
     match fault {
         LogFault::BadRecord { number } => Stop::BadRecord { number },
-        LogFault::DiskFault | LogFault::Full { .. } | LogFault::Spent | LogFault::NoMemory => {
-            Stop::NoMemory
-        }
+        _ => Stop::NoMemory,
     }
 }
 

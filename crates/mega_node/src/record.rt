@@ -87,11 +87,7 @@ fn items_stop(fault: NodeFault) -> Stop
 {
     match fault {
         NodeFault::Unformed => Stop::Unformed,
-        NodeFault::DiskFault
-        | NodeFault::Full { .. }
-        | NodeFault::BadRecord { .. }
-        | NodeFault::Spent
-        | NodeFault::NoMemory => Stop::NoMemory,
+        _ => Stop::NoMemory,
     }
 }
 

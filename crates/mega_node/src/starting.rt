@@ -54,7 +54,7 @@ fn handed_back<D: Disk + Drop>(refused: NotStarted<Checkpoint<D>>) -> (Stop, Opt
     }
 }
 
-/// The number of a start. Its clause says that it has 32 bits, which none says of a number that a struct holds.
+/// The number of a start.
 fn counted(start: u32) -> u32
     ensures same { result ≡ start }
     ensures most { result < 2 ^ 32 }
