@@ -1,7 +1,5 @@
 -- The header of a replay, and the lines of its schedule behind it.
-use Rattle.std.proofs.Common.{◌≡◌, ℕ, Option, Some, None, Result, Ok, Err, List, [], ◌∙◌, ap, subst, sym}
-use Rattle.std.specs.Io.KnownBytes.{prepend_known}
-use Rattle.std.proofs.KnownBytes.{prepend_known-nil}
+use Rattle.std.proofs.Common.{◌≡◌, ℕ, Option, Some, None, Result, Ok, Err, List, ◌∙◌, ap}
 use Rattle.mega_cluster.specs.declared.cluster.Cluster.{Cluster}
 use Rattle.mega_cluster.specs.Header.{◌>>=◌, read_of}
 use Rattle.mega_io.specs.TextLines.{lines_of}
@@ -15,12 +13,6 @@ headed None left text c header reads = tt
 headed (Some first) None text c header reads = absurd header
 headed (Some first) (Some left) text c header reads =
     (ap (parts_of first (lines_of first)) header.0.1 ∙ ap (λ r. r >>= λ cluster. Ok (cluster, lines_of left)) (ap (read_of 1) header.0.0 ∙ reads), (text, reads, header.0, header.1))
-
--- a reader that had read nothing read the header, and this is what it holds now
-pub headed_by : (first left : Option (List ℕ)) (empty now held : List ℕ) (c : Cluster) → empty ≡ [] → held ≡ now → IsHeaded (prepend_known empty first) (prepend_known now left) c → IsHeaded first (prepend_known held left) c
-headed_by first left empty now held c none same header =
-    subst (λ (known : Option (List ℕ)). IsHeaded known (prepend_known held left) c) (ap (λ (xs : List ℕ). prepend_known xs first) none ∙ prepend_known-nil first)
-    (subst (λ (xs : List ℕ). IsHeaded (prepend_known empty first) (prepend_known xs left) c) (sym same) header)
 
 breaks : (input : List ℕ) (lines : List (List ℕ)) (behind : Option (List (List ℕ))) (rule : ℕ) → read_of 1 (header_before input lines behind) ≡ Err rule → parts_of input lines behind ≡ Err rule
 breaks input lines None rule reads = ap (λ r. r >>= λ cluster. Err 9) reads

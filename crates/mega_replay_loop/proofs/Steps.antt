@@ -15,14 +15,12 @@ use Rattle.mega_line_events.specs.of_promises.Runs.{Happening, Standing}
 use Rattle.mega_line_events.specs.of_line_laws.Clusters.{CanStart}
 use Rattle.mega_line_events.specs.of_world.declared.world.World.{World}
 use Rattle.mega_header.specs.Known.{Ends, Follows, Passes, TakesLine}
-use Rattle.mega_line_events.specs.Refusals.{IsPastLast, IsRefused}
-use Rattle.mega_replay_loop.specs.Known.{CutsLine, IsTooLong, LeftFails, LeftIsBegun, LeftIsDone, LeftRanOut, LeftStops, LeftStopsFor, StopsLine, StopsNext}
+use Rattle.mega_replay_loop.specs.Known.{CutsLine, IsTooLong, LeftFails, LeftIsBegun, LeftIsDone, LeftRanOut, LeftStops, StopsNext}
 use Rattle.mega_replay_output.specs.Progress.{Writes, WritesFront}
 use Rattle.mega_replay_loop.specs.Replaying.{AreRead, in_order, text_at}
 use Rattle.mega_line_events.specs.Running.{AllHappen, Happens, StandsAfter, Proceeds, stood}
-use Rattle.mega_replay_output.specs.Stops.{IsBeforeWriting, IsReadStop, IsWriteStop}
+use Rattle.mega_replay_output.specs.Stops.{IsBeforeWriting}
 use Rattle.mega_replay_output.specs.declared.status.Stop.{Stop}
-use Rattle.mega_replay_output.specs.declared.status.Stop.TheVariants.{Header, Schedule, Refused, Limit, Source, Sink, NoMemory}
 use Rattle.mega_replay_output.specs.Texts.{IsTallied, at_end, in_all, so_far}
 use Rattle.mega_header.proofs.Inputs.{both_none, ended_none}
 use Rattle.mega_field_ranges.specs.Held.{HoldsItem}
@@ -215,42 +213,9 @@ pub stopped_at : (report : Report) (c : Cluster) (first now : Option (List ℕ))
 stopped_at report c first now IsCause Says world count number Is ran is stops said =
     stopped report c first now (IsCause number) Says world count number Is ran is (subst (λ (n : ℕ). StopsNext now (λ line. IsCause n line (stood c ran.events))) (sym is) stops) said
 
--- what a stop tells of a line that was read
-pub line_stops : (c : Cluster) (number : ℕ) (text line : List ℕ) (now next : Option (List ℕ)) (standing : Standing) (stop : Stop) → text ≡ line → Follows now next line
-    → ((at reason : ℕ) → stop ≡ Schedule at reason → (at ≡ number) × (event_of c.schema number text ≡ Err reason)) → ((at why : ℕ) → stop ≡ Refused at why → (at ≡ number) × IsRefused c number text standing why)
-    → ((at : ℕ) → stop ≡ Limit at → (at ≡ number) × IsPastLast c number text standing) → StopsLine c number standing now stop
-line_stops c number text line now next standing (Schedule at reason) same follows none refused limit =
-    let told = none at reason refl in
-    (told.0, stops_next now next (λ l. event_of c.schema number l ≡ Err reason) line follows (subst (λ (l : List ℕ). event_of c.schema number l ≡ Err reason) same told.1))
-line_stops c number text line now next standing (Refused at why) same follows none refused limit =
-    let told = refused at why refl in
-    (told.0, stops_next now next (λ l. IsRefused c number l standing why) line follows (subst (λ (l : List ℕ). IsRefused c number l standing why) same told.1))
-line_stops c number text line now next standing (Limit at) same follows none refused limit =
-    let told = limit at refl in
-    (told.0, stops_next now next (λ l. IsPastLast c number l standing) line follows (subst (λ (l : List ℕ). IsPastLast c number l standing) same told.1))
-line_stops c number text line now next standing (Header rule) same follows none refused limit = tt
-line_stops c number text line now next standing Source same follows none refused limit = tt
-line_stops c number text line now next standing Sink same follows none refused limit = tt
-line_stops c number text line now next standing NoMemory same follows none refused limit = tt
-
--- it tells nothing of a line where none was read, or where that was done
-pub read_stops : (c : Cluster) (number : ℕ) (standing : Standing) (now : Option (List ℕ)) (stop : Stop) → IsReadStop stop → StopsLine c number standing now stop
-read_stops c number standing now Source only = tt
-read_stops c number standing now NoMemory only = tt
-read_stops c number standing now (Header rule) only = absurd only
-read_stops c number standing now (Schedule at reason) only = absurd only
-read_stops c number standing now (Refused at why) only = absurd only
-read_stops c number standing now (Limit at) only = absurd only
-read_stops c number standing now Sink only = absurd only
-
-pub write_stops : (c : Cluster) (number : ℕ) (standing : Standing) (now : Option (List ℕ)) (stop : Stop) → IsWriteStop stop → StopsLine c number standing now stop
-write_stops c number standing now Sink only = tt
-write_stops c number standing now NoMemory only = tt
-write_stops c number standing now (Header rule) only = absurd only
-write_stops c number standing now (Schedule at reason) only = absurd only
-write_stops c number standing now (Refused at why) only = absurd only
-write_stops c number standing now (Limit at) only = absurd only
-write_stops c number standing now Source only = absurd only
+-- what was to be written is as it was
+pub unwritten : (stop one : Stop) (Kept : Type 0) → stop ≡ one → IsBeforeWriting one → (IsBeforeWriting stop → Kept) → Kept
+unwritten stop one Kept is before kept = kept (subst IsBeforeWriting (sym is) before)
 
 -- the source failed: what was read spells exactly the lines that were done
 read_so_far : (first now left : List ℕ) (done : List (List ℕ)) (line : List ℕ) → lines_of first ≡ in_order done (lines_of now) → TakesLines first now done → now ≡ line ++ left → IsUnbroken line → AreRead first left (in_order done [])
@@ -276,20 +241,3 @@ fails_here report c (Some first) (Some now) (Some left) waiting line Says world 
     said = said;
   },
 )
-
--- what a stop tells of the line behind those that were done, it tells of the schedule
-pub stops_for : (report : Report) (c : Cluster) (first now left : Option (List ℕ)) (waiting line : List ℕ) (Says : List ℕ → Type 0) (world : World) (count : ℕ) (Is : List Item → Type 0) (stop : Stop) (ran : RanTo c first now world count Is)
-    → StopsLine c (count + 1) (stood c ran.events) now stop → (stop ≡ Source → BreaksOff now waiting left line) → (IsBeforeWriting stop → Says (text_at report c ran.events)) → LeftStopsFor report c first left stop Says
-stops_for report c first now left waiting line Says world count Is (Schedule at reason) ran stops breaks said =
-    stopped_at report c first now (λ number line now. event_of c.schema number line ≡ Err reason) Says world count at Is ran stops.0 stops.1 (said tt)
-stops_for report c first now left waiting line Says world count Is (Refused at why) ran stops breaks said =
-    stopped_at report c first now (λ number line now. IsRefused c number line now why) Says world count at Is ran stops.0 stops.1 (said tt)
-stops_for report c first now left waiting line Says world count Is (Limit at) ran stops breaks said =
-    stopped_at report c first now (λ number line now. IsPastLast c number line now) Says world count at Is ran stops.0 stops.1 (said tt)
-stops_for report c first now left waiting line Says world count Is Source ran stops breaks said = fails_here report c first now left waiting line Says world count Is ran (breaks refl) (said tt)
-stops_for report c first now left waiting line Says world count Is (Header rule) ran stops breaks said = tt
-stops_for report c first now left waiting line Says world count Is Sink ran stops breaks said = tt
-stops_for report c first now left waiting line Says world count Is NoMemory ran stops breaks said = tt
-
-pub memory_stops : (report : Report) (c : Cluster) (old new : Option (List ℕ)) (stop : Stop) (Says : List ℕ → Type 0) → stop ≡ NoMemory → LeftStopsFor report c old new stop Says
-memory_stops report c old new stop Says is = subst (λ (one : Stop). LeftStopsFor report c old new one Says) (sym is) tt

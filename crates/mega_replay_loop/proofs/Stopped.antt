@@ -7,25 +7,22 @@ use Rattle.mega_words.specs.declared.command.Report.{Report}
 use Rattle.mega_replay_output.specs.declared.status.Stop.{Stop}
 use Rattle.mega_replay_output.specs.declared.status.Stop.TheVariants.{Header, Schedule, Refused, Limit, Source, Sink, NoMemory}
 use Rattle.mega_replay_output.specs.LastLines.{last_line}
-use Rattle.mega_replay_loop.specs.Known.{InputBegun, InputFailed, InputCut, InputStopsFor}
+use Rattle.mega_replay_loop.specs.Known.{InputBegun, InputFailed, InputBroken, InputCut, InputNoEvent, InputRefused, InputPastLast}
 use Rattle.mega_replay_output.specs.Progress.{Writes, WritesFront}
 use Rattle.mega_replay_output.specs.Statuses.{IsReplayStatus, status_of}
 use Rattle.mega_replay_output.specs.Stops.{IsTold}
 use Rattle.mega_replay_loop.proofs.Said.{begun_front, failed_held, broken_front, none_front, refused_front, limit_front}
 
--- what a stop tells is written, as far as that went
-pub stop_front : (report : Report) (stop : Stop) (known left before mid after : Option (List ℕ)) (waiting : List ℕ) → InputStopsFor report known left stop (Writes before mid waiting) → InputBegun report known (WritesFront before mid waiting)
-    → AppendsFront mid after (waiting ++ last_line stop) → InputCut report known (AppendsFront before after)
-stop_front report (Header rule) known left before mid after waiting stops begun written = broken_front report known before mid after waiting rule stops written
-stop_front report (Schedule at reason) known left before mid after waiting stops begun written = none_front report known before mid after waiting at reason stops written
-stop_front report (Refused at why) known left before mid after waiting stops begun written = refused_front report known before mid after waiting at why stops written
-stop_front report (Limit at) known left before mid after waiting stops begun written = limit_front report known before mid after waiting at stops written
-stop_front report Source known left before mid after waiting stops begun written = begun_front report known before mid after waiting begun written
-stop_front report Sink known left before mid after waiting stops begun written = begun_front report known before mid after waiting begun written
-stop_front report NoMemory known left before mid after waiting stops begun written = begun_front report known before mid after waiting begun written
-
-pub stops_as : (report : Report) (known left : Option (List ℕ)) (stop one : Stop) (Says : List ℕ → Type 0) → stop ≡ one → InputStopsFor report known left stop Says → InputStopsFor report known left one Says
-stops_as report known left stop one Says is stops = subst (λ (s : Stop). InputStopsFor report known left s Says) is stops
+pub stop_front : (report : Report) (stop : Stop) (known before mid after : Option (List ℕ)) (waiting : List ℕ) → ((rule : ℕ) → stop ≡ Header rule → InputBroken known rule (Writes before mid waiting))
+    → ((at reason : ℕ) → stop ≡ Schedule at reason → InputNoEvent report known at reason (Writes before mid waiting)) → ((at why : ℕ) → stop ≡ Refused at why → InputRefused report known at why (Writes before mid waiting))
+    → ((at : ℕ) → stop ≡ Limit at → InputPastLast report known at (Writes before mid waiting)) → InputBegun report known (WritesFront before mid waiting) → AppendsFront mid after (waiting ++ last_line stop) → InputCut report known (AppendsFront before after)
+stop_front report (Header rule) known before mid after waiting header none refused limit begun written = broken_front report known before mid after waiting rule (header rule refl) written
+stop_front report (Schedule at reason) known before mid after waiting header none refused limit begun written = none_front report known before mid after waiting at reason (none at reason refl) written
+stop_front report (Refused at why) known before mid after waiting header none refused limit begun written = refused_front report known before mid after waiting at why (refused at why refl) written
+stop_front report (Limit at) known before mid after waiting header none refused limit begun written = limit_front report known before mid after waiting at (limit at refl) written
+stop_front report Source known before mid after waiting header none refused limit begun written = begun_front report known before mid after waiting begun written
+stop_front report Sink known before mid after waiting header none refused limit begun written = begun_front report known before mid after waiting begun written
+stop_front report NoMemory known before mid after waiting header none refused limit begun written = begun_front report known before mid after waiting begun written
 
 -- the last line of a stop that is told was written
 pub told_stop : (result stop one : Stop) (mid after : Option (List ℕ)) (waiting : List ℕ) → result ≡ one → IsTold one → (IsTold result → (result ≡ stop) × Appends mid after (waiting ++ last_line stop))

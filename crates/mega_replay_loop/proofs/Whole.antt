@@ -1,19 +1,15 @@
 -- What is said of the schedule is said of the input.
-use Rattle.std.proofs.Common.{◌≡◌, ◌⊎◌, ℕ, inl, inr, Option, Some, None, Result, List, [], ◌∷◌, ◌++◌, Ok, Err, refl, sym, ◌∙◌, ap, subst, append_assoc, append-nil}
-use Rattle.std.specs.Prelude.{IfErr}
+use Rattle.std.proofs.Common.{◌≡◌, ◌⊎◌, ℕ, inl, inr, Option, Some, None, List, [], ◌∷◌, ◌++◌, Ok, Err, refl, sym, ◌∙◌, ap, subst, append_assoc, append-nil}
 use Rattle.mega_cluster.specs.declared.cluster.Cluster.{Cluster}
 use Rattle.mega_cluster.specs.Header.{read_of}
 use Rattle.mega_words.specs.declared.command.Report.{Report}
 use Rattle.mega_schedule.specs.Events.{event_of}
 use Rattle.mega_header.specs.Known.{AreParted, HeaderFails, TakesHeader}
-use Rattle.mega_replay_loop.specs.Known.{InputBegun, InputBroken, InputDone, InputFailed, InputNoEvent, InputRefused, InputPastLast, InputStopsFor, IsBroken, IsHeaded, LeftFails, LeftIsBegun, LeftIsDone, LeftStops, LeftStopsFor}
+use Rattle.mega_replay_loop.specs.Known.{InputBegun, InputBroken, InputDone, InputFailed, InputNoEvent, InputRefused, InputPastLast, IsBroken, IsHeaded, LeftFails, LeftIsBegun, LeftIsDone, LeftStops}
 use Rattle.mega_header.specs.Parts.{lines_behind}
 use Rattle.mega_replay_loop.specs.Replaying.{AreDone, AreDoneBehind, AreRead, InputIsFailed}
 use Rattle.mega_line_events.specs.Refusals.{IsRefused, IsPastLast}
 use Rattle.mega_header.proofs.Inputs.{both_none}
-use Rattle.mega_replay_output.specs.Stops.{IsHeaderStop, IsScheduleStop, IsWriteStop}
-use Rattle.mega_replay_output.specs.declared.status.Stop.{Stop}
-use Rattle.mega_replay_output.specs.declared.status.Stop.TheVariants.{Header, Schedule, Refused, Limit, Source, Sink, NoMemory}
 use Rattle.mega_io.specs.TextLines.{ended_lines, lines_of}
 
 pub input_done : (report : Report) (a b : Option (List ℕ)) (c : Cluster) (Says : List ℕ → Type 0) → IsHeaded a b c → LeftIsDone report c b Says → InputDone report a Says
@@ -89,40 +85,3 @@ input_failed report None b left c Says headed fails = tt
 input_failed report (Some a) None left c Says headed fails = absurd headed
 input_failed report (Some a) (Some b) None c Says headed fails = absurd fails
 input_failed report (Some a) (Some b) (Some left) c Says headed fails = failed_in report a b left c headed.1.0 fails.0 Says headed.1.3 headed.1.2 headed.1.1 fails.1 fails.2
-
--- ---- what a stop tells
-
--- before the schedule
-pub header_stops : (report : Report) (a left : Option (List ℕ)) (stop : Stop) (Says : List ℕ → Type 0) → IsHeaderStop stop → ((rule : ℕ) → stop ≡ Header rule → IsBroken a rule) → (stop ≡ Source → HeaderFails a left) → Says []
-    → InputStopsFor report a left stop Says
-header_stops report a left (Header rule) Says only broken fails said = input_broken a rule Says (broken rule refl) said
-header_stops report a left Source Says only broken fails said = input_unfailed report a left Says (fails refl) said
-header_stops report a left NoMemory Says only broken fails said = tt
-header_stops report a left (Schedule at reason) Says only broken fails said = absurd only
-header_stops report a left (Refused at why) Says only broken fails said = absurd only
-header_stops report a left (Limit at) Says only broken fails said = absurd only
-header_stops report a left Sink Says only broken fails said = absurd only
-
-pub start_stops : (report : Report) (a left : Option (List ℕ)) (stop : Stop) (Says : List ℕ → Type 0) → IsWriteStop stop → InputStopsFor report a left stop Says
-start_stops report a left Sink Says only = tt
-start_stops report a left NoMemory Says only = tt
-start_stops report a left (Header rule) Says only = absurd only
-start_stops report a left (Schedule at reason) Says only = absurd only
-start_stops report a left (Refused at why) Says only = absurd only
-start_stops report a left (Limit at) Says only = absurd only
-start_stops report a left Source Says only = absurd only
-
--- of the schedule
-pub schedule_stops : (report : Report) (a b left : Option (List ℕ)) (c : Cluster) (stop : Stop) (Says : List ℕ → Type 0) → IsHeaded a b c → LeftStopsFor report c b left stop Says → IsScheduleStop stop → InputStopsFor report a left stop Says
-schedule_stops report a b left c (Header rule) Says headed stops only = absurd only
-schedule_stops report a b left c (Schedule at reason) Says headed stops only = input_no_event report a b c at reason Says headed stops
-schedule_stops report a b left c (Refused at why) Says headed stops only = input_refused report a b c at why Says headed stops
-schedule_stops report a b left c (Limit at) Says headed stops only = input_limit report a b c at Says headed stops
-schedule_stops report a b left c Source Says headed stops only = input_failed report a b left c Says headed stops
-schedule_stops report a b left c Sink Says headed stops only = tt
-schedule_stops report a b left c NoMemory Says headed stops only = tt
-
--- what follows from two facts of an error
-pub err_of_both : {T : Type 0} (result : Result T Stop) (P Q R : Stop → Type 0) → IfErr result P → IfErr result Q → ((stop : Stop) → P stop → Q stop → R stop) → IfErr result R
-err_of_both (Ok value) P Q R p q follows = tt
-err_of_both (Err stop) P Q R p q follows = follows stop p q

@@ -5,16 +5,12 @@ use Rattle.mega_cluster.specs.Header.{read_of}
 use Rattle.mega_io.specs.TextLines.{lines_of}
 use Rattle.mega_header.specs.Known.{AreParted, Follows, Passes, TakesHeader, IfKnown}
 use Rattle.mega_words.specs.declared.command.Report.{Report}
-use Rattle.mega_schedule.specs.Events.{event_of}
 use Rattle.mega_tally.specs.declared.tally.Tally.{Tally}
 use Rattle.mega_transcript.specs.declared.item.Item.{Item}
 use Rattle.mega_line_events.specs.of_promises.Runs.{Happening, Standing}
 use Rattle.mega_line_events.specs.of_world.declared.world.World.{World}
 use Rattle.mega_replay_loop.specs.Headings.{heading_of}
-use Rattle.mega_line_events.specs.Refusals.{IsPastLast, IsRefused}
 use Rattle.mega_line_events.specs.Running.{StandsAfter, Proceeds}
-use Rattle.mega_replay_output.specs.declared.status.Stop.{Stop}
-use Rattle.mega_replay_output.specs.declared.status.Stop.TheVariants.{Header, Schedule, Refused, Limit, Source}
 use Rattle.mega_replay_output.specs.Texts.{IsTallied, so_far}
 use Rattle.mega_replay_loop.specs.Replaying.{AreDone, AreRead, IsDone, IsBegun, RanOut, StopsAt, InputIsDone, InputIsBegun, InputIsBroken, InputIsNoEvent, InputIsRefused, InputIsPastLast, InputIsCut, InputIsFailed}
 
@@ -53,24 +49,9 @@ LeftStops report c left number IsCause Says = IfKnown left (λ left. StopsAt rep
 abbrev pub LeftFails : Report → Cluster → Option (List ℕ) → Option (List ℕ) → (List ℕ → Type 0) → Type 0
 LeftFails report c old new Says = Passes old new (λ old new. (lines : List (List ℕ)) × AreRead old new lines × AreDone report c lines Says)
 
--- what a stop tells of a schedule
-abbrev pub LeftStopsFor : Report → Cluster → Option (List ℕ) → Option (List ℕ) → Stop → (List ℕ → Type 0) → Type 0
-LeftStopsFor report c old new (Schedule at reason) Says = LeftStops report c old at (λ line now. event_of c.schema at line ≡ Err reason) Says
-LeftStopsFor report c old new (Refused at why) Says = LeftStops report c old at (λ line now. IsRefused c at line now why) Says
-LeftStopsFor report c old new (Limit at) Says = LeftStops report c old at (λ line now. IsPastLast c at line now) Says
-LeftStopsFor report c old new Source Says = LeftFails report c old new Says
-LeftStopsFor report c old new _ Says = Unit {0}
-
--- the next line stops the replay
+-- the next line does
 abbrev pub StopsNext : Option (List ℕ) → (List ℕ → Type 0) → Type 0
 StopsNext left IsCause = IfKnown left (λ left. (line : List ℕ) × (rest : List (List ℕ)) × (lines_of left ≡ line ∷ rest) × IsCause line)
-
--- what a stop tells of the line of this number
-abbrev pub StopsLine : Cluster → ℕ → Standing → Option (List ℕ) → Stop → Type 0
-StopsLine c number now left (Schedule at reason) = (at ≡ number) × StopsNext left (λ line. event_of c.schema number line ≡ Err reason)
-StopsLine c number now left (Refused at why) = (at ≡ number) × StopsNext left (λ line. IsRefused c number line now why)
-StopsLine c number now left (Limit at) = (at ≡ number) × StopsNext left (λ line. IsPastLast c number line now)
-StopsLine c number now left _ = Unit {0}
 
 -- before a line or within it the text was cut: this is said of what was to be written before, or of that and the text of what the line added
 abbrev pub CutsLine : Report → Cluster → ℕ → Option (List ℕ) → Option (List ℕ) → List ℕ → List Happening → World → (List ℕ → Type 0) → List ℕ → Type 0
@@ -110,12 +91,3 @@ InputCut report input Says = IfKnown input (λ input. InputIsCut report input Sa
 
 abbrev pub InputFailed : Report → Option (List ℕ) → Option (List ℕ) → (List ℕ → Type 0) → Type 0
 InputFailed report old new Says = Passes old new (λ old new. InputIsFailed report old new Says)
-
--- what a stop tells of an input
-abbrev pub InputStopsFor : Report → Option (List ℕ) → Option (List ℕ) → Stop → (List ℕ → Type 0) → Type 0
-InputStopsFor report old new (Header rule) Says = InputBroken old rule Says
-InputStopsFor report old new (Schedule at reason) Says = InputNoEvent report old at reason Says
-InputStopsFor report old new (Refused at why) Says = InputRefused report old at why Says
-InputStopsFor report old new (Limit at) Says = InputPastLast report old at Says
-InputStopsFor report old new Source Says = InputFailed report old new Says
-InputStopsFor report old new _ Says = Unit {0}
