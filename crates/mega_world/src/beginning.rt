@@ -42,7 +42,7 @@ fn begin_refusal(places: &[Place], node: NodeId, request: &Request) -> Option<Re
 }
 
 impl World {
-    /// An operation begins at a node, unless that is refused.
+    /// An operation begins at a node.
     pub(crate) fn begin<H: QueueHandlers>(
         &mut self,
         alloc: Global,
@@ -65,12 +65,12 @@ impl World {
     {
         match begin_refusal(self.places.as_slice(), node, &request) {
             Some(why) => Err(WorldFault::Refused { why }),
-            None => self.begin_allowed(alloc, handlers, node, request, text, tape),
+            None => self.begins(alloc, handlers, node, request, text, tape),
         }
     }
 
     /// An operation begins at a node that is up.
-    fn begin_allowed<H: QueueHandlers>(
+    fn begins<H: QueueHandlers>(
         &mut self,
         alloc: Global,
         handlers: &mut H,

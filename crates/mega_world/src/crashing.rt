@@ -54,19 +54,14 @@ impl World {
         match crash_refusal(self.places.as_slice(), node) {
             Some(why) => Err(WorldFault::Refused { why }),
             None => {
-                self.crash_allowed(alloc, node, tape)?;
+                self.crashes(alloc, node, tape)?;
                 Ok(())
             }
         }
     }
 
     /// A node that is there goes down.
-    fn crash_allowed(
-        &mut self,
-        alloc: Global,
-        node: NodeId,
-        tape: &mut Tape,
-    ) -> Result<(), NoMemory>
+    fn crashes(&mut self, alloc: Global, node: NodeId, tape: &mut Tape) -> Result<(), NoMemory>
         requires least { 1 ≤ node.0 }
         requires most { node.0 ≤ length self.old.places.items }
         requires up { is_up_at self.old.places.items node.0 ≡ true }

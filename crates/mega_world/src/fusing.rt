@@ -68,14 +68,14 @@ impl World {
         match fuse_refusal(self.places.as_slice(), node) {
             Some(why) => Err(WorldFault::Refused { why }),
             None => {
-                self.fuse_allowed(node, calls, image, device);
+                self.fuses(node, calls, image, device);
                 Ok(())
             }
         }
     }
 
     /// A fuse is set on a device of a node that is there.
-    fn fuse_allowed(&mut self, node: NodeId, calls: u64, image: u8, device: Device)
+    fn fuses(&mut self, node: NodeId, calls: u64, image: u8, device: Device)
         requires least { 1 ≤ node.0 }
         requires most { node.0 ≤ length self.old.places.items }
         ensures state { (c : Cluster) (h : Meanings) (items : List OnTape) (now : Standing) → StandsWith c self.old items now → StandsWith c self.new items (after_event c h by_fuse now (event.Fuse node calls image device)) }

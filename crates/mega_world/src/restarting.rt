@@ -139,17 +139,12 @@ impl World {
     {
         match start_refusal(self.places.as_slice(), node) {
             Some(why) => Err(WorldFault::Refused { why }),
-            None => self.start_allowed(alloc, node, tape),
+            None => self.starts(alloc, node, tape),
         }
     }
 
     /// A node that is down starts again.
-    fn start_allowed(
-        &mut self,
-        alloc: Global,
-        node: NodeId,
-        tape: &mut Tape,
-    ) -> Result<(), WorldFault>
+    fn starts(&mut self, alloc: Global, node: NodeId, tape: &mut Tape) -> Result<(), WorldFault>
         requires least { 1 ≤ node.0 }
         requires most { node.0 ≤ length self.old.places.items }
         requires down { is_up_at self.old.places.items node.0 ≡ false }

@@ -76,12 +76,12 @@ impl World {
     {
         match tick_refusal(self.places.as_slice(), node, clock) {
             Some(why) => Err(WorldFault::Refused { why }),
-            None => self.tick_allowed(alloc, handlers, node, clock, tape),
+            None => self.ticks(alloc, handlers, node, clock, tape),
         }
     }
 
     /// The clock of a node that is up shows a time.
-    fn tick_allowed<H: QueueHandlers>(
+    fn ticks<H: QueueHandlers>(
         &mut self,
         alloc: Global,
         handlers: &mut H,

@@ -16,9 +16,9 @@ anyway (Err e) P p = tt
 
 pub returns-in-None-clause-happens : goal.returns-in-None-clause-happens
 returns-in-None-clause-happens g c =
-    anyway c.begin_allowed.result _ (λ cluster items now r. sym (c.in-None.ensures.value cluster now c.args.text (subst (λ (ps : List Place). AreMembers cluster ps now.node) (sym c.as_slice.ensures.value) r.nodes.members)))
+    anyway c.begins.result _ (λ cluster items now r. sym (c.in-None.ensures.value cluster now c.args.text (subst (λ (ps : List Place). AreMembers cluster ps now.node) (sym c.as_slice.ensures.value) r.nodes.members)))
 
-pub begin_allowed-requires-clause-known : goal.begin_allowed-requires-clause-known
-begin_allowed-requires-clause-known g c =
+pub begins-requires-clause-known : goal.begins-requires-clause-known
+begins-requires-clause-known g c =
     let k = c.requires.known in
     record { cluster = k.cluster; handlers = k.handlers; earlier = k.earlier; now = k.now; at = k.at; sound = k.sound (sym (c.in-None.ensures.value k.cluster k.now c.args.text (subst (λ (ps : List Place). AreMembers k.cluster ps k.now.node) (sym c.as_slice.ensures.value) k.at.nodes.members))) }

@@ -9,5 +9,5 @@ pub returns-in-Some-clause-refused : goal.returns-in-Some-clause-refused
 returns-in-Some-clause-refused c why is cluster items now r =
     let same : c.in-Some.why ≡ why = cc in sym (c.in-Some.ensures.value cluster now (subst (λ (ps : List Place). AreMembers cluster ps now.node) (sym c.as_slice.ensures.value) r.nodes.members)) ∙ ap (λ (w : Refusal). Some (number_of w)) same
 
-pub returns-in_ok-crash_allowed-in-None-clause-happens : goal.returns-in_ok-crash_allowed-in-None-clause-happens
-returns-in_ok-crash_allowed-in-None-clause-happens c cluster items now r = sym (c.in-None.ensures.value cluster now (subst (λ (ps : List Place). AreMembers cluster ps now.node) (sym c.as_slice.ensures.value) r.nodes.members))
+pub returns-in_ok-crashes-in-None-clause-happens : goal.returns-in_ok-crashes-in-None-clause-happens
+returns-in_ok-crashes-in-None-clause-happens c cluster items now r = sym (c.in-None.ensures.value cluster now (subst (λ (ps : List Place). AreMembers cluster ps now.node) (sym c.as_slice.ensures.value) r.nodes.members))

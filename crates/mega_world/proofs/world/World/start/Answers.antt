@@ -15,9 +15,9 @@ anyway (Ok x) P p = p
 anyway (Err e) P p = tt
 
 pub returns-in-None-clause-happens : goal.returns-in-None-clause-happens
-returns-in-None-clause-happens c = anyway c.start_allowed.result _ (λ cluster items now r. sym (c.in-None.ensures.value cluster now (subst (λ (ps : List Place). AreMembers cluster ps now.node) (sym c.as_slice.ensures.value) r.nodes.members)))
+returns-in-None-clause-happens c = anyway c.starts.result _ (λ cluster items now r. sym (c.in-None.ensures.value cluster now (subst (λ (ps : List Place). AreMembers cluster ps now.node) (sym c.as_slice.ensures.value) r.nodes.members)))
 
-pub start_allowed-requires-clause-known : goal.start_allowed-requires-clause-known
-start_allowed-requires-clause-known c =
+pub starts-requires-clause-known : goal.starts-requires-clause-known
+starts-requires-clause-known c =
     let k = c.requires.known.1 in
     (c.requires.known.0, record { cluster = k.cluster; handlers = k.handlers; earlier = k.earlier; now = k.now; at = k.at; sound = k.sound (sym (c.in-None.ensures.value k.cluster k.now (subst (λ (ps : List Place). AreMembers k.cluster ps k.now.node) (sym c.as_slice.ensures.value) k.at.nodes.members))) })

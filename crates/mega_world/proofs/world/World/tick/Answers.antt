@@ -15,9 +15,9 @@ anyway (Ok x) P p = p
 anyway (Err e) P p = tt
 
 pub returns-in-None-clause-happens : goal.returns-in-None-clause-happens
-returns-in-None-clause-happens g c = anyway c.tick_allowed.result _ (λ cluster items now r. sym (c.in-None.ensures.value cluster now (subst (λ (ps : List Place). AreMembers cluster ps now.node) (sym c.as_slice.ensures.value) r.nodes.members)))
+returns-in-None-clause-happens g c = anyway c.ticks.result _ (λ cluster items now r. sym (c.in-None.ensures.value cluster now (subst (λ (ps : List Place). AreMembers cluster ps now.node) (sym c.as_slice.ensures.value) r.nodes.members)))
 
-pub tick_allowed-requires-clause-known : goal.tick_allowed-requires-clause-known
-tick_allowed-requires-clause-known g c =
+pub ticks-requires-clause-known : goal.ticks-requires-clause-known
+ticks-requires-clause-known g c =
     let k = c.requires.known in
     record { cluster = k.cluster; handlers = k.handlers; earlier = k.earlier; now = k.now; at = k.at; sound = k.sound (sym (c.in-None.ensures.value k.cluster k.now (subst (λ (ps : List Place). AreMembers k.cluster ps k.now.node) (sym c.as_slice.ensures.value) k.at.nodes.members))) }

@@ -10,7 +10,7 @@ use Rattle.mega_world.proofs.Behind.{behind}
 use Rattle.mega_world.proofs.Falling.{stayed_at}
 use Rattle.mega_world.proofs.Happening.{is_there}
 use Rattle.mega_world.proofs.Reopened.{reopened_at, reopened_lined}
-use Rattle.mega_world.proofs.world.World.start_allowed.Goals as goal
+use Rattle.mega_world.proofs.world.World.starts.Goals as goal
 
 pub start_at-requires-clause-served : goal.start_at-requires-clause-served
 start_at-requires-clause-served c = let k = c.requires.known.1 in subst IsServed (sym (c.in_ok-cluster.ensures ∙ k.at.cluster)) k.at.served

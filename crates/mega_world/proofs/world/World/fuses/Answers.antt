@@ -5,7 +5,7 @@ use Rattle.mega_places.specs.of_promises.Runs.{fused}
 use Rattle.mega_world.specs.declared.world.World.{World}
 use Rattle.mega_world.specs.AtRun.{StandsWith}
 use Rattle.mega_world.proofs.Fused.{data_nodes, fused_at, log_nodes}
-use Rattle.mega_world.proofs.world.World.fuse_allowed.Goals as goal
+use Rattle.mega_world.proofs.world.World.fuses.Goals as goal
 
 pub returns-in-Log : goal.returns-in-Log
 returns-in-Log c = record {

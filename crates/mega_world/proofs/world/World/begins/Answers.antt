@@ -9,7 +9,7 @@ use Rattle.mega_world.proofs.Behind.{behind}
 use Rattle.mega_world.proofs.Due.{begin_ready, may_happen}
 use Rattle.mega_world.proofs.Forming.{made_formed}
 use Rattle.mega_world.proofs.Happening.{begun_own, came_at, came_lined, is_there}
-use Rattle.mega_world.proofs.world.World.begin_allowed.Goals as goal
+use Rattle.mega_world.proofs.world.World.begins.Goals as goal
 
 pub begin_at-requires-clause-known : goal.begin_at-requires-clause-known
 begin_at-requires-clause-known g c =

@@ -2,7 +2,7 @@ use Rattle.std.proofs.Common.{[], ◌∷◌, ◌++◌, refl}
 use Rattle.mega_places.specs.of_promises.of_transcript.declared.item.Item.TheVariants.{Crash}
 use Rattle.mega_world.proofs.Behind.{behind}
 use Rattle.mega_world.proofs.Falling.{crashes_at}
-use Rattle.mega_world.proofs.world.World.crash_allowed.Goals as goal
+use Rattle.mega_world.proofs.world.World.crashes.Goals as goal
 
 pub returns-clause-state : goal.returns-clause-state
 returns-clause-state c cluster h earlier now r =

@@ -6,7 +6,7 @@ use Rattle.mega_world.proofs.Behind.{behind}
 use Rattle.mega_world.proofs.Due.{may_happen, tick_ready}
 use Rattle.mega_world.proofs.Forming.{made_formed}
 use Rattle.mega_world.proofs.Happening.{came_at, came_lined, is_there, ticked_own}
-use Rattle.mega_world.proofs.world.World.tick_allowed.Goals as goal
+use Rattle.mega_world.proofs.world.World.ticks.Goals as goal
 
 pub step_at-requires-clause-known : goal.step_at-requires-clause-known
 step_at-requires-clause-known g c =
