@@ -60,10 +60,7 @@ fn happen<H: QueueHandlers>(
             hold(added.items.as_slice());
             Ok(added)
         }
-        Err(WorldFault::Refused { why }) => Err(Stop::Refused {
-            line: number,
-            why: why.number(),
-        }),
+        Err(WorldFault::Refused { why }) => Err(Stop::Refused { line: number, why }),
         Err(WorldFault::Limit) => Err(Stop::Limit { line: number }),
         Err(WorldFault::NoMemory) => Err(Stop::NoMemory),
     }

@@ -1,10 +1,9 @@
 -- What is carried once a message is dropped.
-use Rattle.std.proofs.Common.{◌≡◌, ℕ, ◌==◌, ◌&&◌, ◌||◌, not, Bool, true, false, List, ◌∷◌, length, Option, Some, None, is_some, option_map, refl, sym, ap, subst, ◌∙◌, arith}
+use Rattle.std.proofs.Common.{◌≡◌, ℕ, ◌==◌, ◌&&◌, ◌||◌, not, Bool, true, false, List, ◌∷◌, length, Option, Some, None, is_some, refl, sym, ap, subst, ◌∙◌, arith}
 use Rattle.std.proofs.lemmas.Bool.Decides.{nat_tests}
 use Rattle.std.specs.Ordering.{nat_cmp}
 use Rattle.std.specs.BTreeSet.{contains}
-use Rattle.mega_verdicts.specs.declared.refusal.Refusal.{Refusal}
-use Rattle.mega_verdicts.specs.Refusals.{drop_refusal, number_of}
+use Rattle.mega_verdicts.specs.Refusals.{drop_refusal}
 use Rattle.mega_verdicts.specs.Waiting.{is_receiver, waits_for}
 use Rattle.mega_cluster.specs.declared.cluster.Cluster.{Cluster}
 use Rattle.mega_wire.specs.declared.message.Message.{Message}
@@ -13,7 +12,7 @@ use Rattle.mega_transcript.specs.declared.item.Item.{Item}
 use Rattle.mega_transcript.specs.declared.item.Item.TheVariants.{Dropped}
 use Rattle.mega_transcript.specs.Tape.{is_sent, is_taken}
 use Rattle.mega_promises.specs.Messages.{is_dropped, message_of}
-use Rattle.mega_promises.specs.Runs.{Standing, because, refusal}
+use Rattle.mega_promises.specs.Runs.{Standing, refusal}
 use Rattle.mega_places.specs.declared.mail.Mail.{Mail}
 use Rattle.mega_places.specs.Carries.{Carries, is_waiting, message_at}
 use Rattle.mega_places.specs.Waits.{goes_to, receiver_of}
@@ -32,17 +31,11 @@ was_sent : (mail : Mail) (tape : List Item) (number : ℕ) (to : Option ℕ) →
 was_sent mail tape number to r is = ap is_some is ∙ has_receiver (message_of tape number) ∙ found_sent mail tape number r
 
 -- why a message is not dropped
-told_drop : (sent dropped : Bool) → option_map number_of (drop_refusal sent dropped) ≡ because (not sent) 3 (because dropped 4 None)
-told_drop false dropped = refl
-told_drop true true = refl
-told_drop true false = refl
-
-pub drop_told : (c : Cluster) (mail : Mail) (now : Standing) (number : ℕ) (to : Option ℕ) (why : Option Refusal) → Carries mail now.tape → to ≡ receiver_of (message_of now.tape number)
-    → why ≡ drop_refusal (is_some to) (contains nat_cmp mail.dropped number) → option_map number_of why ≡ refusal c now (Drop number)
+pub drop_told : (c : Cluster) (mail : Mail) (now : Standing) (number : ℕ) (to why : Option ℕ) → Carries mail now.tape → to ≡ receiver_of (message_of now.tape number)
+    → why ≡ drop_refusal (is_some to) (contains nat_cmp mail.dropped number) → why ≡ refusal c now (Drop number)
 drop_told c mail now number to why r to_is is =
-    ap (option_map number_of) is ∙ ap (λ s. option_map number_of (drop_refusal s (contains nat_cmp mail.dropped number))) (was_sent mail now.tape number to r to_is)
-    ∙ ap (λ d. option_map number_of (drop_refusal (is_sent now.tape number) d)) (r.dropped number)
-    ∙ told_drop (is_sent now.tape number) (is_dropped now.tape number)
+    is ∙ ap (λ s. drop_refusal s (contains nat_cmp mail.dropped number)) (was_sent mail now.tape number to r to_is)
+    ∙ ap (drop_refusal (is_sent now.tape number)) (r.dropped number)
 
 may_drop : (s d : Bool) → drop_refusal s d ≡ None → s ≡ true
 may_drop true d none = refl

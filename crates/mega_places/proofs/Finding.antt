@@ -1,9 +1,7 @@
 -- What is found of a message that can be delivered.
-use Rattle.std.proofs.Common.{◌≡◌, ℕ, ◌-◌, ◌&&◌, not, nat_le, nat_lt, Bool, true, false, cond, List, [], ◌∷◌, find, length, Option, Some, None, is_some, option_map, refl, sym, ap, ◌∙◌, subst, zero, suc, arith}
+use Rattle.std.proofs.Common.{◌≡◌, ℕ, ◌-◌, ◌&&◌, not, nat_le, nat_lt, Bool, true, false, cond, List, [], ◌∷◌, find, length, Option, Some, None, is_some, refl, sym, ap, ◌∙◌, subst, zero, suc, arith}
 use Rattle.std.proofs.lemmas.Bool.Decides.{nat_tests}
 use Rattle.std.specs.List.{range_with_len, slice_get}
-use Rattle.mega_verdicts.specs.declared.refusal.Refusal.{Refusal}
-use Rattle.mega_verdicts.specs.Refusals.{delivery_refusal, number_of}
 use Rattle.mega_cluster.specs.declared.cluster.Cluster.{Cluster}
 use Rattle.mega_wire.specs.declared.message.Message.{Message}
 use Rattle.mega_schedule.specs.declared.world_event.WorldEvent.TheVariants.{Deliver}
@@ -58,18 +56,6 @@ next_of c now n (Some message) sent is can =
 pub next_happens : (c : Cluster) (mail : Mail) (now : Standing) (n : ℕ) → Carries mail now.tape → next_delivery (up now) now.tape ≡ Some n → refusal c now (Deliver n) ≡ None
 next_happens c mail now n r is =
     next_of c now n (message_of now.tape n) (found_sent mail now.tape n r) refl (passes (is_deliverable (up now) now.tape) (range_with_len 1 (sent_count now.tape)) n is)
-
--- why a message is not delivered
-told_delivery : (sent dropped down : Bool) → option_map number_of (delivery_refusal sent dropped down) ≡ because (not sent) 3 (because dropped 4 (because down 1 None))
-told_delivery false dropped down = refl
-told_delivery true true down = refl
-told_delivery true false true = refl
-told_delivery true false false = refl
-
-pub delivery_told : (c : Cluster) (now : Standing) (n : ℕ) (why : Option Refusal) (sent dropped down : Bool) → why ≡ delivery_refusal sent dropped down → sent ≡ is_sent now.tape n → dropped ≡ is_dropped now.tape n
-    → down ≡ receiver_down now (message_of now.tape n) → option_map number_of why ≡ refusal c now (Deliver n)
-delivery_told c now n why sent dropped down is sent_is dropped_is down_is =
-    ap (option_map number_of) is ∙ told_delivery sent dropped down ∙ (λ i. because (not (sent_is i)) 3 (because (dropped_is i) 4 (because (down_is i) 1 None)))
 
 -- no message is handed over that was not sent, or whose receiver is down
 pub none_refused : (c : Cluster) (mail : Mail) (now : Standing) (n : ℕ) → Carries mail now.tape → message_of now.tape n ≡ None → refusal c now (Deliver n) ≡ None → ⊥

@@ -7,7 +7,6 @@ pub mod Members
 pub mod Starting
 pub mod Stepping
 pub mod Waits
-pub use Rattle.mega_verdicts.specs as of_verdicts
 pub use Rattle.mega_handler.specs as of_handler
 pub use Rattle.mega_meanings.specs as of_meanings
 pub use Rattle.mega_outcome.specs as of_outcome

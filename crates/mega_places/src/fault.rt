@@ -5,14 +5,15 @@ ghost use Rattle.mega_places.specs.Faults.{fault_of, is_strange, log_fault_of};
 
 use mega_base::NoMemory;
 use mega_durable::mega_core::StepFault;
-use mega_verdicts::Refusal;
 use mega_wal::LogFault;
 
 /// Why an event did not happen.
 #[derive(Clone, Copy, PartialEq, Eq, Debug, Drop)]
 pub enum WorldFault {
-    /// The run refuses it, and the world is as it was.
-    Refused { why: Refusal },
+    /// The run refuses it, and the world is as it was: 6, there is no such node; 3, no message of that number was sent; 4, it was
+    /// dropped; 1, the node, or the message's receiver, is down; 2, the node to be started is up; 5, its clock showed a later time; 7,
+    /// the request names no group or index.
+    Refused { why: u8 },
     /// A node that started 4,294,967,295 times was to start again. After this and what follows the world is not used again.
     Limit,
     /// An allocation was refused.

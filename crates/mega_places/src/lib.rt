@@ -27,7 +27,6 @@ pub use mega_outcome;
 pub use mega_safety::{Lapse, Safety, keep_lapses};
 pub use mega_schedule;
 pub use mega_transcript;
-pub use mega_verdicts::Refusal;
 pub use member::Member;
 pub use not_made::NotMade;
 pub use place::Place;

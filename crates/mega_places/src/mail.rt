@@ -1,5 +1,5 @@
 //! All messages between the nodes, numbered from 1, with those that wait, by receiver, and those that are dropped.
-ghost use Rattle.std.specs.Prelude.{◌≡◌, ◌+◌, ◌++◌, ◌==◌, ◌&&◌, not, [], ◌∷◌, ℕ, List, true, length, option_map, IfOk, OnOk, Some, None};
+ghost use Rattle.std.specs.Prelude.{◌≡◌, ◌+◌, ◌++◌, ◌==◌, ◌&&◌, not, [], ◌∷◌, ℕ, List, true, length, IfOk, OnOk, Some, None};
 ghost use Rattle.std.specs.Option.{option_copied};
 ghost use Rattle.mega_cluster.specs.declared.cluster.Cluster.{Cluster};
 ghost use Rattle.mega_promises.specs.Items.{numbered};
@@ -11,13 +11,11 @@ ghost use Rattle.mega_transcript.specs.declared.item.Item.TheVariants as item;
 ghost use Rattle.mega_transcript.specs.Tape.{is_sent, onto, sent_count};
 ghost use Rattle.mega_places.specs.Carries.{Carries};
 ghost use Rattle.mega_places.specs.Waits.{receiver_of};
-ghost use Rattle.mega_verdicts.specs.declared.refusal.Refusal.{Refusal as RefusalValue};
-ghost use Rattle.mega_verdicts.specs.Refusals.{number_of};
 ghost use Rattle.mega_verdicts.specs.Waiting.{waits_for};
 
 use mega_base::{Copied, Items, NoMemory};
 use mega_transcript::{Item, Tape};
-use mega_verdicts::{Refusal, drop_message, forget, keep};
+use mega_verdicts::{drop_message, forget, keep};
 use mega_wire::Message;
 use std::alloc::Global;
 use std::collections::BTreeSet;
@@ -98,10 +96,10 @@ impl Mail {
         }
     }
 
-    /// The message of a number is dropped, or why it is not: none of this number was sent, or it was dropped before.
-    pub fn drop_message(&mut self, number: u64) -> Result<Option<Refusal>, NoMemory>
-        ensures value { IfOk result (λ refused. (c : Cluster) (now : Standing) → Carries self.old now.tape → option_map number_of refused ≡ refusal c now (event.Drop number)) }
-        ensures same { IfOk result (λ refused. (why : RefusalValue) → refused ≡ Some why → self.new ≡ self.old) }
+    /// The message of a number is dropped, or why it is not: 3, none of this number was sent; 4, it was dropped before.
+    pub fn drop_message(&mut self, number: u64) -> Result<Option<u8>, NoMemory>
+        ensures value { IfOk result (λ refused. (c : Cluster) (now : Standing) → Carries self.old now.tape → refused ≡ refusal c now (event.Drop number)) }
+        ensures same { IfOk result (λ refused. (why : ℕ) → refused ≡ Some why → self.new ≡ self.old) }
         ensures dropped { IfOk result (λ refused. refused ≡ None → (tape : List OnTape) → Carries self.old tape → Carries self.new (item.Dropped number ∷ tape)) }
     {
         let to = self.receiver(number);

@@ -1,17 +1,16 @@
 //! Why a message is not delivered.
-ghost use Rattle.std.specs.Prelude.{◌≡◌, ℕ, option_map};
+ghost use Rattle.std.specs.Prelude.{◌≡◌, ℕ};
 ghost use Rattle.mega_cluster.specs.declared.cluster.Cluster.{Cluster};
 ghost use Rattle.mega_promises.specs.Messages.{message_of};
 ghost use Rattle.mega_promises.specs.Runs.{Standing, receiver_down, refusal, up};
 ghost use Rattle.mega_schedule.specs.declared.world_event.WorldEvent.TheVariants as event;
-ghost use Rattle.mega_verdicts.specs.Refusals.{number_of};
 ghost use Rattle.mega_places.specs.Carries.{Carries};
 ghost use Rattle.mega_places.specs.Members.{is_up_at};
 
 use crate::mail::Mail;
 use crate::place::Place;
 use crate::places::is_up;
-use mega_verdicts::{Refusal, delivery_refusal};
+use mega_verdicts::delivery_refusal;
 
 impl Mail {
     /// Whether the receiver of the message of a number is down, where one was sent.
@@ -24,9 +23,9 @@ impl Mail {
         }
     }
 
-    /// Why a message is not delivered: none of this number was sent, it was dropped, or its receiver is down.
-    pub fn delivery_refusal(&self, places: &[Place], number: u64) -> Option<Refusal>
-        ensures { (c : Cluster) (now : Standing) → Carries self.now now.tape → ((me : ℕ) → up now me ≡ is_up_at places.now me) → option_map number_of result ≡ refusal c now (event.Deliver number) }
+    /// Why a message is not delivered: 3, none of this number was sent; 4, it was dropped; 1, its receiver is down.
+    pub fn delivery_refusal(&self, places: &[Place], number: u64) -> Option<u8>
+        ensures { (c : Cluster) (now : Standing) → Carries self.now now.tape → ((me : ℕ) → up now me ≡ is_up_at places.now me) → result ≡ refusal c now (event.Deliver number) }
     {
         let is_sent = self.is_sent(number);
         let is_dropped = self.is_dropped(number);

@@ -5,7 +5,6 @@ ghost use Rattle.mega_rules.specs.Clock.{clock_of};
 ghost use Rattle.mega_rules.specs.Operations.{Node as RuleNode};
 ghost use Rattle.mega_durable.specs.of_core.of_step_parts.Events.{event_of};
 ghost use Rattle.mega_promises.specs.Runs.{Fuse, after_append, new_fuse};
-ghost use Rattle.mega_verdicts.specs.declared.refusal.Refusal.{Refusal};
 ghost use Rattle.mega_places.specs.declared.fault.WorldFault.TheVariants.{Limit, Refused};
 ghost use Rattle.mega_places.specs.declared.not_made.NotMade.TheVariants.{Fault};
 ghost use Rattle.mega_places.specs.LogFuses.{HasRoom, IsFused, run_fuse};
@@ -58,7 +57,7 @@ impl Member {
         requires known { IsSome (H.meant handlers.old) self.old (event_of event) }
         ensures made { AtEachNode (H.meant handlers.old) self.old (event_of event.entry) (λ c h me ruled fuse. Outcome c h me ruled (event_of event.entry) fuse self.new result) }
         ensures handlers { H.meant handlers.new ≡ H.meant handlers.old }
-        ensures served { (why : Refusal) → result ≢ Err (Fault (Refused why)) }
+        ensures served { (why : ℕ) → result ≢ Err (Fault (Refused why)) }
         ensures limited { result ≢ Err (Fault Limit) }
     {
         let before = self.up.records();

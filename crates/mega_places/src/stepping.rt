@@ -1,12 +1,11 @@
 //! A node of the world makes the step of an event: it is whole, or its log's fuse cuts it off.
-ghost use Rattle.std.specs.Prelude.{◌≡◌, ◌≢◌, ◌⊎◌, ◌≤◌, ◌-◌, List, true, false, length, set, IfOk, Err};
+ghost use Rattle.std.specs.Prelude.{◌≡◌, ◌≢◌, ◌⊎◌, ◌≤◌, ◌-◌, ℕ, List, true, false, length, set, IfOk, Err};
 ghost use Rattle.mega_cluster.specs.declared.cluster.Cluster.{Cluster};
 ghost use Rattle.mega_handler.specs.Named.{Meanings};
 ghost use Rattle.mega_rules.specs.Steps.{Begin, Event as RuleEvent, op_of};
 ghost use Rattle.mega_durable.specs.of_core.of_step_parts.Events.{event_of};
 ghost use Rattle.mega_rules.specs.Clock.{is_up};
 ghost use Rattle.mega_promises.specs.Runs.{Standing, setting};
-ghost use Rattle.mega_verdicts.specs.declared.refusal.Refusal.{Refusal};
 ghost use Rattle.mega_places.specs.declared.fault.WorldFault.{WorldFault as FaultValue};
 ghost use Rattle.mega_places.specs.declared.fault.WorldFault.TheVariants.{Limit, Refused};
 ghost use Rattle.mega_places.specs.declared.member.Member.{Member as MemberValue};
@@ -73,7 +72,7 @@ pub fn step_at<H: QueueHandlers>(
     requires known { IsRunning (H.meant handlers.old) places.old.items me (event_of event) }
     ensures made { IfOk result (λ one. AtEachRun (H.meant handlers.old) places.old.items me (event_of event.entry) (λ c h now. Comes c h now me (event_of event.entry) places.new.items one)) }
     ensures handlers { H.meant handlers.new ≡ H.meant handlers.old }
-    ensures served { (why : Refusal) → result ≢ Err (Refused why) }
+    ensures served { (why : ℕ) → result ≢ Err (Refused why) }
     ensures limited { result ≢ Err Limit }
 {
     match &mut places[usize::from(me) - 1] {
@@ -117,7 +116,7 @@ pub fn begin_at<H: QueueHandlers>(
     ensures id { IfOk result (λ begun. (c : Cluster) (h : Meanings) (now : Standing) → AreNodes c places.old.items now → begun.0 ≡ op_of (setting c h me) (now.node me).met) }
     ensures made { IfOk result (λ begun. AtEachRun (H.meant handlers.old) places.old.items me (Begin request text.now) (λ c h now. Comes c h now me (Begin request text.now) places.new.items begun.1)) }
     ensures handlers { H.meant handlers.new ≡ H.meant handlers.old }
-    ensures served { (why : Refusal) → result ≢ Err (Refused why) }
+    ensures served { (why : ℕ) → result ≢ Err (Refused why) }
     ensures limited { result ≢ Err Limit }
 {
     let op = op_at(places.as_slice(), me);

@@ -2,20 +2,18 @@
 ghost use Rattle.std.specs.Prelude.{◌≡◌};
 ghost use Rattle.mega_verdicts.specs.Refusals.{delivery_refusal};
 
-use crate::refusal::Refusal;
-
-/// Why a message is not delivered: none of its number was sent, it was dropped, or its receiver is down.
-pub fn delivery_refusal(is_sent: bool, is_dropped: bool, is_receiver_down: bool) -> Option<Refusal>
+/// Why a message is not delivered: 3, none of its number was sent; 4, it was dropped; 1, its receiver is down.
+pub fn delivery_refusal(is_sent: bool, is_dropped: bool, is_receiver_down: bool) -> Option<u8>
     ensures { result ≡ delivery_refusal is_sent is_dropped is_receiver_down }
 {
     if !is_sent {
-        return Some(Refusal::NotSent);
+        return Some(3);
     }
     if is_dropped {
-        return Some(Refusal::Dropped);
+        return Some(4);
     }
     if is_receiver_down {
-        return Some(Refusal::NodeDown);
+        return Some(1);
     }
     None
 }

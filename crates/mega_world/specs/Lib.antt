@@ -6,5 +6,4 @@ pub mod Showing
 pub mod Shown
 pub mod AtRun
 pub mod Last
-pub use Rattle.mega_places.specs.of_verdicts as of_verdicts
 pub use Rattle.mega_places.specs.of_durable.of_core as of_core

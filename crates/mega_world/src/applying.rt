@@ -1,5 +1,5 @@
 //! Makes one event happen in a world of nodes, and gives its items.
-ghost use Rattle.std.specs.Prelude.{◌≡◌, [], OnOk, IfOk, Err, Some, None, ◌++◌, List};
+ghost use Rattle.std.specs.Prelude.{◌≡◌, [], ℕ, OnOk, IfOk, Err, Some, None, ◌++◌, List};
 ghost use Rattle.std.specs.Prelude.{All};
 ghost use Rattle.mega_cluster.specs.declared.cluster.Cluster.{Cluster};
 ghost use Rattle.mega_places.specs.of_handler.Named.{Meanings};
@@ -7,8 +7,6 @@ ghost use Rattle.mega_places.specs.of_promises.of_transcript.declared.item.Item.
 ghost use Rattle.mega_places.specs.of_promises.of_transcript.Lines.{HasLine};
 ghost use Rattle.mega_places.specs.of_promises.of_transcript.Tape.{onto};
 ghost use Rattle.mega_places.specs.of_promises.Runs.{Standing, after_event, by_fuse, refusal};
-ghost use Rattle.mega_places.specs.of_verdicts.declared.refusal.Refusal.{Refusal};
-ghost use Rattle.mega_places.specs.of_verdicts.Refusals.{number_of};
 ghost use Rattle.mega_places.specs.declared.fault.WorldFault.TheVariants.{Limit, Refused};
 ghost use Rattle.mega_world.specs.Formed.{IsSound};
 ghost use Rattle.mega_world.specs.AtRun.{IsAt, MayCome, StandsWith};
@@ -38,8 +36,8 @@ impl World {
             All HasLine tape.old.items → All HasLine tape.new.items) }
         ensures handlers { H.meant handlers.new ≡ H.meant handlers.old }
         ensures happens { OnOk result ((c : Cluster) (items : List OnTape) (now : Standing) → StandsWith c self.old items now → refusal c now event ≡ None) }
-        ensures refused { (why : Refusal) → result ≡ Err (Refused why) → (c : Cluster) (items : List OnTape) (now : Standing) → StandsWith c self.old items now → refusal c now event ≡ Some (number_of why) }
-        ensures world { (why : Refusal) → result ≡ Err (Refused why) → self.new ≡ self.old }
+        ensures refused { (why : ℕ) → result ≡ Err (Refused why) → (c : Cluster) (items : List OnTape) (now : Standing) → StandsWith c self.old items now → refusal c now event ≡ Some why }
+        ensures world { (why : ℕ) → result ≡ Err (Refused why) → self.new ≡ self.old }
         ensures limit { result ≡ Err Limit → (c : Cluster) (items : List OnTape) (now : Standing) → StandsWith c self.old items now → IsPastLast c now event }
     {
         match event {
@@ -78,8 +76,8 @@ impl World {
         ensures lines { IfOk result (λ added. (c : Cluster) (h : Meanings) (now : Standing) → IsAt c self.old now → IsSound (H.meant handlers.old) c h now event → All HasLine added.items) }
         ensures handlers { H.meant handlers.new ≡ H.meant handlers.old }
         ensures happens { OnOk result ((c : Cluster) (now : Standing) → IsAt c self.old now → refusal c now event ≡ None) }
-        ensures refused { (why : Refusal) → result ≡ Err (Refused why) → (c : Cluster) (now : Standing) → IsAt c self.old now → refusal c now event ≡ Some (number_of why) }
-        ensures world { (why : Refusal) → result ≡ Err (Refused why) → self.new ≡ self.old }
+        ensures refused { (why : ℕ) → result ≡ Err (Refused why) → (c : Cluster) (now : Standing) → IsAt c self.old now → refusal c now event ≡ Some why }
+        ensures world { (why : ℕ) → result ≡ Err (Refused why) → self.new ≡ self.old }
         ensures limit { result ≡ Err Limit → (c : Cluster) (now : Standing) → IsAt c self.old now → IsPastLast c now event }
     {
         let mut added = Tape {

@@ -1,5 +1,5 @@
 //! A node goes down.
-ghost use Rattle.std.specs.Prelude.{◌≡◌, ◌≢◌, ◌≤◌, length, option_map, IfNone, OnOk, Err, Some, None, true, ◌++◌, List};
+ghost use Rattle.std.specs.Prelude.{◌≡◌, ◌≢◌, ◌≤◌, ℕ, length, IfNone, OnOk, Err, Some, None, true, ◌++◌, List};
 ghost use Rattle.std.specs.Prelude.{All};
 ghost use Rattle.mega_cluster.specs.declared.cluster.Cluster.{Cluster};
 ghost use Rattle.mega_places.specs.of_handler.Named.{Meanings};
@@ -7,8 +7,6 @@ ghost use Rattle.mega_places.specs.of_promises.of_schedule.declared.world_event.
 ghost use Rattle.mega_places.specs.of_promises.of_transcript.declared.item.Item.{Item as OnTape};
 ghost use Rattle.mega_places.specs.of_promises.of_transcript.Lines.{HasLine};
 ghost use Rattle.mega_places.specs.of_promises.Runs.{Standing, after_event, by_fuse, refusal};
-ghost use Rattle.mega_places.specs.of_verdicts.declared.refusal.Refusal.{Refusal as RefusalValue};
-ghost use Rattle.mega_places.specs.of_verdicts.Refusals.{number_of};
 ghost use Rattle.mega_places.specs.declared.fault.WorldFault.TheVariants.{Limit, Refused};
 ghost use Rattle.mega_places.specs.Members.{AreMembers, is_up_at};
 ghost use Rattle.mega_world.specs.AtRun.{StandsWith};
@@ -16,21 +14,21 @@ ghost use Rattle.mega_world.specs.AtRun.{StandsWith};
 use crate::world::World;
 use mega_base::{NoMemory, NodeId};
 use mega_places::mega_transcript::{Item, Tape};
-use mega_places::{Place, Refusal, WorldFault, is_node, is_up, take_down};
+use mega_places::{Place, WorldFault, is_node, is_up, take_down};
 use std::alloc::Global;
 
-/// Why a node does not go down: there is no such node, or it is down.
-fn crash_refusal(places: &[Place], node: NodeId) -> Option<Refusal>
+/// Why a node does not go down: 6, there is no such node; 1, it is down.
+fn refusal(places: &[Place], node: NodeId) -> Option<u8>
     ensures least { IfNone result (1 ≤ node.0) }
     ensures most { IfNone result (node.0 ≤ length places.now) }
     ensures up { IfNone result (is_up_at places.now node.0 ≡ true) }
-    ensures value { (c : Cluster) (now : Standing) → AreMembers c places.now now.node → option_map number_of result ≡ refusal c now (event.Crash node) }
+    ensures value { (c : Cluster) (now : Standing) → AreMembers c places.now now.node → result ≡ refusal c now (event.Crash node) }
 {
     if !is_node(places.len(), node.0) {
-        return Some(Refusal::NoSuchNode);
+        return Some(6);
     }
     if !is_up(places, node.0) {
-        return Some(Refusal::NodeDown);
+        return Some(1);
     }
     None
 }
@@ -47,11 +45,11 @@ impl World {
             StandsWith c self.new (earlier ++ tape.new.items) (after_event c h by_fuse now (event.Crash node))) }
         ensures lines { OnOk result (All HasLine tape.old.items → All HasLine tape.new.items) }
         ensures happens { OnOk result ((c : Cluster) (items : List OnTape) (now : Standing) → StandsWith c self.old items now → refusal c now (event.Crash node) ≡ None) }
-        ensures refused { (why : RefusalValue) → result ≡ Err (Refused why) → (c : Cluster) (items : List OnTape) (now : Standing) → StandsWith c self.old items now → refusal c now (event.Crash node) ≡ Some (number_of why) }
-        ensures world { (why : RefusalValue) → result ≡ Err (Refused why) → self.new ≡ self.old }
+        ensures refused { (why : ℕ) → result ≡ Err (Refused why) → (c : Cluster) (items : List OnTape) (now : Standing) → StandsWith c self.old items now → refusal c now (event.Crash node) ≡ Some why }
+        ensures world { (why : ℕ) → result ≡ Err (Refused why) → self.new ≡ self.old }
         ensures limited { result ≢ Err Limit }
     {
-        match crash_refusal(self.places.as_slice(), node) {
+        match refusal(self.places.as_slice(), node) {
             Some(why) => Err(WorldFault::Refused { why }),
             None => {
                 self.crashes(alloc, node, tape)?;

@@ -10,8 +10,6 @@ ghost use Rattle.mega_places.specs.of_promises.of_transcript.Tape.{is_sent};
 ghost use Rattle.mega_places.specs.of_promises.Messages.{message_of};
 ghost use Rattle.mega_places.specs.of_promises.Runs.{Standing, after_event, by_fuse, refusal, up};
 ghost use Rattle.mega_places.specs.Carries.{Carries};
-ghost use Rattle.mega_places.specs.of_verdicts.declared.refusal.Refusal.{Refusal};
-ghost use Rattle.mega_places.specs.of_verdicts.Refusals.{number_of};
 ghost use Rattle.mega_places.specs.declared.fault.WorldFault.TheVariants.{Limit, Refused};
 ghost use Rattle.mega_world.specs.Formed.{IsSound};
 ghost use Rattle.mega_places.specs.Members.{is_up_at};
@@ -60,7 +58,7 @@ impl World {
         ensures lines { OnOk result ((c : Cluster) (h : Meanings) (earlier : List OnTape) (now : Standing) → StandsWith c self.old (earlier ++ tape.old.items) now → IsSound (H.meant handlers.old) c h now (event.Deliver number) →
             All HasLine tape.old.items → All HasLine tape.new.items) }
         ensures handlers { H.meant handlers.new ≡ H.meant handlers.old }
-        ensures served { (why : Refusal) → result ≢ Err (Refused why) }
+        ensures served { (why : ℕ) → result ≢ Err (Refused why) }
         ensures limited { result ≢ Err Limit }
     {
         let message = match sent_to(&self.mail, self.places.as_slice(), number) {
@@ -99,8 +97,8 @@ impl World {
             All HasLine tape.old.items → All HasLine tape.new.items) }
         ensures handlers { H.meant handlers.new ≡ H.meant handlers.old }
         ensures happens { OnOk result ((c : Cluster) (items : List OnTape) (now : Standing) → StandsWith c self.old items now → refusal c now (event.Deliver number) ≡ None) }
-        ensures refused { (why : Refusal) → result ≡ Err (Refused why) → (c : Cluster) (items : List OnTape) (now : Standing) → StandsWith c self.old items now → refusal c now (event.Deliver number) ≡ Some (number_of why) }
-        ensures world { (why : Refusal) → result ≡ Err (Refused why) → self.new ≡ self.old }
+        ensures refused { (why : ℕ) → result ≡ Err (Refused why) → (c : Cluster) (items : List OnTape) (now : Standing) → StandsWith c self.old items now → refusal c now (event.Deliver number) ≡ Some why }
+        ensures world { (why : ℕ) → result ≡ Err (Refused why) → self.new ≡ self.old }
         ensures limited { result ≢ Err Limit }
     {
         match self.mail.delivery_refusal(self.places.as_slice(), number) {

@@ -1,5 +1,5 @@
 //! Waiting messages are delivered, the smallest number first, up to a limit.
-ghost use Rattle.std.specs.Prelude.{◌≡◌, ◌≢◌, OnOk, Err, ◌++◌, List};
+ghost use Rattle.std.specs.Prelude.{◌≡◌, ◌≢◌, ℕ, OnOk, Err, ◌++◌, List};
 ghost use Rattle.std.specs.Prelude.{All};
 ghost use Rattle.mega_cluster.specs.declared.cluster.Cluster.{Cluster};
 ghost use Rattle.mega_places.specs.of_handler.Named.{Meanings};
@@ -7,7 +7,6 @@ ghost use Rattle.mega_places.specs.of_promises.of_schedule.declared.world_event.
 ghost use Rattle.mega_places.specs.of_promises.of_transcript.declared.item.Item.{Item as OnTape};
 ghost use Rattle.mega_places.specs.of_promises.of_transcript.Lines.{HasLine};
 ghost use Rattle.mega_places.specs.of_promises.Runs.{Standing, after_event, by_fuse};
-ghost use Rattle.mega_places.specs.of_verdicts.declared.refusal.Refusal.{Refusal};
 ghost use Rattle.mega_places.specs.declared.fault.WorldFault.TheVariants.{Limit, Refused};
 ghost use Rattle.mega_world.specs.Formed.{IsSound};
 ghost use Rattle.mega_world.specs.AtRun.{StandsWith, IsDue};
@@ -33,7 +32,7 @@ impl World {
         ensures lines { OnOk result ((c : Cluster) (h : Meanings) (earlier : List OnTape) (now : Standing) → StandsWith c self.old (earlier ++ tape.old.items) now → IsSound (H.meant handlers.old) c h now (event.Drain most) →
             All HasLine tape.old.items → All HasLine tape.new.items) }
         ensures handlers { H.meant handlers.new ≡ H.meant handlers.old }
-        ensures served { (why : Refusal) → result ≢ Err (Refused why) }
+        ensures served { (why : ℕ) → result ≢ Err (Refused why) }
         ensures limited { result ≢ Err Limit }
     {
         for _turn in 0..most {

@@ -1,5 +1,5 @@
 //! A message is never delivered from now on.
-ghost use Rattle.std.specs.Prelude.{◌≡◌, ◌≢◌, OnOk, Err, Some, None, ◌++◌, List};
+ghost use Rattle.std.specs.Prelude.{◌≡◌, ◌≢◌, ℕ, OnOk, Err, Some, None, ◌++◌, List};
 ghost use Rattle.std.specs.Prelude.{All};
 ghost use Rattle.mega_cluster.specs.declared.cluster.Cluster.{Cluster};
 ghost use Rattle.mega_places.specs.of_handler.Named.{Meanings};
@@ -7,8 +7,6 @@ ghost use Rattle.mega_places.specs.of_promises.of_schedule.declared.world_event.
 ghost use Rattle.mega_places.specs.of_promises.of_transcript.declared.item.Item.{Item as OnTape};
 ghost use Rattle.mega_places.specs.of_promises.of_transcript.Lines.{HasLine};
 ghost use Rattle.mega_places.specs.of_promises.Runs.{Standing, after_event, by_fuse, refusal};
-ghost use Rattle.mega_places.specs.of_verdicts.declared.refusal.Refusal.{Refusal};
-ghost use Rattle.mega_places.specs.of_verdicts.Refusals.{number_of};
 ghost use Rattle.mega_places.specs.declared.fault.WorldFault.TheVariants.{Limit, Refused};
 ghost use Rattle.mega_world.specs.AtRun.{StandsWith};
 
@@ -23,8 +21,8 @@ impl World {
             StandsWith c self.new (earlier ++ tape.new.items) (after_event c h by_fuse now (event.Drop number))) }
         ensures lines { OnOk result (All HasLine tape.old.items → All HasLine tape.new.items) }
         ensures happens { OnOk result ((c : Cluster) (items : List OnTape) (now : Standing) → StandsWith c self.old items now → refusal c now (event.Drop number) ≡ None) }
-        ensures refused { (why : Refusal) → result ≡ Err (Refused why) → (c : Cluster) (items : List OnTape) (now : Standing) → StandsWith c self.old items now → refusal c now (event.Drop number) ≡ Some (number_of why) }
-        ensures world { (why : Refusal) → result ≡ Err (Refused why) → self.new ≡ self.old }
+        ensures refused { (why : ℕ) → result ≡ Err (Refused why) → (c : Cluster) (items : List OnTape) (now : Standing) → StandsWith c self.old items now → refusal c now (event.Drop number) ≡ Some why }
+        ensures world { (why : ℕ) → result ≡ Err (Refused why) → self.new ≡ self.old }
         ensures limited { result ≢ Err Limit }
     {
         let refusal = self.mail.drop_message(number)?;

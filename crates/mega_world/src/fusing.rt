@@ -1,13 +1,11 @@
 //! A fuse is set on a device of a node.
-ghost use Rattle.std.specs.Prelude.{◌≡◌, ◌≢◌, ◌≤◌, ◌-◌, ℕ, List, length, slice_get, option_map, IfNone, OnOk, Err, Some, None};
+ghost use Rattle.std.specs.Prelude.{◌≡◌, ◌≢◌, ◌≤◌, ◌-◌, ℕ, List, length, slice_get, IfNone, OnOk, Err, Some, None};
 ghost use Rattle.mega_cluster.specs.declared.cluster.Cluster.{Cluster};
 ghost use Rattle.mega_disk.specs.declared.pair.Device.{Device as DeviceValue};
 ghost use Rattle.mega_places.specs.of_handler.Named.{Meanings};
 ghost use Rattle.mega_places.specs.of_promises.of_schedule.declared.world_event.WorldEvent.TheVariants as event;
 ghost use Rattle.mega_places.specs.of_promises.of_transcript.declared.item.Item.{Item as OnTape};
 ghost use Rattle.mega_places.specs.of_promises.Runs.{Standing, after_event, by_fuse, refusal};
-ghost use Rattle.mega_places.specs.of_verdicts.declared.refusal.Refusal.{Refusal as RefusalValue};
-ghost use Rattle.mega_places.specs.of_verdicts.Refusals.{number_of};
 ghost use Rattle.mega_places.specs.declared.fault.WorldFault.TheVariants.{Limit, Refused};
 ghost use Rattle.mega_places.specs.declared.place.Place.{Place as PlaceValue};
 ghost use Rattle.mega_places.specs.Fusing.{SetsFuse, SetsFuseAt};
@@ -17,16 +15,16 @@ ghost use Rattle.mega_world.specs.AtRun.{StandsWith};
 use crate::world::World;
 use mega_base::NodeId;
 use mega_disk::Device;
-use mega_places::{Place, Refusal, WorldFault, is_node};
+use mega_places::{Place, WorldFault, is_node};
 
-/// Why no fuse is set: there is no such node.
-fn fuse_refusal(places: &[Place], node: NodeId) -> Option<Refusal>
+/// Why no fuse is set: 6, there is no such node.
+fn refusal(places: &[Place], node: NodeId) -> Option<u8>
     ensures least { IfNone result (1 ≤ node.0) }
     ensures most { IfNone result (node.0 ≤ length places.now) }
-    ensures value { (c : Cluster) (now : Standing) (calls image : ℕ) (device : DeviceValue) → AreMembers c places.now now.node → option_map number_of result ≡ refusal c now (event.Fuse node calls image device) }
+    ensures value { (c : Cluster) (now : Standing) (calls image : ℕ) (device : DeviceValue) → AreMembers c places.now now.node → result ≡ refusal c now (event.Fuse node calls image device) }
 {
     if !is_node(places.len(), node.0) {
-        return Some(Refusal::NoSuchNode);
+        return Some(6);
     }
     None
 }
@@ -61,11 +59,11 @@ impl World {
     ) -> Result<(), WorldFault>
         ensures state { OnOk result ((c : Cluster) (h : Meanings) (items : List OnTape) (now : Standing) → StandsWith c self.old items now → StandsWith c self.new items (after_event c h by_fuse now (event.Fuse node calls image device))) }
         ensures happens { OnOk result ((c : Cluster) (items : List OnTape) (now : Standing) → StandsWith c self.old items now → refusal c now (event.Fuse node calls image device) ≡ None) }
-        ensures refused { (why : RefusalValue) → result ≡ Err (Refused why) → (c : Cluster) (items : List OnTape) (now : Standing) → StandsWith c self.old items now → refusal c now (event.Fuse node calls image device) ≡ Some (number_of why) }
-        ensures world { (why : RefusalValue) → result ≡ Err (Refused why) → self.new ≡ self.old }
+        ensures refused { (why : ℕ) → result ≡ Err (Refused why) → (c : Cluster) (items : List OnTape) (now : Standing) → StandsWith c self.old items now → refusal c now (event.Fuse node calls image device) ≡ Some why }
+        ensures world { (why : ℕ) → result ≡ Err (Refused why) → self.new ≡ self.old }
         ensures limited { result ≢ Err Limit }
     {
-        match fuse_refusal(self.places.as_slice(), node) {
+        match refusal(self.places.as_slice(), node) {
             Some(why) => Err(WorldFault::Refused { why }),
             None => {
                 self.fuses(node, calls, image, device);

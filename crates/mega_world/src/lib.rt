@@ -15,5 +15,5 @@ mod showing;
 mod ticking;
 mod world;
 
-pub use mega_places::{Mail, Place, Refusal, WorldFault};
+pub use mega_places::{Mail, Place, WorldFault};
 pub use world::World;

@@ -1,5 +1,5 @@
 //! A node of the world starts again, or its log's fuse cuts the start off.
-ghost use Rattle.std.specs.Prelude.{◌≡◌, ◌≢◌, ◌≤◌, ◌-◌, ℕ, List, length, option_map, set, IfNone, IfOk, OnOk, Err, Option, Some, None, true, false, ◌++◌};
+ghost use Rattle.std.specs.Prelude.{◌≡◌, ◌≢◌, ◌≤◌, ◌-◌, ℕ, List, length, set, IfNone, IfOk, OnOk, Err, Option, Some, None, true, false, ◌++◌};
 ghost use Rattle.std.specs.Prelude.{All};
 ghost use Rattle.mega_cluster.specs.declared.cluster.Cluster.{Cluster as ClusterValue};
 ghost use Rattle.mega_places.specs.of_durable.of_core.Served.{IsServed};
@@ -9,8 +9,6 @@ ghost use Rattle.mega_places.specs.of_promises.of_schedule.declared.world_event.
 ghost use Rattle.mega_places.specs.of_promises.of_transcript.declared.item.Item.{Item as OnTape};
 ghost use Rattle.mega_places.specs.of_promises.of_transcript.Lines.{HasLine};
 ghost use Rattle.mega_places.specs.of_promises.Runs.{Standing, after_event, by_fuse, refusal};
-ghost use Rattle.mega_places.specs.of_verdicts.declared.refusal.Refusal.{Refusal as RefusalValue};
-ghost use Rattle.mega_places.specs.of_verdicts.Refusals.{number_of};
 ghost use Rattle.mega_places.specs.declared.fault.WorldFault.TheVariants.{Limit, Refused};
 ghost use Rattle.mega_places.specs.declared.place.Place.{Place as PlaceValue};
 ghost use Rattle.mega_places.specs.Kept.{AreNodes, IsFallen};
@@ -28,7 +26,7 @@ use mega_places::mega_durable::Cut;
 use mega_places::mega_durable::mega_core::mega_step_parts::Note;
 use mega_places::mega_transcript::{Item, Tape};
 use mega_places::{
-    Begun, Fallen, NotBegun, Place, Refusal, WorldFault, is_node, is_up, put_place, take_place,
+    Begun, Fallen, NotBegun, Place, WorldFault, is_node, is_up, put_place, take_place,
 };
 use std::alloc::Global;
 
@@ -40,18 +38,18 @@ pub struct Shown {
     pub(crate) notes: Items<Note>,
 }
 
-/// Why a node does not start: there is no such node, or it is up.
-fn start_refusal(places: &[Place], node: NodeId) -> Option<Refusal>
+/// Why a node does not start: 6, there is no such node; 2, it is up.
+fn refusal(places: &[Place], node: NodeId) -> Option<u8>
     ensures least { IfNone result (1 ≤ node.0) }
     ensures most { IfNone result (node.0 ≤ length places.now) }
     ensures down { IfNone result (is_up_at places.now node.0 ≡ false) }
-    ensures value { (c : ClusterValue) (now : Standing) → AreMembers c places.now now.node → option_map number_of result ≡ refusal c now (event.Start node) }
+    ensures value { (c : ClusterValue) (now : Standing) → AreMembers c places.now now.node → result ≡ refusal c now (event.Start node) }
 {
     if !is_node(places.len(), node.0) {
-        return Some(Refusal::NoSuchNode);
+        return Some(6);
     }
     if is_up(places, node.0) {
-        return Some(Refusal::NodeUp);
+        return Some(2);
     }
     None
 }
@@ -72,7 +70,7 @@ fn restarted(
     ensures reopens { IfOk result (λ shown. (now : Standing) (was : List PlaceValue) → AreNodes cluster was now → me ≤ length was → ((place : PlaceValue) → set places.old.items (me - 1) place ≡ set was (me - 1) place) →
         IsFallen cluster me fallen (now.starts me) (now.owed me) (now.node me).met (now.log_fuse me) → OpensOr cluster now me places.new.items shown) }
     ensures limit { result ≡ Err Limit → AtEachFallen cluster me fallen (λ starts owed met fuse. starts ≡ 4294967295) }
-    ensures served { (why : RefusalValue) → result ≢ Err (Refused why) }
+    ensures served { (why : ℕ) → result ≢ Err (Refused why) }
 {
     match fallen.start(alloc, cluster, me) {
         Ok(begun) => {
@@ -109,7 +107,7 @@ fn start_at(
     requires known { AreStartable cluster places.old.items }
     ensures reopens { IfOk result (λ shown. Reopens cluster me places.old.items places.new.items shown) }
     ensures limit { result ≡ Err Limit → (now : Standing) → AreNodes cluster places.old.items now → now.starts me ≡ 4294967295 }
-    ensures served { (why : RefusalValue) → result ≢ Err (Refused why) }
+    ensures served { (why : ℕ) → result ≢ Err (Refused why) }
 {
     match take_place(alloc, places, me) {
         Place::Down(fallen) => match restarted(alloc, places, cluster, me, fallen) {
@@ -133,11 +131,11 @@ impl World {
             StandsWith c self.new (earlier ++ tape.new.items) (after_event c h by_fuse now (event.Start node))) }
         ensures lines { OnOk result ((c : ClusterValue) (earlier : List OnTape) (now : Standing) → StandsWith c self.old (earlier ++ tape.old.items) now → IsFormed now → All HasLine tape.old.items → All HasLine tape.new.items) }
         ensures happens { OnOk result ((c : ClusterValue) (items : List OnTape) (now : Standing) → StandsWith c self.old items now → refusal c now (event.Start node) ≡ None) }
-        ensures refused { (why : RefusalValue) → result ≡ Err (Refused why) → (c : ClusterValue) (items : List OnTape) (now : Standing) → StandsWith c self.old items now → refusal c now (event.Start node) ≡ Some (number_of why) }
-        ensures world { (why : RefusalValue) → result ≡ Err (Refused why) → self.new ≡ self.old }
+        ensures refused { (why : ℕ) → result ≡ Err (Refused why) → (c : ClusterValue) (items : List OnTape) (now : Standing) → StandsWith c self.old items now → refusal c now (event.Start node) ≡ Some why }
+        ensures world { (why : ℕ) → result ≡ Err (Refused why) → self.new ≡ self.old }
         ensures limit { result ≡ Err Limit → (c : ClusterValue) (items : List OnTape) (now : Standing) → StandsWith c self.old items now → IsPastLast c now (event.Start node) }
     {
-        match start_refusal(self.places.as_slice(), node) {
+        match refusal(self.places.as_slice(), node) {
             Some(why) => Err(WorldFault::Refused { why }),
             None => self.starts(alloc, node, tape),
         }
@@ -152,7 +150,7 @@ impl World {
         ensures state { OnOk result ((c : ClusterValue) (h : Meanings) (earlier : List OnTape) (now : Standing) → StandsWith c self.old (earlier ++ tape.old.items) now →
             StandsWith c self.new (earlier ++ tape.new.items) (after_event c h by_fuse now (event.Start node))) }
         ensures lines { OnOk result ((c : ClusterValue) (earlier : List OnTape) (now : Standing) → StandsWith c self.old (earlier ++ tape.old.items) now → IsFormed now → All HasLine tape.old.items → All HasLine tape.new.items) }
-        ensures served { (why : RefusalValue) → result ≢ Err (Refused why) }
+        ensures served { (why : ℕ) → result ≢ Err (Refused why) }
         ensures limit { result ≡ Err Limit → (c : ClusterValue) (items : List OnTape) (now : Standing) → StandsWith c self.old items now → now.starts node.0 ≡ 4294967295 }
     {
         let cluster = self.cluster.copy(alloc)?;

@@ -1,5 +1,5 @@
 //! The clock of a node shows a time, unless it showed a later one.
-ghost use Rattle.std.specs.Prelude.{◌≡◌, ◌≢◌, ◌≤◌, ℕ, length, option_map, IfNone, OnOk, Err, Some, None, true, ◌++◌, List};
+ghost use Rattle.std.specs.Prelude.{◌≡◌, ◌≢◌, ◌≤◌, ℕ, length, IfNone, OnOk, Err, Some, None, true, ◌++◌, List};
 ghost use Rattle.std.specs.Prelude.{All};
 ghost use Rattle.mega_cluster.specs.declared.cluster.Cluster.{Cluster};
 ghost use Rattle.mega_places.specs.of_handler.Named.{Meanings};
@@ -9,8 +9,6 @@ ghost use Rattle.mega_places.specs.of_promises.of_transcript.Lines.{HasLine};
 ghost use Rattle.mega_places.specs.of_voter.of_rules.Clock.{clock_of};
 ghost use Rattle.mega_places.specs.of_voter.of_rules.Operations.{Node as RuleNode};
 ghost use Rattle.mega_places.specs.of_promises.Runs.{Standing, after_event, by_fuse, refusal};
-ghost use Rattle.mega_places.specs.of_verdicts.declared.refusal.Refusal.{Refusal as RefusalValue};
-ghost use Rattle.mega_places.specs.of_verdicts.Refusals.{number_of};
 ghost use Rattle.mega_places.specs.declared.fault.WorldFault.TheVariants.{Limit, Refused};
 ghost use Rattle.mega_world.specs.Formed.{IsSound};
 ghost use Rattle.mega_places.specs.Members.{AreMembers, is_up_at};
@@ -21,7 +19,7 @@ use mega_base::NodeId;
 use mega_places::mega_durable::mega_core::mega_step_parts::Event;
 use mega_places::mega_meanings::QueueHandlers;
 use mega_places::mega_transcript::{Item, Tape};
-use mega_places::{Place, Refusal, WorldFault, is_node, is_up, member_of, step_at};
+use mega_places::{Place, WorldFault, is_node, is_up, member_of, step_at};
 use std::alloc::Global;
 
 /// The last time that the clock of a node showed in this start; 0 of a node that is down.
@@ -34,21 +32,21 @@ fn clock_of(places: &[Place], me: u8) -> u64
     }
 }
 
-/// Why the clock of a node does not show a time: there is no such node, it is down, or its clock showed a later one in this start.
-fn tick_refusal(places: &[Place], node: NodeId, clock: u64) -> Option<Refusal>
+/// Why the clock of a node does not show a time: 6, there is no such node; 1, it is down; 5, it showed a later one in this start.
+fn refusal(places: &[Place], node: NodeId, clock: u64) -> Option<u8>
     ensures least { IfNone result (1 ≤ node.0) }
     ensures most { IfNone result (node.0 ≤ length places.now) }
     ensures up { IfNone result (is_up_at places.now node.0 ≡ true) }
-    ensures value { (c : Cluster) (now : Standing) → AreMembers c places.now now.node → option_map number_of result ≡ refusal c now (event.Tick node clock) }
+    ensures value { (c : Cluster) (now : Standing) → AreMembers c places.now now.node → result ≡ refusal c now (event.Tick node clock) }
 {
     if !is_node(places.len(), node.0) {
-        return Some(Refusal::NoSuchNode);
+        return Some(6);
     }
     if !is_up(places, node.0) {
-        return Some(Refusal::NodeDown);
+        return Some(1);
     }
     if clock < clock_of(places, node.0) {
-        return Some(Refusal::ClockBack);
+        return Some(5);
     }
     None
 }
@@ -70,11 +68,11 @@ impl World {
             All HasLine tape.old.items → All HasLine tape.new.items) }
         ensures handlers { H.meant handlers.new ≡ H.meant handlers.old }
         ensures happens { OnOk result ((c : Cluster) (items : List OnTape) (now : Standing) → StandsWith c self.old items now → refusal c now (event.Tick node clock) ≡ None) }
-        ensures refused { (why : RefusalValue) → result ≡ Err (Refused why) → (c : Cluster) (items : List OnTape) (now : Standing) → StandsWith c self.old items now → refusal c now (event.Tick node clock) ≡ Some (number_of why) }
-        ensures world { (why : RefusalValue) → result ≡ Err (Refused why) → self.new ≡ self.old }
+        ensures refused { (why : ℕ) → result ≡ Err (Refused why) → (c : Cluster) (items : List OnTape) (now : Standing) → StandsWith c self.old items now → refusal c now (event.Tick node clock) ≡ Some why }
+        ensures world { (why : ℕ) → result ≡ Err (Refused why) → self.new ≡ self.old }
         ensures limited { result ≢ Err Limit }
     {
-        match tick_refusal(self.places.as_slice(), node, clock) {
+        match refusal(self.places.as_slice(), node, clock) {
             Some(why) => Err(WorldFault::Refused { why }),
             None => self.ticks(alloc, handlers, node, clock, tape),
         }
@@ -98,7 +96,7 @@ impl World {
         ensures lines { OnOk result ((c : Cluster) (h : Meanings) (earlier : List OnTape) (now : Standing) → StandsWith c self.old (earlier ++ tape.old.items) now → IsSound (H.meant handlers.old) c h now (event.Tick node clock) →
             All HasLine tape.old.items → All HasLine tape.new.items) }
         ensures handlers { H.meant handlers.new ≡ H.meant handlers.old }
-        ensures served { (why : RefusalValue) → result ≢ Err (Refused why) }
+        ensures served { (why : ℕ) → result ≢ Err (Refused why) }
         ensures limited { result ≢ Err Limit }
     {
         let made = match step_at(

@@ -1,4 +1,4 @@
-use Rattle.std.proofs.Common.{ℕ, ◌≡◌, ◌∙◌, [], Some, None, Err, ap, append-nil, subst, sym, List}
+use Rattle.std.proofs.Common.{ℕ, ◌≡◌, [], Some, None, Err, ap, append-nil, subst, sym, List}
 use Rattle.std.specs.List.{All}
 use Rattle.mega_field_ranges.specs.Held.{HoldsItem}
 use Rattle.mega_meanings.specs.BuiltIn.{built_in}
@@ -6,7 +6,6 @@ use Rattle.mega_transcript.specs.declared.item.Item.{Item}
 use Rattle.mega_transcript.specs.Lines.{HasLine}
 use Rattle.mega_transcript.specs.Tape.{newest}
 use Rattle.mega_shown_laws.specs.of_promises.Runs.{refusal}
-use Rattle.mega_world.specs.of_verdicts.Refusals.{number_of}
 use Rattle.mega_world.specs.AtRun.{StandsWith}
 use Rattle.mega_line_events.specs.Running.{stood}
 use Rattle.mega_line_events.proofs.Running.{sound, proceeds}
@@ -44,8 +43,7 @@ returns-in-Ok-clause-lines g c =
 pub returns-in-Err-Refused-clause-refused : goal.returns-in-Err-Refused-clause-refused
 returns-in-Err-Refused-clause-refused g c at why is done events after =
     let cluster = c.args.cluster.now in
-    let told : c.number.result ≡ why = cc in
-    let same : number_of c.in-Err-Refused.why ≡ why = sym c.number.ensures ∙ told in
+    let same : c.in-Err-Refused.why ≡ why = cc in
     let refused = c.in-Err-Refused.ensures.refused c.in-Err-Refused.why (ap Err c.in-Err-Refused.field-0-is) cluster (stood cluster events) after.here in (
       cc,
       record { event = c.args.event; spelled = c.requires.spelled; refused = subst (λ (w : ℕ). refusal cluster (stood cluster events) c.args.event ≡ Some w) same refused },

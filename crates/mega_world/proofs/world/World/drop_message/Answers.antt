@@ -1,14 +1,11 @@
-use Rattle.std.proofs.Common.{[], ◌∷◌, ◌++◌, ◌≡◌, ◌∙◌, Some, option_map, ap, refl, sym}
-use Rattle.mega_places.specs.of_verdicts.declared.refusal.Refusal.{Refusal}
-use Rattle.mega_places.specs.of_verdicts.Refusals.{number_of}
+use Rattle.std.proofs.Common.{[], ◌∷◌, ◌++◌, ◌≡◌, ◌∙◌, Some, ap, refl, sym}
 use Rattle.mega_places.specs.of_promises.of_transcript.declared.item.Item.TheVariants.{Dropped}
 use Rattle.mega_world.proofs.Behind.{behind}
 use Rattle.mega_world.proofs.Emptying.{dropped_at}
 use Rattle.mega_world.proofs.world.World.drop_message.Goals as goal
 
 pub returns-in-Some-clause-refused : goal.returns-in-Some-clause-refused
-returns-in-Some-clause-refused c why is cluster items now r =
-    let same : c.in-Some.why ≡ why = cc in sym (c.in_ok-refusal.ensures.value cluster now r.mail) ∙ ap (option_map number_of) c.in-Some.is ∙ ap (λ (w : Refusal). Some (number_of w)) same
+returns-in-Some-clause-refused c why is cluster items now r = let same : c.in-Some.why ≡ why = cc in sym (c.in_ok-refusal.ensures.value cluster now r.mail) ∙ c.in-Some.is ∙ ap Some same
 
 pub returns-in-Some-clause-world : goal.returns-in-Some-clause-world
 returns-in-Some-clause-world c why is = λ i. record c.args.self.now { mail = c.in_ok-refusal.ensures.same c.in-Some.why c.in-Some.is i }
@@ -20,4 +17,4 @@ returns-in_ok-push-in-None-clause-state c cluster h earlier now r =
     (behind earlier c.args.tape.now.items (Dropped c.args.number ∷ []) c.push.new.self c.in_ok-push-in-None.ensures.ok)
 
 pub returns-in_ok-push-in-None-clause-happens : goal.returns-in_ok-push-in-None-clause-happens
-returns-in_ok-push-in-None-clause-happens c cluster items now r = sym (c.in_ok-refusal.ensures.value cluster now r.mail) ∙ ap (option_map number_of) c.in-None.is
+returns-in_ok-push-in-None-clause-happens c cluster items now r = sym (c.in_ok-refusal.ensures.value cluster now r.mail) ∙ c.in-None.is
