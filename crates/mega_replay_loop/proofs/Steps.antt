@@ -139,13 +139,16 @@ end_written report c (Some start) tally count first now waiting later ran added 
 pub end_cut : (report : Report) (c : Cluster) (start : Option (List ℕ)) (tally : Tally) (count : ℕ) (first now : Option (List ℕ)) (waiting later : List ℕ) → LeftRanOut report c start tally count (Writes first now waiting)
     → later ≡ waiting → LeftIsBegun report c start (WritesFront first now later)
 end_cut report c None tally count first now waiting later ran same = tt
-end_cut report c (Some start) tally count first now waiting later ran same = ([], record {
-  done = ran.done;
-  events = ran.events;
-  replayed = ran.replayed;
-  all = ran.all;
-  said = as_front first now later (text_at report c ran.events) (subst (λ (xs : List ℕ). Writes first now xs (text_at report c ran.events)) (sym same) ran.said);
-})
+end_cut report c (Some start) tally count first now waiting later ran same = (
+  [],
+  record {
+    done = ran.done;
+    events = ran.events;
+    replayed = ran.replayed;
+    all = ran.all;
+    said = as_front first now later (text_at report c ran.events) (subst (λ (xs : List ℕ). Writes first now xs (text_at report c ran.events)) (sym same) ran.said);
+  },
+)
 
 begun_with : (report : Report) (c : Cluster) (first now : Option (List ℕ)) (Says : List ℕ → Type 0) (done : List (List ℕ)) (events : List Happening) → CanStart c → AllHappen c done events → All HoldsItem (stood c events).tape → IsDoneTo first now done → Says (text_at report c events)
     → LeftIsBegun report c first Says
@@ -185,13 +188,17 @@ pub stopped : (report : Report) (c : Cluster) (first now : Option (List ℕ)) (I
     → number ≡ count + 1 → StopsNext now (λ line. IsCause line (stood c ran.events)) → Says (text_at report c ran.events) → LeftStops report c first number IsCause Says
 stopped report c None now IsCause Says world count number Is ran next stops said = tt
 stopped report c (Some first) None IsCause Says world count number Is ran next stops said = absurd ran.left
-stopped report c (Some first) (Some now) IsCause Says world count number Is ran next stops said = (stops.0, stops.1, record {
-  done = ran.done;
-  events = ran.events;
-  replayed = replayed c ran.done ran.events ran.after.starts ran.after.happen ran.after.held;
-  all = ran.left.0 ∙ ap (in_order ran.done) stops.2;
-  said = (counts c first now world count number Is ran next, stops.3, said);
-})
+stopped report c (Some first) (Some now) IsCause Says world count number Is ran next stops said = (
+  stops.0,
+  stops.1,
+  record {
+    done = ran.done;
+    events = ran.events;
+    replayed = replayed c ran.done ran.events ran.after.starts ran.after.happen ran.after.held;
+    all = ran.left.0 ∙ ap (in_order ran.done) stops.2;
+    said = (counts c first now world count number Is ran next, stops.3, said);
+  },
+)
 
 pub stops_next : (now next : Option (List ℕ)) (IsCause : List ℕ → Type 0) (line : List ℕ) → Follows now next line → IsCause line → StopsNext now IsCause
 stops_next None next IsCause line follows cause = tt

@@ -16,6 +16,9 @@ returns-clause-rests g c me h leases now told of le clock r =
     let reached = c.args.reached in
     let action = c.in_ok-action.action in
     let sees = sees_log s kept leases (version rows.rows) (progress_at rows.progress) now reached.group reached.position r le in
-    let seen = stands_seen s kept leases (version rows.rows) (progress_at rows.progress) now.stored (version c.finishes.new.rows) now.met c.finishes.ensures.versions r in
-    (does now action, sym (c.in_ok-action.ensures.action told me h now r.tells clock sees of),
-    coe 0 1 (i. RepresentsMet s kept leases (version c.finishes.new.rows) (progress_at rows.progress) (sym (does_met now action) i) (sym (does_stored now action) i)) seen, c.in_ok-does.ensures now)
+    let seen = stands_seen s kept leases (version rows.rows) (progress_at rows.progress) now.stored (version c.finishes.new.rows) now.met c.finishes.ensures.versions r in (
+      does now action,
+      sym (c.in_ok-action.ensures.action told me h now r.tells clock sees of),
+      coe 0 1 (i. RepresentsMet s kept leases (version c.finishes.new.rows) (progress_at rows.progress) (sym (does_met now action) i) (sym (does_stored now action) i)) seen,
+      c.in_ok-does.ensures now,
+    )
