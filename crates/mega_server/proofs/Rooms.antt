@@ -48,12 +48,12 @@ compacted_full store rows one (up.Log fault) n owes full is = record { of_device
 compacted_full store rows one up.Unformed n owes full is = absurd (cc)
 
 -- and in a step, in which the rows are never full
-never_full : {T : Type 0} (fault : StepFault) (n : ℕ) → ((m : ℕ) → failed_by {T = T} (Err (up.Step fault)) ≡ Some (why.Full m) → ⊥) → fault ≡ step.Full n → ⊥
-never_full {T = T} fault n never is = never n (ap (λ (one : StepFault). failed_by {T = T} (Err (up.Step one))) is)
+never_full : (T : Type 0) (fault : StepFault) (n : ℕ) → ((m : ℕ) → failed_by {T = T} (Err (up.Step fault)) ≡ Some (why.Full m) → ⊥) → fault ≡ step.Full n → ⊥
+never_full T fault n never is = never n (ap (λ (one : StepFault). failed_by {T = T} (Err (up.Step one))) is)
 
-pub stepped_full : {R V T : Type 0} (store : Ghosts R) (rows : VersionGhosts V) (one : Node R V) (fault : UpFault) (n : ℕ) → ((m : ℕ) → failed_by {T = T} (Err fault) ≡ Some (why.Full m) → ⊥)
+pub stepped_full : {R V : Type 0} (T : Type 0) (store : Ghosts R) (rows : VersionGhosts V) (one : Node R V) (fault : UpFault) (n : ℕ) → ((m : ℕ) → failed_by {T = T} (Err fault) ≡ Some (why.Full m) → ⊥)
     → ((m : ℕ) → fault ≡ up.Log (log.Full m) → HasNoRoom store store.length_with (records_in one) m) → fault_of fault ≡ Full n → IsFull store rows one n
-stepped_full {T = T} store rows one (up.Step fault) n never full is = absurd (never_full {T = T} fault n never (step_full fault n is))
-stepped_full store rows one (up.Cut cut) n never full is = absurd (cc)
-stepped_full store rows one (up.Log fault) n never full is = record { of_devices = inl (inl (full n (ap up.Log (log_full fault n is)))) }
-stepped_full store rows one up.Unformed n never full is = absurd (cc)
+stepped_full T store rows one (up.Step fault) n never full is = absurd (never_full T fault n never (step_full fault n is))
+stepped_full T store rows one (up.Cut cut) n never full is = absurd (cc)
+stepped_full T store rows one (up.Log fault) n never full is = record { of_devices = inl (inl (full n (ap up.Log (log_full fault n is)))) }
+stepped_full T store rows one up.Unformed n never full is = absurd (cc)
