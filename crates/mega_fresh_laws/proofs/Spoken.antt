@@ -61,19 +61,20 @@ unspoken_all (item ∷ tape) op group h = ap (λ t. cond t (before_spoken tape o
 -- it is an earlier tape, on which nothing was spoken
 pub before_earlier : (tape : List Item) (op : OpId) (group : GroupId) → Earlier (before_spoken tape op group) tape
 before_earlier [] op group = now_is []
-before_earlier (item ∷ tape) op group = by (has_spoken (item ∷ tape) op group)
+before_earlier (item ∷ tape) op group = by (has_spoken (item ∷ tape) op group) (before_earlier tape op group)
   where
-    by : (t : Bool) → Earlier (cond t (before_spoken tape op group) (item ∷ tape)) (item ∷ tape)
-    by true = one_later (before_spoken tape op group) tape item (before_earlier tape op group)
-    by false = now_is (item ∷ tape)
+    by : (t : Bool) → Earlier (before_spoken tape op group) tape → Earlier (cond t (before_spoken tape op group) (item ∷ tape)) (item ∷ tape)
+    by true earlier = one_later (before_spoken tape op group) tape item earlier
+    by false earlier = now_is (item ∷ tape)
 
 before_unspoken : (tape : List Item) (op : OpId) (group : GroupId) → has_spoken (before_spoken tape op group) op group ≡ false
 before_unspoken [] op group = refl
-before_unspoken (item ∷ tape) op group = by (has_spoken (item ∷ tape) op group) refl
+before_unspoken (item ∷ tape) op group = by (has_spoken (item ∷ tape) op group) (before_unspoken tape op group) refl
   where
-    by : (t : Bool) → has_spoken (item ∷ tape) op group ≡ t → has_spoken (cond t (before_spoken tape op group) (item ∷ tape)) op group ≡ false
-    by true e = before_unspoken tape op group
-    by false e = e
+    by : (t : Bool) → has_spoken (before_spoken tape op group) op group ≡ false → has_spoken (item ∷ tape) op group ≡ t
+        → has_spoken (cond t (before_spoken tape op group) (item ∷ tape)) op group ≡ false
+    by true unspoken e = unspoken
+    by false unspoken e = e
 
 asks_speaks : (op : OpId) (group : GroupId) (body : Body) → speaks_of op group body ≡ false → asks_end op group body ≡ false
 asks_speaks op group (Where asking g) h = h

@@ -3,11 +3,10 @@
 ghost use Rattle.std.specs.Prelude.{◌≡◌, false, true, [], ◌∷◌, reverse};
 ghost use Rattle.mega_outcome.specs.declared.request.Mode.TheVariants.{Current};
 ghost use Rattle.mega_leased_laws.specs.of_settled_laws.of_run_laws.of_tape_laws.of_promises.Messages.{is_unsafe};
-ghost use Rattle.mega_leased_laws.specs.of_valid_laws.Leases.{has_polled};
-ghost use Rattle.mega_fresh_laws.specs.Further.{missed, picking, third};
+ghost use Rattle.mega_fresh_laws.specs.Further.{missed};
 ghost use Rattle.mega_fresh_laws.specs.Picking.{ArePicksFresh};
 ghost use Rattle.mega_fresh_laws.specs.Stale.{stale};
-ghost use Rattle.mega_leased_laws.specs.of_settled_laws.of_run_laws.of_tape_laws.of_promises.Worked.{answers, committed_at, drain, op, put_at, read_at, read_through, run, second, tape_of, tick, told};
+ghost use Rattle.mega_leased_laws.specs.of_settled_laws.of_run_laws.of_tape_laws.of_promises.Worked.{answers, committed_at, drain, op, put_at, read_at, read_through, run, tick, told};
 
 /// A group is valid at node 1 by its put's read. Node 2 puts, and node 1 accepts that; so a current read of node 1 is local, while leases are safe, and shows the
 /// put of node 2.
@@ -23,15 +22,6 @@ pub fn a_local_read_shows_what_another_node_put()
 pub fn a_local_read_is_stale_where_leases_are_unsafe()
     ensures shows { answers (run stale) ≡ told (op 1 1 1) (committed_at 1) ∷ told (op 2 1 1) (committed_at 2) ∷ told (op 1 1 2) (read_through 1) ∷ [] }
     ensures not_safe { is_unsafe (reverse (run stale)) ≡ true }
-{}
-
-/// A pump that is to enter a message in the second group finds, in a later step, that another has done so. It picks the third group in that step, reads it locally,
-/// without a poll, and enters its message there, above what was decided.
-#[tactic(auto, unfolding(mega_base::specs::Codec::number_text))]
-pub fn a_pump_picks_a_further_group_and_reads_it_locally()
-    ensures shows { answers (run picking) ≡ told (op 1 1 1) (committed_at 1) ∷ told (op 1 1 2) (committed_at 1) ∷ told (op 2 1 1) (committed_at 1) ∷ told (op 1 1 3) (committed_at 2) ∷ [] }
-    ensures asked { has_polled (tape_of picking) (op 1 1 3) second ≡ true }
-    ensures local { has_polled (tape_of picking) (op 1 1 3) third ≡ false }
 {}
 
 /// No pump proposes where another entry was decided before it first spoke of the group, although it began before that.
