@@ -1,6 +1,6 @@
 -- What an operation proposes as its own is above all that was decided before it first spoke of the group, in every run, while leases are safe: what covers this is far
 -- enough.
-use Rattle.std.proofs.Common.{ℕ, ◌≡◌, suc, ◌-◌, ◌≤◌, ◌<◌, ◌&&◌, true, false, List, ◌∷◌, length, refl, ap, ◌∙◌, subst, arith}
+use Rattle.std.proofs.Common.{ℕ, ◌≡◌, suc, ◌-◌, ◌≤◌, ◌<◌, ◌&&◌, true, false, List, ◌∷◌, flat_map, length, refl, ap, ◌∙◌, subst, arith}
 use Rattle.std.proofs.lemmas.Bool.{and_from, or_left}
 use Rattle.mega_base.specs.declared.names.GroupId.{GroupId}
 use Rattle.mega_base.specs.declared.names.NodeId.{NodeId}
@@ -16,8 +16,11 @@ use Rattle.mega_leased_laws.specs.of_settled_laws.of_run_laws.of_tape_laws.of_pr
 use Rattle.mega_leased_laws.specs.of_settled_laws.of_run_laws.of_tape_laws.of_promises.Fresh.{proposes}
 use Rattle.mega_leased_laws.specs.of_settled_laws.of_run_laws.of_tape_laws.of_promises.Messages.{is_unsafe}
 use Rattle.mega_leased_laws.specs.of_settled_laws.of_run_laws.of_tape_laws.of_promises.Promises.{Stands}
-use Rattle.mega_leased_laws.specs.of_settled_laws.of_run_laws.of_tape_laws.of_promises.Runs.{Cuts, Happening, IsRun, setting}
+use Rattle.mega_leased_laws.specs.of_settled_laws.of_run_laws.of_tape_laws.of_promises.Runs.{Cuts, Happening, IsRun, set_at, setting, with_items}
+use Rattle.mega_leased_laws.specs.of_settled_laws.of_run_laws.of_tape_laws.of_promises.Items.{shown}
+use Rattle.mega_leased_laws.specs.of_settled_laws.of_run_laws.of_tape_laws.of_promises.of_rules.Steps.{step}
 use Rattle.mega_leased_laws.specs.of_settled_laws.of_run_laws.of_tape_laws.Lawful.{Lawful}
+use Rattle.mega_leased_laws.proofs.Tails.{front_of}
 use Rattle.mega_leased_laws.specs.of_settled_laws.of_run_laws.of_tape_laws.Polls.{ArePolls, IsPolled}
 use Rattle.mega_leased_laws.specs.of_settled_laws.of_run_laws.of_tape_laws.Writes.{Usage}
 use Rattle.mega_leased_laws.specs.of_settled_laws.of_run_laws.Usages.{Fits}
@@ -50,8 +53,9 @@ reaches_suffice = record { stays = reaches_on; polled = polled_reaches }
 
 near_reaches : (c : Cluster) → length c.nodes ≤ 9 → c.cells ≤ 5 → (usage : Usage) (first : Meanings) (cuts : Cuts) → Near Reaches reaches_suffice c usage first cuts
 near_reaches c few five usage first cuts h now me item event g r then up own whole onward valid only among full op group mine holds safe node n entry s =
+    let front_tape : List Item = with_items c (set_at now.node me (step (setting c h me) (now.node me) event).node) (item ∷ now.tape) (flat_map (shown me) (front_of (setting c h me) (now.node me) event)) in
     step_tops c few five usage first cuts h now me item event g r then up own whole (met_lives (setting c h me) (now.node me).met event) (notes_live (setting c h me) (now.node me) event)
-    valid only among full group holds safe node n entry (earlier_stood (before_spoken _ op group) _ (before_earlier _ op group) (Decide node group n entry) s)
+    valid only among full group holds safe node n entry (earlier_stood (before_spoken front_tape op group) front_tape (before_earlier front_tape op group) (Decide node group n entry) s)
 
 run_reaches : (c : Cluster) (usage : Usage) (first : Meanings) (events : List Happening) (tape : List Item) → length c.nodes ≤ 9 → c.cells ≤ 5 → IsRun c first events tape → Fits usage events → Are (IsFarItem Reaches c usage) tape
 run_reaches c usage first events tape few five run fits = run_far Reaches reaches_suffice c usage first events tape (λ cuts. near_reaches c few five usage first cuts) run fits

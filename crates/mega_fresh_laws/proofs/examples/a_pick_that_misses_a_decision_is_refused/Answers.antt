@@ -2,4 +2,4 @@ use Rattle.mega_fresh_laws.proofs.examples.a_pick_that_misses_a_decision_is_refu
 use Rattle.mega_fresh_laws.proofs.Missed.{missed_refused}
 
 pub returns : goal.returns
-returns c = missed_refused
+returns c = record { refused = missed_refused }
