@@ -100,6 +100,7 @@ impl Schedule {
     }
 
     /// Does the next line and tells what happened, or tells that there is none.
+    #[tactic(auto, using(crate::proofs::Steps::write_stops))]
     fn do_line<I: Source, O: Sink, H: QueueHandlers>(
         &mut self,
         alloc: Global,

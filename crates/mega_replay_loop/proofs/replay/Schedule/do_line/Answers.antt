@@ -7,7 +7,7 @@ use Rattle.mega_replay_output.specs.Progress.{Writes}
 use Rattle.mega_replay_output.specs.Texts.{IsTallied, so_far}
 use Rattle.mega_line_events.specs.Running.{Proceeds, stood}
 use Rattle.mega_replay_output.proofs.Progress.{waits_front}
-use Rattle.mega_replay_loop.proofs.Steps.{line_stops, long_stops, read_stops, write_stops}
+use Rattle.mega_replay_loop.proofs.Steps.{line_stops, long_stops, read_stops}
 use Rattle.mega_replay_loop.proofs.replay.Schedule.do_line.Goals as goal
 
 pub returns-in-Ok-Long-clause-stops : goal.returns-in-Ok-Long-clause-stops
@@ -25,11 +25,6 @@ returns-in-Err-take_line-clause-stops g c done events after =
     line_stops cluster c.args.number c.as_slice.result.now c.next_line.new.line (prepend_known c.args.self.now.reader (g.I.Source.left c.args.input.now)) (prepend_known c.next_line.new.reader (g.I.Source.left c.next_line.new.input)) (stood cluster events)
     c.in-Err-take_line.stop c.as_slice.ensures (c.in-Ok-Line.ensures.line (ap Ok c.in-Ok-Line.field-0-is)) (λ at reason is. c.in-Err-take_line.ensures.none at reason (ap Err is))
     (λ at why is. c.in-Err-take_line.ensures.refused at why (ap Err is) done events after) (λ at is. c.in-Err-take_line.ensures.limit at (ap Err is) done events after)
-
-pub returns-in-Err-tell-clause-stops : goal.returns-in-Err-tell-clause-stops
-returns-in-Err-tell-clause-stops g c done events after =
-    let cluster = c.args.task.now.cluster in
-    write_stops cluster c.args.number (stood cluster events) (prepend_known c.args.self.now.reader (g.I.Source.left c.args.input.now)) c.in-Err-tell.stop c.in-Err-tell.ensures.only
 
 pub returns-in-Ok-Long-clause-cut : goal.returns-in-Ok-Long-clause-cut
 returns-in-Ok-Long-clause-cut g c done events after = inl (waits_front _ _)
