@@ -14,5 +14,6 @@ pub mod Lining
 pub mod Noted
 pub mod Opened
 pub mod Placing
+pub mod Refused
 pub mod Reopened
 pub mod Showed

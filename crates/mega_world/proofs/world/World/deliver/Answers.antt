@@ -1,18 +1,12 @@
-use Rattle.std.proofs.Common.{◌≡◌, ◌∙◌, OnOk, Ok, Err, Result, List, Some, ap, sym}
-use Rattle.mega_places.specs.of_verdicts.declared.refusal.Refusal.{Refusal}
-use Rattle.mega_places.specs.of_verdicts.Refusals.{number_of}
+use Rattle.std.proofs.Common.{◌∙◌, List, ap, sym}
 use Rattle.mega_places.specs.declared.place.Place.{Place}
 use Rattle.mega_places.specs.Members.{is_up_at}
+use Rattle.mega_world.proofs.Refused.{anyway, same_reason}
 use Rattle.mega_world.proofs.world.World.deliver.Goals as goal
 
 pub returns-in-Some-clause-refused : goal.returns-in-Some-clause-refused
 returns-in-Some-clause-refused g c why is cluster items now r =
-    let same : c.in-Some.why ≡ why = cc in
-    sym (c.in-Some.ensures cluster now r.mail (λ me. r.nodes.members.up_are me ∙ ap (λ (ps : List Place). is_up_at ps me) (sym c.as_slice.ensures.value))) ∙ ap (λ (w : Refusal). Some (number_of w)) same
-
-anyway : {T E : Type 0} (r : Result T E) (P : Type 0) → P → OnOk r P
-anyway (Ok x) P p = p
-anyway (Err e) P p = tt
+    same_reason _ c.in-Some.why why (c.in-Some.ensures cluster now r.mail (λ me. r.nodes.members.up_are me ∙ ap (λ (ps : List Place). is_up_at ps me) (sym c.as_slice.ensures.value))) cc
 
 pub returns-in-None-clause-happens : goal.returns-in-None-clause-happens
 returns-in-None-clause-happens g c =

@@ -1,14 +1,14 @@
-use Rattle.std.proofs.Common.{[], ◌∷◌, ◌++◌, ◌≡◌, ◌∙◌, Some, option_map, ap, refl, sym}
-use Rattle.mega_places.specs.of_verdicts.declared.refusal.Refusal.{Refusal}
+use Rattle.std.proofs.Common.{[], ◌∷◌, ◌++◌, ◌∙◌, option_map, ap, refl, sym}
 use Rattle.mega_places.specs.of_verdicts.Refusals.{number_of}
 use Rattle.mega_places.specs.of_promises.of_transcript.declared.item.Item.TheVariants.{Dropped}
 use Rattle.mega_world.proofs.Behind.{behind}
 use Rattle.mega_world.proofs.Emptying.{dropped_at}
+use Rattle.mega_world.proofs.Refused.{same_reason}
 use Rattle.mega_world.proofs.world.World.drop_message.Goals as goal
 
 pub returns-in-Some-clause-refused : goal.returns-in-Some-clause-refused
 returns-in-Some-clause-refused c why is cluster items now r =
-    let same : c.in-Some.why ≡ why = cc in sym (c.in_ok-refusal.ensures.value cluster now r.mail) ∙ ap (option_map number_of) c.in-Some.is ∙ ap (λ (w : Refusal). Some (number_of w)) same
+    same_reason _ c.in-Some.why why (sym (ap (option_map number_of) c.in-Some.is) ∙ c.in_ok-refusal.ensures.value cluster now r.mail) cc
 
 pub returns-in-Some-clause-world : goal.returns-in-Some-clause-world
 returns-in-Some-clause-world c why is = λ i. record c.args.self.now { mail = c.in_ok-refusal.ensures.same c.in-Some.why c.in-Some.is i }

@@ -1,18 +1,12 @@
-use Rattle.std.proofs.Common.{◌≡◌, ◌∙◌, OnOk, Ok, Err, Result, Some, List, ap, subst, sym}
-use Rattle.mega_places.specs.of_verdicts.declared.refusal.Refusal.{Refusal}
-use Rattle.mega_places.specs.of_verdicts.Refusals.{number_of}
+use Rattle.std.proofs.Common.{List, subst, sym}
 use Rattle.mega_places.specs.declared.place.Place.{Place}
 use Rattle.mega_places.specs.Members.{AreMembers}
+use Rattle.mega_world.proofs.Refused.{anyway, same_reason}
 use Rattle.mega_world.proofs.world.World.tick.Goals as goal
 
 pub returns-in-Some-clause-refused : goal.returns-in-Some-clause-refused
 returns-in-Some-clause-refused g c why is cluster items now r =
-    let same : c.in-Some.why ≡ why = cc in
-    sym (c.in-Some.ensures.value cluster now (subst (λ (ps : List Place). AreMembers cluster ps now.node) (sym c.as_slice.ensures.value) r.nodes.members)) ∙ ap (λ (w : Refusal). Some (number_of w)) same
-
-anyway : {T E : Type 0} (r : Result T E) (P : Type 0) → P → OnOk r P
-anyway (Ok x) P p = p
-anyway (Err e) P p = tt
+    same_reason _ c.in-Some.why why (c.in-Some.ensures.value cluster now (subst (λ (ps : List Place). AreMembers cluster ps now.node) (sym c.as_slice.ensures.value) r.nodes.members)) cc
 
 pub returns-in-None-clause-happens : goal.returns-in-None-clause-happens
 returns-in-None-clause-happens g c = anyway c.tick_allowed.result _ (λ cluster items now r. sym (c.in-None.ensures.value cluster now (subst (λ (ps : List Place). AreMembers cluster ps now.node) (sym c.as_slice.ensures.value) r.nodes.members)))
