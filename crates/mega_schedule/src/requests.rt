@@ -4,16 +4,16 @@ ghost use Rattle.std.specs.Option.{option_copied};
 ghost use Rattle.serde_json.specs.Find.{get};
 ghost use Rattle.serde_json.specs.View.{view, items_view};
 ghost use Rattle.mega_syntax.specs.Names.{same};
-ghost use Rattle.mega_schedule.specs.Values.{list_in};
+ghost use Rattle.mega_schedule.specs.Values.{group_of, list_in};
 ghost use Rattle.mega_schedule.specs.Rows.{each_in, transaction_of};
 ghost use Rattle.mega_schedule.specs.Requests.{mode_in, batch_of, read_request, index_number, has_its_fields, indexed_values, index_in, index_or_none, group_if, find_request, pump_of};
 
 use crate::form::{Pump, mode_named, pump_named, same};
-use crate::rows::{parts_in, transaction_of};
+use crate::rows::{parts_in, transaction_in};
 use crate::values::{
     group_in, list_in, number_of_place, numbered, properties_of, text_in, values_at,
 };
-use mega_base::{GroupId, Items, NoMemory, Value};
+use mega_base::{Copied, GroupId, Items, NoMemory, Value};
 use mega_outcome::{FindRequest, Mode, ReadRequest, Request, Transaction};
 use mega_schema::{Index, Schema};
 use serde_json::Value as Json;
@@ -29,13 +29,20 @@ fn mode_in(line: &Json) -> Mode
     }
 }
 
-/// The transactions of a batch.
-fn transactions(alloc: Global, schema: &Schema, line: &Json) -> Result<Items<Transaction>, NoMemory>
+/// The transactions of a batch of this group.
+fn transactions(
+    alloc: Global,
+    schema: &Schema,
+    group: &GroupId,
+    line: &Json,
+) -> Result<Items<Transaction>, NoMemory>
+    requires { group.now ≡ group_of schema.now (get (codes "group") (view line.now)) }
     ensures { IfOk result (λ made. made ≡ each_in (transaction_of schema.now (get (codes "group") (view line.now))) (list_in (get (codes "txns") (view line.now)))) }
 {
     let mut made = Items::new(alloc);
     for item in list_in(line, "txns") {
-        made.push(transaction_of(alloc, schema, line, item)?)?;
+        let group = group.copy(alloc)?;
+        made.push(transaction_in(alloc, schema, line, group, item)?)?;
     }
     Ok(made)
 }
@@ -45,7 +52,7 @@ pub(crate) fn batch_of(alloc: Global, schema: &Schema, line: &Json) -> Result<Re
     ensures { IfOk result (λ made. made ≡ batch_of schema.now (view line.now)) }
 {
     let group = group_in(alloc, schema, line, "group")?;
-    let made = transactions(alloc, schema, line)?;
+    let made = transactions(alloc, schema, &group, line)?;
     Ok(Request::Batch(group, made))
 }
 

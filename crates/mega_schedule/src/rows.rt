@@ -6,14 +6,14 @@ ghost use Rattle.serde_json.specs.Find.{get};
 ghost use Rattle.serde_json.specs.View.{view, items_view, members_view};
 ghost use Rattle.mega_schema.specs.declared.schema.Schema.{Schema};
 ghost use Rattle.mega_schema.specs.Rules.{kind_at};
-ghost use Rattle.mega_schedule.specs.Values.{list_in, value_of, properties_of};
+ghost use Rattle.mega_schedule.specs.Values.{group_of, list_in, value_of, properties_of};
 ghost use Rattle.mega_schedule.specs.Rows.{each_in, table_in, named_in, row_of, read_of, property_in, cell_values, is_values, check_of, cell_if, unknown_cell, unknown_cells, field_values, number_behind, known_cells, cells_in, put_row, write_of, send_of, transaction_of};
 
 use crate::values::{
     bytes_of, group_in, key_in, kind_at, list_in, numbered, properties_of, property_number,
     table_number, text_in, value_of, whole_in,
 };
-use mega_base::{Cell, Items, Kind, NoMemory, Row, Text, Value};
+use mega_base::{Cell, GroupId, Items, Kind, NoMemory, Row, Text, Value};
 use mega_entry::Send;
 use mega_outcome::{Change, Check, RowRef, Transaction};
 use mega_schema::{Property, Schema, Table};
@@ -276,16 +276,18 @@ impl Part for Send {
     }
 }
 
-/// The transaction of the group that `around` tells, with the four lists of an object.
-pub(crate) fn transaction_of(
+/// The transaction of this group, which `around` tells, with the four lists of an object.
+pub(crate) fn transaction_in(
     alloc: Global,
     schema: &Schema,
     around: &Json,
+    group: GroupId,
     object: &Json,
 ) -> Result<Transaction, NoMemory>
+    requires { group ≡ group_of schema.now (get (codes "group") (view around.now)) }
     ensures { IfOk result (λ made. made ≡ transaction_of schema.now (get (codes "group") (view around.now)) (view object.now)) }
 {
-    let group = group_in(alloc, schema, around, "group")?;
+    let _around = around;
     let checks = parts_in(alloc, schema, object, "checks")?;
     let reads = parts_in(alloc, schema, object, "reads")?;
     let writes = parts_in(alloc, schema, object, "writes")?;
@@ -297,4 +299,18 @@ pub(crate) fn transaction_of(
         writes,
         sends,
     })
+}
+
+/// The transaction of the group that `around` tells, with the four lists of an object.
+pub(crate) fn transaction_of(
+    alloc: Global,
+    schema: &Schema,
+    around: &Json,
+    object: &Json,
+) -> Result<Transaction, NoMemory>
+    ensures { IfOk result (λ made. made ≡ transaction_of schema.now (get (codes "group") (view around.now)) (view object.now)) }
+{
+    let group = group_in(alloc, schema, around, "group")?;
+    let made = transaction_in(alloc, schema, around, group, object)?;
+    Ok(made)
 }
