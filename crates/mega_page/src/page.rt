@@ -18,6 +18,9 @@ use mega_transcript::{Item, text};
 use mega_wire::{Message, encode};
 use std::alloc::Global;
 
+/// How many bytes few messages exceed that are no long entries.
+const USUAL_BYTES: usize = 1_024;
+
 /// Lines of the record on their way to the sink, and the datagrams in them on their way to the link.
 #[derive(Drop)]
 pub struct Page {
@@ -83,7 +86,7 @@ impl Page {
         requires { IsMessage message.now }
         ensures { OnOk result ((schema : _) (lines : List Line) → IsPage schema self.old lines → IsPage schema self.new (lines ++ Put (peer_of to) (message_text message.now) ∷ [])) }
     {
-        let mut bytes = Bytes::new(alloc);
+        let mut bytes = Bytes::from_vec(Vec::with_capacity(alloc, USUAL_BYTES)?);
         encode(message, &mut bytes)?;
         self.put(to, bytes.as_slice())?;
         Ok(())
