@@ -72,4 +72,4 @@ returns-in-Err-acts-clause-cut_rows g c = λ told h node up.
 
 pub returns-in-Err-acts-clause-full : goal.returns-in-Err-acts-clause-full
 returns-in-Err-acts-clause-full g c = λ n is.
-    stepped_full _ g.R.Records g.V.Versions c.acts.new.self.up.node c.in-Err-acts.fault n c.in-Err-acts.ensures.used.never_full (λ m same. c.in-Err-acts.ensures.full m (ap Err same)) is
+    stepped_full (Unit {0}) g.R.Records g.V.Versions c.acts.new.self.up.node c.in-Err-acts.fault n c.in-Err-acts.ensures.used.never_full (λ m same. c.in-Err-acts.ensures.full m (ap Err same)) is
