@@ -1,5 +1,5 @@
 -- What is said of the text that a replay leads to, once it was written, or a front of it.
-use Rattle.std.proofs.Common.{◌≡◌, ℕ, inl, inr, Option, Some, None, List, [], ◌++◌, refl, subst, append-nil}
+use Rattle.std.proofs.Common.{◌≡◌, ℕ, inl, inr, Option, Some, None, Err, List, [], ◌++◌, refl, subst, append-nil}
 use Rattle.std.specs.Io.KnownBytes.{Appends}
 use Rattle.mega_cluster.specs.declared.cluster.Cluster.{Cluster}
 use Rattle.mega_io.specs.Pieces.{AppendsFront}
@@ -40,7 +40,7 @@ broken_said (Some input) rule Says Then follows broken = (broken.0, follows [] b
 pub none_said : (report : Report) (known : Option (List ℕ)) (number reason : ℕ) (Says Then : List ℕ → Type 0) → Follows Says Then → InputNoEvent report known number reason Says → InputNoEvent report known number reason Then
 none_said report None number reason Says Then follows stops = tt
 none_said report (Some input) number reason Says Then follows (c, lines, headed, s) =
-    (c, lines, headed, stops_said report c lines number _ Says Then follows s)
+    (c, lines, headed, stops_said report c lines number (λ line now. event_of c.schema number line ≡ Err reason) Says Then follows s)
 
 pub refused_said : (report : Report) (known : Option (List ℕ)) (number why : ℕ) (Says Then : List ℕ → Type 0) → Follows Says Then → InputRefused report known number why Says → InputRefused report known number why Then
 refused_said report None number why Says Then follows stops = tt
